@@ -1,0 +1,6 @@
+pub mod Parts
+pub mod Refusals
+pub mod Spelling
+pub mod Compared
+pub mod ComparedLaws
+pub mod Reading

@@ -1,0 +1,217 @@
+//! The information of a patch: its name, author, date and log.
+
+ghost use Rattle.std.specs.Prelude.{◌≡◌, ◌↔◌, ◌<◌, [], length, slice_index_or, map, IsTrue, IfOk, IfErr, OnOk};
+ghost use Rattle.dm_info.specs.Parts.{IsInfo, parts_of};
+ghost use Rattle.dm_info.specs.Refusals.{IsRefusedFor};
+ghost use Rattle.std.proofs.Common.{rules};
+ghost use Rattle.std.specs.Cmp.{partial_order_from_own_ties};
+ghost use Rattle.std.specs.Cmp.Rules.{comparing};
+ghost use Rattle.std.specs.Ordering.{as_partial_cmp};
+ghost use Rattle.std.specs.Cmp.Lexicographic.{pointwise};
+ghost use Rattle.dm_info.specs.Compared.{text_eq, parts_eq, parts_cmp, parts_writes};
+ghost use Rattle.dm_info.specs.ComparedLaws.{parts_ties, parts_alike};
+
+use crate::fault::InfoFault;
+use crate::parts::{copied_lines, copied_slices, fault_of};
+use std::alloc::{AllocError, Allocator};
+use std::cmp::Ordering;
+use std::hash::{Hash, Hasher};
+use std::marker::Model;
+
+/// The information of a patch, which owns its parts. The four together are the patch's identity, as in
+/// Darcs' `Patch.Info`.
+#[derive(Drop)]
+pub struct Info<A: Allocator> {
+    name: Vec<u8, A>,
+    author: Vec<u8, A>,
+    date: Vec<u8, A>,
+    log: Vec<Vec<u8, A>, A>,
+}
+
+impl<A: Allocator> Model for Info<A> {
+    ghost use Rattle.std.specs.Prelude.{map};
+    ghost use Rattle.dm_info.specs.Parts.{Parts, IsInfo, parts_of};
+
+    ghost Value = { Parts };
+
+    ghost view = { λ i. parts_of i.name.items i.author.items i.date.items (map (λ line. line.items) i.log.items) };
+
+    ghost invariant = { λ i. IsInfo (parts_of i.name.items i.author.items i.date.items (map (λ line. line.items) i.log.items)) };
+}
+
+impl<A: Allocator + Copy> Info<A> {
+    /// The information of these parts, each copied. Of several faults the first in `InfoFault`'s
+    /// order is told, before any memory is taken.
+    pub fn new(
+        alloc: A,
+        name: &[u8],
+        author: &[u8],
+        date: &[u8],
+        log: &[&[u8]],
+    ) -> Result<Info<A>, InfoFault>
+        ensures parts { IfOk result (λ info.
+            info ≡ parts_of name.now author.now date.now (map (λ line. line.now) log.now)) }
+        ensures good { OnOk result (IsInfo (parts_of name.now author.now date.now (map (λ line. line.now) log.now))) }
+        ensures fault { IfErr result (IsRefusedFor (parts_of name.now author.now date.now (map (λ line. line.now) log.now))) }
+    {
+        if let Some(fault) = fault_of(name, author, date, log) {
+            return Err(fault);
+        }
+        let name = Vec::from_slice(alloc, name)?;
+        let author = Vec::from_slice(alloc, author)?;
+        let date = Vec::from_slice(alloc, date)?;
+        let log = copied_slices(alloc, log)?;
+        Ok(Info::of_parts(name, author, date, log))
+    }
+}
+
+impl<A: Allocator> Info<A> {
+    /// The information of these parts.
+    pub(crate) fn of_parts(
+        name: Vec<u8, A>,
+        author: Vec<u8, A>,
+        date: Vec<u8, A>,
+        log: Vec<Vec<u8, A>, A>,
+    ) -> Self
+        requires { IsInfo (parts_of name.items author.items date.items (map (λ line. line.items) log.items)) }
+        ensures { result ≡ parts_of name.items author.items date.items (map (λ line. line.items) log.items) }
+    {
+        Info {
+            name,
+            author,
+            date,
+            log,
+        }
+    }
+
+    /// What the patch is called: one line.
+    pub fn name(&self) -> &[u8]
+        ensures { result.now ≡ self.now.name }
+    {
+        self.name.as_slice()
+    }
+
+    /// Who recorded the patch.
+    pub fn author(&self) -> &[u8]
+        ensures { result.now ≡ self.now.author }
+    {
+        self.author.as_slice()
+    }
+
+    /// When the patch was recorded: mostly fourteen digits in UTC, which nothing here checks.
+    pub fn date(&self) -> &[u8]
+        ensures { result.now ≡ self.now.date }
+    {
+        self.date.as_slice()
+    }
+
+    /// How many lines the log has.
+    pub fn log_len(&self) -> usize
+        ensures value { result ≡ length self.now.log }
+        // Every information in hand is a good one.
+        ensures good { IsInfo self.now }
+    {
+        self.log.len()
+    }
+
+    /// A line of the log, counted from 0, without its newline.
+    pub fn log_line(&self, i: usize) -> &[u8]
+        requires { i < length self.now.log }
+        ensures { result.now ≡ slice_index_or self.now.log i [] }
+    {
+        self.log[i].as_slice()
+    }
+
+    /// The same information in another allocator.
+    pub fn copy_into<B: Allocator + Copy>(&self, alloc: B) -> Result<Info<B>, AllocError>
+        ensures { IfOk result (λ copy. copy ≡ self.now) }
+    {
+        let name = Vec::from_slice(alloc, &self.name)?;
+        let author = Vec::from_slice(alloc, &self.author)?;
+        let date = Vec::from_slice(alloc, &self.date)?;
+        let log = copied_lines(alloc, &self.log)?;
+        Ok(Info::of_parts(name, author, date, log))
+    }
+
+    /// Whether two informations have the same four parts, wherever they lie.
+    pub fn same<B: Allocator>(&self, other: &Info<B>) -> bool
+        ensures { IsTrue result ↔ (self.now ≡ other.now) }
+    {
+        let name = self.name() == other.name();
+        let author = self.author() == other.author();
+        let date = self.date() == other.date();
+        let log = are_same_lines(&self.log, &other.log);
+        name & author & date & log
+    }
+}
+
+/// Whether two logs have the same lines.
+fn are_same_lines<A: Allocator, B: Allocator>(xs: &[Vec<u8, A>], ys: &[Vec<u8, B>]) -> bool
+    ensures { result ≡ pointwise text_eq (map (λ l. l.items) xs.now) (map (λ l. l.items) ys.now) }
+{
+    let count = xs.len();
+    if count != ys.len() {
+        return false;
+    }
+    for i in 0..count {
+        if xs[i].as_slice() != ys[i].as_slice() {
+            return false;
+        }
+    }
+    true
+}
+
+impl<A: Allocator> PartialEq for Info<A> {
+    ghost eq = { parts_eq };
+
+    ghost laws = { Prim.search (comparing, rules) depth 9 };
+
+    fn eq(&self, other: &Self) -> bool {
+        self.cmp(other).is_eq()
+    }
+}
+
+impl<A: Allocator> Eq for Info<A> {
+    ghost laws = { Prim.search (comparing, rules) depth 9 };
+}
+
+impl<A: Allocator> Ord for Info<A> {
+    ghost cmp = { parts_cmp };
+
+    ghost total = { Prim.search (comparing, rules) depth 9 };
+
+    ghost matches_partial_cmp = { Prim.search (comparing, rules) depth 9 };
+
+    ghost matches_eq = { parts_ties };
+
+    fn cmp(&self, other: &Self) -> Ordering {
+        self.name
+            .cmp(&other.name)
+            .then(self.author.cmp(&other.author))
+            .then(self.date.cmp(&other.date))
+            .then(self.log.cmp(&other.log))
+    }
+}
+
+impl<A: Allocator> PartialOrd for Info<A> {
+    ghost partial_cmp = { as_partial_cmp parts_cmp };
+
+    ghost laws = { partial_order_from_own_ties (Prim.search (comparing, rules) depth 9) parts_ties };
+
+    fn partial_cmp(&self, other: &Self) -> Option<Ordering> {
+        Some(self.cmp(other))
+    }
+}
+
+impl<A: Allocator> Hash for Info<A> {
+    ghost hash_input = { parts_writes };
+
+    ghost respects_eq = { parts_alike };
+
+    fn hash<H: Hasher>(&self, state: &mut H) {
+        self.name.hash(state);
+        self.author.hash(state);
+        self.date.hash(state);
+        self.log.hash(state);
+    }
+}

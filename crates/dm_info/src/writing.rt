@@ -1,0 +1,65 @@
+//! Writing the canonical text.
+
+ghost use Rattle.std.specs.Prelude.{◌≡◌, ◌++◌, ◌∷◌, [], OnOk, OnErr, IfOk};
+ghost use Rattle.dm_info.specs.Spelling.{opening, canonical_end, canonical};
+
+use crate::info::Info;
+use std::alloc::{AllocError, Allocator};
+
+fn push_opening<A: Allocator, B: Allocator>(
+    info: &Info<A>,
+    out: &mut Vec<u8, B>,
+) -> Result<(), AllocError>
+    ensures { OnOk result (out.new.items ≡ out.old.items ++ opening info.now) }
+{
+    out.push(b'[')?;
+    out.extend_from_slice(info.name())?;
+    out.push(b'\n')?;
+    out.extend_from_slice(info.author())?;
+    out.extend_from_slice(b"**")?;
+    out.extend_from_slice(info.date())?;
+    Ok(())
+}
+
+fn push_end<A: Allocator, B: Allocator>(
+    info: &Info<A>,
+    out: &mut Vec<u8, B>,
+) -> Result<(), AllocError>
+    ensures { OnOk result (out.new.items ≡ out.old.items ++ canonical_end info.now.log) }
+{
+    let count = info.log_len();
+    if count > 0 {
+        out.push(b'\n')?;
+    }
+    for i in 0..count {
+        out.push(b' ')?;
+        out.extend_from_slice(info.log_line(i))?;
+        out.push(b'\n')?;
+    }
+    out.push(b']')?;
+    Ok(())
+}
+
+/// The canonical text, on its own.
+fn text_of<A: Allocator, B: Allocator>(alloc: B, info: &Info<A>) -> Result<Vec<u8, B>, AllocError>
+    ensures { IfOk result (λ text. text.items ≡ canonical info.now) }
+{
+    let mut text = Vec::new(alloc);
+    push_opening(info, &mut text)?;
+    push_end(info, &mut text)?;
+    text.push(b' ')?;
+    Ok(text)
+}
+
+/// Appends the canonical text. A refused growth changes nothing.
+pub fn write_info<A: Allocator, B: Allocator + Copy>(
+    info: &Info<A>,
+    out: &mut Vec<u8, B>,
+) -> Result<(), AllocError>
+    ensures ok { OnOk result (out.new.items ≡ out.old.items ++ canonical info.now) }
+    ensures err { OnErr result (out.new.items ≡ out.old.items) }
+{
+    let text = text_of(*out.allocator(), info)?;
+    out.extend_from_slice(&text)?;
+    Ok(())
+}

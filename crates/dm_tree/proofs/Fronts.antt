@@ -1,0 +1,59 @@
+-- Whether one path begins with another, and what is left of it then.
+use Rattle.std.proofs.Common.{◌≡◌, ℕ, ◌+◌, ◌-◌, ◌<◌, ◌≤◌, List, [], ◌∷◌, ◌++◌, take, drop, length, sym, ap, subst, ap₂, ◌∙◌, arith, take-append-drop, append-nil, Bool, false, IsTrue, ◌↔◌, length-append}
+use Rattle.std.proofs.lemmas.List.{take_all, take_rest}
+use Rattle.std.proofs.lemmas.List.Prefix.{front_rest}
+use Rattle.dm_tree.specs.Paths.{Path, Under, Inside, forward}
+use Rattle.dm_tree.specs.Parts.{IsGoodPath}
+use Rattle.dm_tree.proofs.Parts.{good_moved}
+use Rattle.dm_tree.proofs.Paths.{forward-under}
+
+pub refuted : {P : Type 0} → (IsTrue false ↔ P) → P → ⊥
+refuted h p = let t : IsTrue false = h.1 p in cc
+
+pub begins_all : (p q : Path) (n : ℕ) → n ≡ length q → take n p ≡ take n q → Under p q
+begins_all p q n e h = (drop n p, sym (take-append-drop n p) ∙ ap (λ f. f ++ drop n p) (h ∙ take_all n q (omega arith)))
+
+pub under_at : {r : Bool} (p p' a a' : Path) → p ≡ p' → a ≡ a' → (IsTrue r ↔ Under p a) → (IsTrue r ↔ Under p' a')
+under_at p p' a a' e f h = rw (e, f) at h
+
+pub under_from : (p p' a a' : Path) → p ≡ p' → a ≡ a' → Under p a → Under p' a'
+under_from p p' a a' e f u = rw (← e, ← f) u
+
+pub inside_from : (p a : Path) → length a < length p → Under p a → Inside p a
+inside_from p a l (r, e) = go r e
+  where
+    go : (r : Path) → p ≡ a ++ r → Inside p a
+    go [] e = let s : length p ≡ length a + 0 = simp length-append at (ap length e) in absurd (omega arith)
+    go (n ∷ r) e = (n, r, e)
+
+pub inside_at : {r : Bool} (p p' a a' : Path) → p ≡ p' → a ≡ a' → length a' < length p' → (IsTrue r ↔ Under p a) → (IsTrue r ↔ Inside p' a')
+inside_at p p' a a' e f l h = let k = under_at p p' a a' e f h in (λ t. inside_from p' a' l (k.0 t), λ i. k.1 (i.0 ∷ i.1, i.2))
+
+pub same_from : (p a : Path) → length p ≡ length a → Under p a → p ≡ a
+same_from p a l (r, e) = go r e
+  where
+    go : (r : Path) → p ≡ a ++ r → p ≡ a
+    go [] e = e ∙ append-nil a
+    go (n ∷ r) e = let s : length p ≡ length a + length (n ∷ r) = simp length-append at (ap length e) in absurd (omega arith)
+
+pub same_at : {r : Bool} (p p' a a' : Path) → p ≡ p' → a ≡ a' → length p' ≡ length a' → (IsTrue r ↔ Under p a) → (IsTrue r ↔ (p' ≡ a'))
+same_at p p' a a' e f l h = let k = under_at p p' a a' e f h in (λ t. same_from p' a' l (k.0 t), λ i. k.1 ([], i ∙ sym (append-nil a')))
+
+pub moved_on : (p a b r : Path) → p ≡ a ++ r → forward a b p ≡ b ++ r
+moved_on p a b r e = rw e (forward-under a b r)
+
+module _ (xs fs ts p a b : Path) (n : ℕ) (ep : xs ≡ p) (ea : fs ≡ a) (eb : ts ≡ b) (en : n ≡ length fs) (u : Under xs fs) where
+  pub forward_is : forward a b p ≡ ts ++ drop n xs
+  forward_is = moved_on p a b (drop n xs) (sym ep ∙ u.1 ∙ ap (λ z. fs ++ z) (sym (front_rest xs fs u.0 u.1) ∙ ap (λ k. drop k xs) (sym en)) ∙ ap (λ z. z ++ drop n xs) ea) ∙ ap (λ z. z ++ drop n xs) (sym eb)
+
+  pub too_long : (zs : Path) (m : ℕ) → zs ≡ xs → m ≡ length ts → 32 < m + length (take (length zs - n) (drop n zs)) → 32 < length (forward a b p)
+  too_long zs m e f h = rw (forward_is, length-append ts (drop n xs), ← f, ← e) (rw (take_rest zs n) at h)
+
+  pub moved_good : (os ks bs : Path) → os ≡ ks ++ bs → ks ≡ ts → bs ≡ drop n xs → IsGoodPath p → IsGoodPath b → length ts + length (drop n xs) ≤ 32 → IsGoodPath os
+  moved_good os ks bs o k l gp gb le =
+      let whole : p ≡ a ++ drop n xs = sym ep ∙ u.1 ∙ ap (λ z. fs ++ z) (sym (front_rest xs fs u.0 u.1) ∙ ap (λ j. drop j xs) (sym en)) ∙ ap (λ z. z ++ drop n xs) ea in
+      let is : os ≡ b ++ drop n xs = o ∙ ap₂ (λ x y. x ++ y) (k ∙ eb) l in
+      subst IsGoodPath (sym is) (good_moved a b (drop n xs) (subst IsGoodPath whole gp) gb (omega (arith, length-append b (drop n xs), ap length eb, le)))
+
+  pub in_place : (zs os ks bs : Path) → zs ≡ xs → os ≡ ks ++ bs → ks ≡ ts → bs ≡ take (length zs - n) (drop n zs) → os ≡ forward a b p
+  in_place zs os ks bs e o k l = o ∙ ap₂ (λ x y. x ++ y) k (l ∙ rw (take_rest zs n, e)) ∙ sym forward_is

@@ -1,0 +1,15 @@
+pub mod Adds
+pub mod Children
+pub mod Edits
+pub mod Fronts
+pub mod Listings
+pub mod Moved
+pub mod Parts
+pub mod Paths
+pub mod Removes
+pub mod Renames
+pub mod Search
+pub mod Shifts
+pub mod Sorted
+pub mod Steps
+pub mod Trees

@@ -1,0 +1,32 @@
+use Rattle.std.proofs.Common.{arith, ◌≡◌, ◌<◌, ◌∙◌, length, sym, ap, subst, List, ℕ}
+use Rattle.dm_tree.specs.Children.{Child, flatten, IsRising}
+use Rattle.dm_tree.specs.Nested.{IsGood}
+use Rattle.dm_tree.proofs.Adds.{dir_child}
+use Rattle.dm_tree.proofs.node.+copy.Goals as goal
+use Rattle.std.proofs.Common.{get_or}
+use Rattle.dm_tree.specs.NodeFalls.{one_le}
+
+pub copy_node-copy_children-requires : goal.copy_node-copy_children-requires
+copy_node-copy_children-requires g t c κs within =
+    let view : dir_child c.node.inside.name c.in-Children.children.items ≡ c.args.node.now = rw c.in-Children.is at c.node.view_is in
+    let under : length (flatten c.in-Children.children.items) ≡ length c.args.node.now.under = ap (λ k. length k.under) view in
+    let same : length (flatten c.deref-in-Children.result.now) ≡ length (flatten c.in-Children.children.items) = ap (λ l. length (flatten l)) c.deref-in-Children.ensures.value in
+    (omega (arith, under, same, c.decreases), (within.0, within.1))
+
+pub copy_node-invariant_of-result : goal.copy_node-invariant_of-result
+copy_node-invariant_of-result g t c =
+    let good : 0 < length c.in-Text.lines.items = subst IsGood c.in-Text.is c.node.invariant in
+    subst (λ (l : List (List ℕ)). 0 < length l) (sym (c.in_ok-lines-in-Text.ensures ∙ c.deref.ensures.value)) good
+
+pub copy_node-invariant_of-result-in-Children : goal.copy_node-invariant_of-result-in-Children
+copy_node-invariant_of-result-in-Children g t c =
+    let good : IsRising c.in-Children.children.items = subst IsGood c.in-Children.is c.node.invariant in
+    subst IsRising (sym (c.in_ok-children-in-Children.ensures ∙ c.deref-in-Children.ensures.value)) good
+
+pub copy_children-copy_node-requires : goal.copy_children-copy_node-requires
+copy_children-copy_node-requires g t c κs within =
+    let ks = c.args.children.now in
+    let lt : c.loop-child.child-index < length ks = omega (arith, c.loop-child-test.true) in
+    let le = one_le ks c.loop-child.child-index c.child-item.result lt in
+    let is : length c.child-item.result.under ≡ length (get_or ks c.loop-child.child-index c.child-item.result).under = ap (λ (k : Child). length k.under) c.child-item.is in
+    (omega (arith, le, is, c.decreases), (within.0, within.1))

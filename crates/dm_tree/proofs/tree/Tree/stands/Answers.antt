@@ -1,0 +1,16 @@
+use Rattle.std.proofs.Common.{sym, ap, ◌∙◌, ◌≡◌, ◌++◌}
+use Rattle.std.specs.FinMap.{get}
+use Rattle.dm_tree.specs.Children.{look}
+use Rattle.dm_tree.proofs.Trees.{get-tree_of}
+use Rattle.dm_tree.proofs.Steps.{if_some}
+use Rattle.dm_tree.proofs.tree.Tree.stands.Goals as goal
+
+pub returns-clause-value : goal.returns-clause-value
+returns-clause-value g c =
+    let map : look c.self.inside.children.items ≡ get c.args.self.now = sym (get-tree_of c.self.inside.children.items) ∙ ap get c.self.view_is in
+    c.find.ensures.value ∙ ap (look c.deref.result.now) c.names.ensures.value ∙ ap (λ k. look k c.args.path.now) c.deref.ensures.value ∙ ap (λ m. m c.args.path.now) map
+
+pub returns-clause-part : goal.returns-clause-part
+returns-clause-part g c =
+    let map : look c.self.inside.children.items ≡ get c.args.self.now = sym (get-tree_of c.self.inside.children.items) ∙ ap get c.self.view_is in
+    if_some c.find.result _ _ (λ b h q. h q ∙ ap (λ p. look c.deref.result.now (p ++ q)) c.names.ensures.value ∙ ap (λ k. look k (c.args.path.now ++ q)) c.deref.ensures.value ∙ ap (λ m. m (c.args.path.now ++ q)) map) c.find.ensures.part

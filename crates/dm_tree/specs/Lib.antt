@@ -1,0 +1,10 @@
+pub mod Paths
+pub mod Parts
+pub mod Trees
+pub mod Changes
+pub mod Listings
+pub mod Seen
+pub mod Children
+pub mod Nested
+pub mod NodeFalls
+pub mod Walks

@@ -1,0 +1,93 @@
+//! Why a path, a line or a change of a tree is refused.
+ghost use Rattle.std.specs.Prelude.{◌≡◌};
+ghost use Rattle.dm_tree.specs.declared.fault.TreeFault.TheVariants.{NoMemory};
+ghost use Rattle.dm_tree.specs.declared.fault.PathFault.TheVariants as path;
+ghost use Rattle.dm_tree.specs.declared.fault.LineFault.TheVariants as line;
+
+use std::alloc::{AllocError, AllocFailed};
+
+/// Why a change of a tree is refused. Each call says which of these it answers, and in which
+/// order.
+#[derive(Clone, Copy, Debug, PartialEq, Eq)]
+pub enum TreeFault {
+    /// The parent of the new path is not a directory that is there.
+    NoParent,
+    /// Something stands at the new path.
+    Occupied,
+    /// Nothing stands at the path.
+    Missing,
+    /// A directory stands at the path.
+    NotFile,
+    /// A file stands at the path.
+    NotDir,
+    /// The directory holds something, or the file is not one empty line.
+    NotEmpty,
+    /// The new path is the old one, or inside it.
+    IntoItself,
+    /// The line is 0, or the old lines would reach past the end of the file.
+    LineRange,
+    /// The lines that stand there are not the old lines.
+    OldDiffers,
+    /// No line would be left in the file.
+    NoLines,
+    /// A path of more than 32 names would arise.
+    TooDeep,
+    /// The allocator refused to give memory.
+    NoMemory,
+}
+
+impl From<AllocError> for TreeFault {
+    ghost from_gives = { λ _ e. e ≡ NoMemory };
+
+    fn from(_e: AllocError) -> TreeFault {
+        TreeFault::NoMemory
+    }
+}
+
+/// Why names make no path.
+#[derive(Clone, Copy, Debug, PartialEq, Eq)]
+pub enum PathFault {
+    /// There is no name.
+    Empty,
+    /// A name is empty, `.`, `..` or `_darcs`, or holds `/` or a zero byte.
+    BadName,
+    /// There are more than 32 names.
+    TooDeep,
+    /// A name has more than 255 bytes.
+    TooLong,
+    /// The allocator refused to give memory.
+    NoMemory,
+}
+
+impl From<AllocError> for PathFault {
+    ghost from_gives = { λ _ e. e ≡ path.NoMemory };
+
+    fn from(_e: AllocError) -> PathFault {
+        PathFault::NoMemory
+    }
+}
+
+/// Why a line is refused.
+#[derive(Clone, Copy, Debug, PartialEq, Eq)]
+pub enum LineFault {
+    /// The line holds a newline byte.
+    Newline,
+    /// The allocator refused to give memory.
+    NoMemory,
+}
+
+impl From<AllocError> for LineFault {
+    ghost from_gives = { λ _ e. e ≡ line.NoMemory };
+
+    fn from(_e: AllocError) -> LineFault {
+        LineFault::NoMemory
+    }
+}
+
+impl<T: Drop> From<AllocFailed<T>> for LineFault {
+    ghost from_gives = { λ _ e. e ≡ line.NoMemory };
+
+    fn from(_e: AllocFailed<T>) -> LineFault {
+        LineFault::NoMemory
+    }
+}

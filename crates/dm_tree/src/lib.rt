@@ -1,0 +1,34 @@
+//! Paths, lines and trees of files, under any allocator.
+//!
+//! A tree is what a Darcs repository records: directories and files of lines, each at a path of
+//! 1 to 32 names. [`Tree`] is seen as one finite map from paths to entries, the root being a
+//! directory, and each of its changes is one that a primitive patch makes (Darcs manual,
+//! "Patches"; Prim.V1): adding and removing an empty file or an empty directory, moving what is at
+//! one path to another, and replacing lines of a file.
+//!
+//! The crate stands on `std` alone (`bumpalo` serves its tests). Its theorem is that every change answers the first fault that
+//! holds, in a fixed order, or does to the map exactly what that primitive does; that a refusal
+//! leaves the tree as it was; and that a tree is always lawful: what holds something is a
+//! directory, a file has a line, and no path has more than 32 names ([`laws::tree_is_lawful`]).
+#![tactic(auto)]
+
+mod bytes;
+mod edit;
+mod entry;
+mod fault;
+pub mod laws;
+mod lines;
+mod listing;
+mod node;
+mod path;
+mod rename;
+#[cfg(test)]
+mod tests;
+mod tree;
+
+pub use entry::{Entry, FileRef};
+pub use fault::{LineFault, PathFault, TreeFault};
+pub use lines::Lines;
+pub use listing::{Kind, Listed};
+pub use path::Path;
+pub use tree::Tree;
