@@ -7,7 +7,7 @@ use Rattle.std.proofs.lemmas.List.Prefix.{front_rest}
 use Rattle.dm_tree.specs.Paths.{Name, Path}
 use Rattle.dm_tree.specs.declared.fault.TreeFault.{TreeFault}
 use Rattle.dm_tree.specs.declared.fault.TreeFault.TheVariants.{NoParent, Occupied, Missing, NotFile, NotDir, NotEmpty, IntoItself, LineRange, OldDiffers, NoLines, TooDeep, NoMemory}
-use Rattle.dm_tree.specs.Trees.{Lines, Entry, Dir, File, Map, path_cmp}
+use Rattle.dm_tree.specs.Trees.{Lines, Dir, File, Map, path_cmp}
 use Rattle.dm_tree.specs.Changes.{Edits, EditsFile}
 use Rattle.dm_tree.specs.Children.{Child, IsRising, IsAt, IsTree, look}
 use Rattle.dm_tree.specs.Walks.{SetsAt, RefusesEdit, CanSplice, spliced}

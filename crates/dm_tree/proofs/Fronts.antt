@@ -1,5 +1,5 @@
 -- Whether one path begins with another, and what is left of it then.
-use Rattle.std.proofs.Common.{◌≡◌, ℕ, ◌+◌, ◌-◌, ◌<◌, ◌≤◌, List, [], ◌∷◌, ◌++◌, take, drop, length, sym, ap, subst, ap₂, ◌∙◌, arith, take-append-drop, append-nil, Bool, false, IsTrue, ◌↔◌, length-append}
+use Rattle.std.proofs.Common.{◌≡◌, ℕ, ◌+◌, ◌-◌, ◌<◌, ◌≤◌, [], ◌∷◌, ◌++◌, take, drop, length, sym, ap, subst, ap₂, ◌∙◌, arith, take-append-drop, append-nil, Bool, false, IsTrue, ◌↔◌, length-append}
 use Rattle.std.proofs.lemmas.List.{take_all, take_rest}
 use Rattle.std.proofs.lemmas.List.Prefix.{front_rest}
 use Rattle.dm_tree.specs.Paths.{Path, Under, Inside, forward}

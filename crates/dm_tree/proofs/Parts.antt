@@ -1,5 +1,5 @@
 -- The faults of a path's names, from one name on.
-use Rattle.std.proofs.Common.{◌≡◌, ℕ, ◌<◌, ◌≤◌, Bool, true, false, nat_lt, cond, List, [], ◌∷◌, ◌++◌, length, ◌+◌, Option, Some, None, refl, sym, ap, ◌∙◌, arith, append-nil, length-append, get_or, drop, map, drop-cons, add-one, Bor, nat_eq, zero, suc}
+use Rattle.std.proofs.Common.{◌≡◌, ℕ, ◌<◌, ◌≤◌, Bool, true, false, nat_lt, cond, List, [], ◌∷◌, ◌++◌, length, ◌+◌, Option, Some, None, refl, sym, ap, ◌∙◌, arith, length-append, get_or, drop, map, drop-cons, add-one, Bor, nat_eq, zero, suc}
 use Rattle.dm_tree.specs.Paths.{Name, Path}
 use Rattle.dm_tree.specs.Parts.{path_fault, names_fault, is_bad_name}
 use Rattle.dm_tree.specs.declared.fault.PathFault.{PathFault}

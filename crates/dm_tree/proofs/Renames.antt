@@ -9,7 +9,7 @@ use Rattle.dm_tree.specs.declared.fault.TreeFault.TheVariants.{NoParent, Occupie
 use Rattle.dm_tree.specs.declared.node.Body.{Body}
 use Rattle.dm_tree.specs.Paths.{Name, Path, Under}
 use Rattle.dm_tree.specs.Trees.{Entry, Dir, Map, HasParent, path_cmp}
-use Rattle.dm_tree.specs.Changes.{Adds, MayMove, Renames}
+use Rattle.dm_tree.specs.Changes.{Adds, Renames}
 use Rattle.dm_tree.specs.Children.{Rows, Child, below, all, flatten, look}
 use Rattle.dm_tree.specs.Nested.{under_of}
 use Rattle.dm_tree.specs.Walks.{RefusesAdd, are_short, part_of}

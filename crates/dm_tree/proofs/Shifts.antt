@@ -1,12 +1,12 @@
 -- A part of a tree that is moved: added as a directory at its new place, cut out, and put there.
 use Rattle.std.proofs.Common.{◌≡◌, ◌≢◌, true, false, cond, [], ◌∷◌, ◌++◌, Option, Some, None, IsSome, refl, sym, ap, subst, ◌∙◌, append-nil, append_assoc}
 use Rattle.std.specs.Ordering.{eq_by_cmp}
-use Rattle.dm_tree.specs.Paths.{Path, Under, Apart}
+use Rattle.dm_tree.specs.Paths.{Path, Apart}
 use Rattle.dm_tree.specs.Trees.{Entry, Dir, Map, IsLawful, path_cmp}
 use Rattle.dm_tree.specs.Changes.{MayMove, Renamed}
 use Rattle.dm_tree.specs.Walks.{SetsAt, Grafts, nothing}
 use Rattle.dm_tree.proofs.Children.{name_self}
-use Rattle.dm_tree.proofs.Paths.{apart_under, under_append}
+use Rattle.dm_tree.proofs.Paths.{apart_under}
 use Rattle.dm_tree.proofs.Steps.{is_none}
 use Rattle.dm_tree.proofs.Trees.{equal_by}
 

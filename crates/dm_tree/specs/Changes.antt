@@ -1,10 +1,10 @@
 -- What each change of a tree may answer, by what stood there before, and what it does. A fault comes where no earlier one of its call does.
-use Rattle.std.specs.Prelude.{◌≡◌, ◌≢◌, ℕ, ◌+◌, ◌-◌, ◌<◌, ◌≤◌, List, [], ◌∷◌, ◌++◌, take, drop, length, Option, Some, None, Result, Ok, Err}
+use Rattle.std.specs.Prelude.{◌≡◌, ◌≢◌, ℕ, ◌+◌, ◌-◌, ◌<◌, ◌≤◌, [], ◌∷◌, ◌++◌, take, drop, length, Some, None, Result, Ok, Err}
 use Rattle.std.specs.FinMap as map
 use Rattle.dm_tree.specs.declared.fault.TreeFault.{TreeFault}
 use Rattle.dm_tree.specs.declared.fault.TreeFault.TheVariants.{NoParent, Occupied, Missing, NotFile, NotDir, NotEmpty, IntoItself, LineRange, OldDiffers, NoLines, TooDeep, NoMemory}
 use Rattle.dm_tree.specs.Paths.{Name, Path, Under}
-use Rattle.dm_tree.specs.Trees.{Lines, Entry, Dir, File, Map, Tree, HasParent, empty_file}
+use Rattle.dm_tree.specs.Trees.{Lines, Dir, File, Map, Tree, HasParent, empty_file}
 
 -- what adding an entry at p may answer
 abbrev pub Adds : {T : Type 0} → Map → Path → Result T TreeFault → Type 0

@@ -1,6 +1,6 @@
 use Rattle.std.proofs.Common.{◌≡◌, ◌-◌, ◌<◌, ◌≤◌, arith, drop, length, refl, sym}
 use Rattle.std.proofs.lemmas.List.{take_rest}
-use Rattle.dm_tree.proofs.Edits.{Stand, differ_by, edits_by, none_left}
+use Rattle.dm_tree.proofs.Edits.{differ_by, edits_by, none_left}
 use Rattle.dm_tree.proofs.Fronts.{refuted}
 use Rattle.dm_tree.proofs.Steps.{no_rest, some_rest}
 use Rattle.dm_tree.proofs.edit.edit_refused.Goals.{else-old-lines-via-then-old-lines+else-is_empty, else-old-lines-via-else-old-lines}

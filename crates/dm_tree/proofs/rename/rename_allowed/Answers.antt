@@ -1,4 +1,4 @@
-use Rattle.std.proofs.Common.{◌≤◌, ◌+◌, ◌-◌, ◌∙◌, sym, arith, length, refl}
+use Rattle.std.proofs.Common.{◌≤◌, ◌+◌, ◌-◌, sym, arith, length, refl}
 use Rattle.dm_tree.specs.Children.{look}
 use Rattle.dm_tree.specs.Nested.{entry_of}
 use Rattle.dm_tree.specs.Walks.{part_of}

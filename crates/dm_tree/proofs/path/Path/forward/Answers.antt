@@ -1,7 +1,7 @@
-use Rattle.std.proofs.Common.{◌∙◌, sym, refl, arith, drop, length}
+use Rattle.std.proofs.Common.{◌∙◌, sym, refl, length}
 use Rattle.std.proofs.lemmas.List.{take_rest}
 use Rattle.dm_tree.proofs.Paths.{forward-other}
-use Rattle.dm_tree.proofs.Fronts.{refuted, under_at, under_from, too_long, in_place, moved_good}
+use Rattle.dm_tree.proofs.Fronts.{refuted, under_at, too_long, in_place, moved_good}
 use Rattle.dm_tree.proofs.path.Path.forward.Goals as goal
 
 pub returns-then-not-begins-clause-value : goal.returns-then-not-begins-clause-value

@@ -1,6 +1,6 @@
 use Rattle.std.proofs.Common.{refl, sym, ap, subst, ◌∙◌, ◌≡◌, Ok, Err}
 use Rattle.std.specs.FinMap.{get}
-use Rattle.dm_tree.specs.Changes.{MayMove, Renamed, Renames}
+use Rattle.dm_tree.specs.Changes.{Renamed, Renames}
 use Rattle.dm_tree.specs.Children.{look}
 use Rattle.dm_tree.proofs.Moved.{moved_tree}
 use Rattle.dm_tree.proofs.Renames.{renames_of}

@@ -1,0 +1,230 @@
+-- From what the tree's calls promise to what applying a primitive does.
+use Rattle.std.proofs.Common.{◌≡◌, ◌≢◌, ℕ, ◌+◌, ◌-◌, ◌<◌, ◌≤◌, true, false, cond, List, [], ◌∷◌, ◌++◌, take, drop, length, get_or, Option, Some, None, Result, Ok, Err, OnOk, OnErr, ◌⊎◌, inl, inr, refl, sym, ap, ap₂, subst, ◌∙◌, arith, append_assoc, length-append}
+use Rattle.std.proofs.Math.Seq.{drop-append_seam, take-append_seam}
+use Rattle.std.proofs.lemmas.List.{take_all}
+use Rattle.std.proofs.lemmas.Bool.{cases_Bool}
+use Rattle.std.specs.FinMap as map
+use Rattle.std.specs.Ordering.{eq_by_cmp}
+use Rattle.dm_tree.specs.declared.fault.TreeFault.{TreeFault}
+use Rattle.dm_tree.specs.declared.fault.TreeFault.TheVariants.{NoParent, Occupied, Missing, NotFile, NotDir, NotEmpty, IntoItself, LineRange, OldDiffers, NoLines, TooDeep, NoMemory}
+use Rattle.dm_tree.specs.Paths.{Path, Apart}
+use Rattle.dm_tree.specs.Trees.{Lines, Entry, Dir, File, Map, Tree, path_cmp, IsLawful, Deep, empty_file}
+use Rattle.dm_tree.specs.Changes.{Adds, RemovesFile, RemovesDir, MayMove, Renames, Renamed, InRange, Edits, EditsFile, Edited}
+use Rattle.dm_tree.proofs.Paths.{swap, swap-right}
+use Rattle.dm_tree.proofs.Trees.{path_total, equal_by}
+use Rattle.dm_tree.proofs.Shifts.{self_equal}
+use Rattle.dm_prim.specs.Runs.{Runs, done, step}
+use Rattle.dm_prim.specs.Primitives.{AddFile, RmFile, AddDir, RmDir, Hunk, Prim, At, Move, Applies}
+use Rattle.dm_prim.specs.Prims.{prim_of, prims_of}
+use Rattle.dm_prim.specs.Applying.{Applied, FaultsAs, AppliesToTree, AppliedAll}
+use Rattle.dm_prim.specs.declared.primitive.Primitive as code
+use Rattle.dm_prim.proofs.Maps.{below_absent, moves_from}
+use Rattle.dm_prim.proofs.ListLemmas.{prims_more, parted, count_of}
+use Rattle.dm_prim.proofs.RectangleLemmas.{runs_on}
+
+-- finite maps at one path, and elsewhere
+put_here : (t : Tree) (p : Path) (x : Entry) → map.get (map.insert t p x) p ≡ Some x
+put_here t p x = map.get-insert path_total t p x p ∙ ap (λ b. cond b (Some x) (map.get t p)) (self_equal p)
+
+put_else : (t : Tree) (p : Path) (x : Entry) (q : Path) → q ≢ p → map.get (map.insert t p x) q ≡ map.get t q
+put_else t p x q n = map.get-insert path_total t p x q ∙ go (cases_Bool (eq_by_cmp path_cmp q p))
+  where
+    go : (eq_by_cmp path_cmp q p ≡ true) ⊎ (eq_by_cmp path_cmp q p ≡ false) → cond (eq_by_cmp path_cmp q p) (Some x) (map.get t q) ≡ map.get t q
+    go (inl e) = absurd (n (equal_by q p e))
+    go (inr e) = ap (λ b. cond b (Some x) (map.get t q)) e
+
+cut_here : (t : Tree) (p : Path) → map.get (map.remove t p) p ≡ None
+cut_here t p = map.get-remove path_total t p p ∙ ap (λ b. cond b None (map.get t p)) (self_equal p)
+
+cut_else : (t : Tree) (p : Path) (q : Path) → q ≢ p → map.get (map.remove t p) q ≡ map.get t q
+cut_else t p q n = map.get-remove path_total t p q ∙ go (cases_Bool (eq_by_cmp path_cmp q p))
+  where
+    go : (eq_by_cmp path_cmp q p ≡ true) ⊎ (eq_by_cmp path_cmp q p ≡ false) → cond (eq_by_cmp path_cmp q p) None (map.get t q) ≡ map.get t q
+    go (inl e) = absurd (n (equal_by q p e))
+    go (inr e) = ap (λ b. cond b None (map.get t q)) e
+
+-- adding
+module _ (t t' : Tree) (p : Path) where
+  pub adds_file : {T : Type 0} (r : Result T TreeFault) → Adds (map.get t) p r → OnOk r (t' ≡ map.insert t p empty_file) → OnErr r (t' ≡ t) → Applied (At p AddFile) t t' r
+  adds_file (Ok x) f ok err = record { around = f.0; here = (f.1, rw ok (put_here t p empty_file)); elsewhere = λ q n. rw ok (put_else t p empty_file q n) }
+  adds_file (Err NoParent) f ok err = (err, λ m' a. f a.around)
+  adds_file (Err Occupied) f ok err = (err, λ m' a. f.1 a.here.0)
+  adds_file (Err Missing) f ok err = absurd f
+  adds_file (Err NotFile) f ok err = absurd f
+  adds_file (Err NotDir) f ok err = absurd f
+  adds_file (Err NotEmpty) f ok err = absurd f
+  adds_file (Err IntoItself) f ok err = absurd f
+  adds_file (Err LineRange) f ok err = absurd f
+  adds_file (Err OldDiffers) f ok err = absurd f
+  adds_file (Err NoLines) f ok err = absurd f
+  adds_file (Err TooDeep) f ok err = absurd f
+  adds_file (Err NoMemory) f ok err = (err, tt)
+
+  pub adds_dir : {T : Type 0} (r : Result T TreeFault) → Adds (map.get t) p r → OnOk r (t' ≡ map.insert t p Dir) → OnErr r (t' ≡ t) → Applied (At p AddDir) t t' r
+  adds_dir (Ok x) f ok err = record { around = f.0; here = (f.1, rw ok (put_here t p Dir)); elsewhere = λ q n. rw ok (put_else t p Dir q n) }
+  adds_dir (Err NoParent) f ok err = (err, λ m' a. f a.around)
+  adds_dir (Err Occupied) f ok err = (err, λ m' a. f.1 a.here.0)
+  adds_dir (Err Missing) f ok err = absurd f
+  adds_dir (Err NotFile) f ok err = absurd f
+  adds_dir (Err NotDir) f ok err = absurd f
+  adds_dir (Err NotEmpty) f ok err = absurd f
+  adds_dir (Err IntoItself) f ok err = absurd f
+  adds_dir (Err LineRange) f ok err = absurd f
+  adds_dir (Err OldDiffers) f ok err = absurd f
+  adds_dir (Err NoLines) f ok err = absurd f
+  adds_dir (Err TooDeep) f ok err = absurd f
+  adds_dir (Err NoMemory) f ok err = (err, tt)
+
+-- removing
+module _ (m m' : Map) (p : Path) where
+  file_gone : m p ≡ None → Applies (At p RmFile) m m' → ⊥
+  file_gone h a = let k : m p ≡ Some empty_file = a.here.0 in cc
+
+  file_dir : m p ≡ Some Dir → Applies (At p RmFile) m m' → ⊥
+  file_dir h a = let k : m p ≡ Some empty_file = a.here.0 in cc
+
+  file_full : (ls : Lines) → m p ≡ Some (File ls) → (ls ≢ [] ∷ []) → Applies (At p RmFile) m m' → ⊥
+  file_full ls h n a = let k : m p ≡ Some empty_file = a.here.0 in n (cc)
+
+  dir_gone : m p ≡ None → Applies (At p RmDir) m m' → ⊥
+  dir_gone h a = let k : m p ≡ Some Dir = a.here.0 in cc
+
+  dir_file : (ls : Lines) → m p ≡ Some (File ls) → Applies (At p RmDir) m m' → ⊥
+  dir_file ls h a = let k : m p ≡ Some Dir = a.here.0 in cc
+
+module _ (t t' : Tree) (p : Path) where
+  pub removes_file : {T : Type 0} (r : Result T TreeFault) → RemovesFile (map.get t) p r → OnOk r (t' ≡ map.remove t p) → OnErr r (t' ≡ t) → Applied (At p RmFile) t t' r
+  removes_file (Ok x) f ok err = record { around = tt; here = (f, rw ok (cut_here t p)); elsewhere = λ q n. rw ok (cut_else t p q n) }
+  removes_file (Err NoParent) f ok err = absurd f
+  removes_file (Err Occupied) f ok err = absurd f
+  removes_file (Err Missing) f ok err = (err, λ m' a. file_gone (map.get t) m' p f a)
+  removes_file (Err NotFile) f ok err = (err, λ m' a. file_dir (map.get t) m' p f a)
+  removes_file (Err NotDir) f ok err = absurd f
+  removes_file (Err NotEmpty) f ok err = (err, λ m' a. file_full (map.get t) m' p f.0 f.1 f.2 a)
+  removes_file (Err IntoItself) f ok err = absurd f
+  removes_file (Err LineRange) f ok err = absurd f
+  removes_file (Err OldDiffers) f ok err = absurd f
+  removes_file (Err NoLines) f ok err = absurd f
+  removes_file (Err TooDeep) f ok err = absurd f
+  removes_file (Err NoMemory) f ok err = absurd f
+
+  pub removes_dir : {T : Type 0} (r : Result T TreeFault) → IsLawful (map.get t) → RemovesDir (map.get t) p r → OnOk r (t' ≡ map.remove t p) → OnErr r (t' ≡ t) → Applied (At p RmDir) t t' r
+  removes_dir (Ok x) l f ok err = record {
+    around = λ n r. subst (λ q. map.get t q ≡ None) (append_assoc p (n ∷ []) r) (below_absent (map.get t) l r (p ++ n ∷ []) (f.1 n));
+    here = (f.0, rw ok (cut_here t p));
+    elsewhere = λ q n. rw ok (cut_else t p q n);
+  }
+  removes_dir (Err NoParent) l f ok err = absurd f
+  removes_dir (Err Occupied) l f ok err = absurd f
+  removes_dir (Err Missing) l f ok err = (err, λ m' a. dir_gone (map.get t) m' p f a)
+  removes_dir (Err NotFile) l f ok err = absurd f
+  removes_dir (Err NotDir) l f ok err = (err, λ m' a. dir_file (map.get t) m' p f.0 f.1 a)
+  removes_dir (Err NotEmpty) l f ok err = (err, λ m' a. f.1.1 (a.around f.1.0 []))
+  removes_dir (Err IntoItself) l f ok err = absurd f
+  removes_dir (Err LineRange) l f ok err = absurd f
+  removes_dir (Err OldDiffers) l f ok err = absurd f
+  removes_dir (Err NoLines) l f ok err = absurd f
+  removes_dir (Err TooDeep) l f ok err = absurd f
+  removes_dir (Err NoMemory) l f ok err = absurd f
+
+-- renaming
+module _ (m : Map) (a b : Path) (l : IsLawful m) (k : MayMove m a b) where
+  apart_of : Apart a b
+  apart_of = record { left = λ u. k.present (subst (λ p. m p ≡ None) (sym u.1) (below_absent m l u.0 b k.absent)); right = k.not_into }
+
+  abbrev pub moved_map : Map
+  moved_map p = m (swap a b p)
+
+  would_move : Applies (Move a b) m moved_map
+  would_move = moves_from a b m moved_map l (record { apart = apart_of; present = k.present; absent = k.absent; parent = k.parent_is; is = λ p. refl })
+
+  would_be_deep : (r : Path) → m (a ++ r) ≢ None → 32 < length (b ++ r) → Deep moved_map
+  would_be_deep r n d = (b ++ r, d, λ e. n (ap m (sym (swap-right a b r apart_of)) ∙ e))
+
+module _ (t t' : Tree) (a b : Path) (l : IsLawful (map.get t)) where
+  pub renames : {T : Type 0} (r : Result T TreeFault) → Renames (map.get t) a b r → OnOk r (Renamed a b (map.get t) (map.get t')) → OnErr r (t' ≡ t) → Applied (Move a b) t t' r
+  renames (Ok x) f ok err = (f.0, ok)
+  renames (Err NoParent) f ok err = (err, λ m' h. f.2 h.0.parent_is)
+  renames (Err Occupied) f ok err = (err, λ m' h. f.3 h.0.absent)
+  renames (Err Missing) f ok err = (err, λ m' h. h.0.present f)
+  renames (Err NotFile) f ok err = absurd f
+  renames (Err NotDir) f ok err = absurd f
+  renames (Err NotEmpty) f ok err = absurd f
+  renames (Err IntoItself) f ok err = (err, λ m' h. h.0.not_into f.1)
+  renames (Err LineRange) f ok err = absurd f
+  renames (Err OldDiffers) f ok err = absurd f
+  renames (Err NoLines) f ok err = absurd f
+  renames (Err TooDeep) f ok err = (err, (moved_map (map.get t) a b l f.0, would_move (map.get t) a b l f.0, would_be_deep (map.get t) a b l f.0 f.1.0 f.1.1 f.1.2))
+  renames (Err NoMemory) f ok err = (err, tt)
+
+-- editing
+module _ (n : ℕ) (old new ls ls' : Lines) (e : Edits n old new ls ls') where
+  count_is : length ls ≡ length e.front + (length old + length e.back)
+  count_is = ap length e.before ∙ length-append e.front (old ++ e.back) ∙ ap (λ k. length e.front + k) (length-append old e.back)
+
+  in_range : InRange n (length old) (length ls)
+  in_range = (omega (arith, e.at), omega (arith, e.at, count_is))
+
+  old_there : take (length old) (drop (n - 1) ls) ≡ old
+  old_there = let k : n - 1 ≡ length e.front = omega (arith, e.at) in
+      ap₂ (λ i x. take (length old) (drop i x)) k e.before ∙ ap (λ x. take (length old) x) (drop-append_seam e.front (old ++ e.back)) ∙ take-append_seam old e.back
+
+  nothing : (xs : Lines) → length xs ≡ 0 → xs ≡ []
+  nothing [] h = refl
+  nothing (x ∷ xs) h = absurd (omega arith)
+
+  some_left : ls ≡ old → new ≡ [] → ⊥
+  some_left c z =
+      let k : length ls ≡ length old = ap length c in
+      let f : e.front ≡ [] = nothing e.front (omega (arith, k, count_is)) in
+      let g : e.back ≡ [] = nothing e.back (omega (arith, k, count_is)) in
+      e.left (e.after ∙ rw (f, g, z) refl)
+
+module _ (m : Map) (p : Path) (n : ℕ) (old new : Lines) where
+  same_lines : (o : Option Entry) (xs ys : Lines) → o ≡ Some (File xs) → o ≡ Some (File ys) → xs ≡ ys
+  same_lines o xs ys h k = let z : Some (File xs) ≡ Some (File ys) = sym h ∙ k in cc
+
+  edit_gone : m p ≡ None → (m' : Map) → Applies (At p (Hunk n old new)) m m' → ⊥
+  edit_gone h m' a = let k = a.here.2 in cc
+
+  edit_dir : m p ≡ Some Dir → (m' : Map) → Applies (At p (Hunk n old new)) m m' → ⊥
+  edit_dir h m' a = let k = a.here.2 in cc
+
+  edit_of : (ls : Lines) → m p ≡ Some (File ls) → (m' : Map) → Applies (At p (Hunk n old new)) m m' → (ls' : Lines) × Edits n old new ls ls'
+  edit_of ls h m' a = (a.here.1, subst (λ x. Edits n old new x a.here.1) (same_lines (m p) a.here.0 ls a.here.2 h) a.here.4)
+
+module _ (t t' : Tree) (p : Path) (n : ℕ) (old new : Lines) where
+  edited : (m' : Map) (ls : Lines) → map.get t p ≡ Some (File ls) → Applies (At p (Hunk n old new)) (map.get t) m' → (ls' : Lines) × Edits n old new ls ls'
+  edited m' ls h a = edit_of (map.get t) p n old new ls h m' a
+
+  pub edits : {T : Type 0} (r : Result T TreeFault) → EditsFile (map.get t) p n old new r → OnOk r (Edited p n old new t t') → OnErr r (t' ≡ t) → Applied (At p (Hunk n old new)) t t' r
+  edits (Ok x) f ok err = record {
+    around = tt;
+    here = (ok.0, ok.1, ok.2, rw ok.4 (put_here t p (File ok.1)), ok.3);
+    elsewhere = λ q h. rw ok.4 (put_else t p (File ok.1) q h);
+  }
+  edits (Err NoParent) f ok err = absurd f
+  edits (Err Occupied) f ok err = absurd f
+  edits (Err Missing) f ok err = (err, λ m' a. edit_gone (map.get t) p n old new f m' a)
+  edits (Err NotFile) f ok err = (err, λ m' a. edit_dir (map.get t) p n old new f m' a)
+  edits (Err NotDir) f ok err = absurd f
+  edits (Err NotEmpty) f ok err = absurd f
+  edits (Err IntoItself) f ok err = absurd f
+  edits (Err LineRange) f ok err = (err, λ m' a. let e = edited m' f.0 f.1 a in f.2 (in_range n old new f.0 e.0 e.1))
+  edits (Err OldDiffers) f ok err = (err, λ m' a. let e = edited m' f.0 f.1 a in f.3 (old_there n old new f.0 e.0 e.1))
+  edits (Err NoLines) f ok err = (err, λ m' a. let e = edited m' f.0 f.1 a in some_left n old new f.0 e.0 e.1 f.2 f.4)
+  edits (Err TooDeep) f ok err = absurd f
+  edits (Err NoMemory) f ok err = (err, tt)
+
+-- a list
+module _ {Y : Type 0} (prims : List (code.Primitive Y)) (i : ℕ) (p : code.Primitive Y) (l : i < length prims) (e : p ≡ get_or prims i p) where
+  pub one_more : {T : Type 0} (x : T) (r : Result T TreeFault) (t u z : Tree) → r ≡ Ok x → Applied (prim_of p) u z r → Runs AppliesToTree (take i (prims_of prims)) t u → Runs AppliesToTree (take (i + 1) (prims_of prims)) t z
+  one_more x r t u z is a k = rw (prims_more prims i p l e) (runs_on Prim Tree AppliesToTree k (step (rw is at a) done))
+
+  pub stops_at : {T : Type 0} (f : TreeFault) (r : Result T TreeFault) (t u z : Tree) → r ≡ Err f → Applied (prim_of p) u z r → FaultsAs (prim_of p) (map.get u) r → Runs AppliesToTree (take i (prims_of prims)) t u →
+      AppliedAll {T = T} (prims_of prims) t z (Err (i, f))
+  stops_at {T} f r t u z is a h k = let b = rw is at a in
+      (prim_of p, drop (i + 1) (prims_of prims), parted prims i p l e, rw b.0 k, rw b.0 b.1, subst (λ x. FaultsAs {T = T} (prim_of p) (map.get x) (Err f)) (sym b.0) (subst (λ x. FaultsAs {T = T} (prim_of p) (map.get u) x) is h))
+
+pub all_done : {Y : Type 0} (prims : List (code.Primitive Y)) (i : ℕ) (t z : Tree) → length prims ≤ i → Runs AppliesToTree (take i (prims_of prims)) t z → Runs AppliesToTree (prims_of prims) t z
+all_done prims i t z l k = rw (take_all i (prims_of prims) (rw (count_of prims) l)) at k

@@ -1,0 +1,86 @@
+-- The laws of pairs and of lists.
+use Rattle.std.proofs.Common.{◌≡◌, ◌≢◌, [], ◌∷◌, ◌++◌, List, refl, sym, ap₂, ◌∙◌, append_assoc, append-nil, arith}
+use Rattle.dm_tree.specs.Parts.{IsGoodPath}
+use Rattle.dm_tree.specs.Paths.{Path}
+use Rattle.dm_prim.specs.Runs.{done, step}
+use Rattle.dm_prim.specs.Rectangles.{CellRow, none, next, empty, row}
+use Rattle.dm_prim.specs.Primitives.{AddFile, RmFile, AddDir, RmDir, Hunk, Prim, At, Move, inv, inv_all, LawfulMap, Does, DoesAll}
+use Rattle.dm_prim.specs.Commuting.{IsGoodPrim, Commutes, ListsCommute}
+use Rattle.dm_prim.specs.Laws.{PairLaws, ListLaws, CommutedPairsEndAlike, PairsCommuteBack, PairsCommutePastAnInverse, CommutedListsEndAlike, ListsCommuteBack, ListsCommutePastAnInverse, InversesLeadBack, ListInversesLeadBack}
+use Rattle.dm_prim.proofs.Undoing.{OffRoot, undone, kept}
+use Rattle.dm_prim.proofs.Rows.{square_from, row_turn, row_inv}
+use Rattle.dm_prim.proofs.Ends.{square_runs, inv_inv}
+use Rattle.dm_prim.proofs.RectangleLemmas.{beside, one, rectangle_turn, rectangle_runs, runs_on}
+
+not_root : (f : Path) → IsGoodPath f → f ≢ []
+not_root f h e = let k : IsGoodPath [] = rw e at h in cc
+
+pub off_root : (p : Prim) → IsGoodPrim p → OffRoot p
+off_root (At f w) h = not_root f h.0
+off_root (Move a b) h = tt
+
+pub good_inv : (p : Prim) → IsGoodPrim p → IsGoodPrim (inv p)
+good_inv (At f AddFile) h = h
+good_inv (At f RmFile) h = h
+good_inv (At f AddDir) h = h
+good_inv (At f RmDir) h = h
+good_inv (At f (Hunk l o n)) h = (h.0, (h.1.0, omega arith, h.1.3, h.1.2))
+good_inv (Move a b) h = (h.1, h.0)
+
+-- pairs
+pub pairs_end_alike : CommutedPairsEndAlike
+pairs_end_alike p q q' p' c s u z h k =
+    let r = square_runs (square_from c.row) (off_root p c.good_p) (off_root q c.good_q) (off_root q' c.good_q') s.map u.map z.map s.lawful h.applies k.applies in
+    (record { map = r.0; lawful = kept q' s.map r.0 (off_root q' c.good_q') s.lawful r.1 }, record { applies = r.1 }, record { applies = r.2 })
+
+pub pairs_back : PairsCommuteBack
+pairs_back p q q' p' c = record { good_p = c.good_q'; good_q = c.good_p'; good_q' = c.good_p; good_p' = c.good_q; row = row_turn c.row }
+
+pub pairs_past_inverse : PairsCommutePastAnInverse
+pairs_past_inverse p q q' p' c = record { good_p = good_inv p c.good_p; good_q = c.good_q'; good_q' = c.good_q; good_p' = good_inv p' c.good_p'; row = row_inv c.row }
+
+pub pair_laws : {p q q' p' : Prim} → Commutes p q q' p' → PairLaws p q q' p'
+pair_laws {p} {q} {q'} {p'} c = record { ends_alike = pairs_end_alike p q q' p' c; back = pairs_back p q q' p' c; past_inverse = pairs_past_inverse p q q' p' c }
+
+-- lists
+pub lists_end_alike : CommutedListsEndAlike
+lists_end_alike xs ys ys' xs' g s u z h k = rectangle_runs Prim LawfulMap Commutes Does pairs_end_alike g h k
+
+pub lists_back : ListsCommuteBack
+lists_back xs ys ys' xs' g = rectangle_turn Prim Commutes pairs_back g
+
+cells_past_inverse : {x x' : Prim} {ys ys' : List Prim} → CellRow Commutes x ys ys' x' → CellRow Commutes (inv x) ys' ys (inv x')
+cells_past_inverse none = none
+cells_past_inverse (next {x} {y} {y'} {x1} c s) = next (pairs_past_inverse x y y' x1 c) (cells_past_inverse s)
+
+past_inverse : {xs ys ys' xs' : List Prim} → ListsCommute xs ys ys' xs' → ListsCommute (inv_all xs) ys' ys (inv_all xs')
+past_inverse empty = empty
+past_inverse (row g s) = beside Prim Commutes (one Prim Commutes (cells_past_inverse s)) (past_inverse g)
+
+pub lists_past_inverse : ListsCommutePastAnInverse
+lists_past_inverse xs ys ys' xs' g = past_inverse g
+
+pub list_laws : {xs ys ys' xs' : List Prim} → ListsCommute xs ys ys' xs' → ListLaws xs ys ys' xs'
+list_laws {xs} {ys} {ys'} {xs'} h = record { ends_alike = lists_end_alike xs ys ys' xs' h; back = lists_back xs ys ys' xs' h; past_inverse = lists_past_inverse xs ys ys' xs' h }
+
+-- inverses
+leads_back : (p : Prim) (s t : LawfulMap) → Does p s t → Does (inv p) t s
+leads_back p s t h = record { applies = undone p s.map t.map s.lawful t.lawful h.applies }
+
+pub inverses_lead_back : InversesLeadBack
+inverses_lead_back p s t = (leads_back p s t, λ h. rw (inv_inv p) at (leads_back (inv p) t s h))
+
+all_lead_back : (ps : List Prim) (s t : LawfulMap) → DoesAll ps s t → DoesAll (inv_all ps) t s
+all_lead_back [] s t done = done
+all_lead_back (p ∷ ps) s t (step {u = u} h r) = runs_on Prim LawfulMap Does (all_lead_back ps u t r) (step (leads_back p s u h) done)
+
+inv_all-append : (xs ys : List Prim) → inv_all (xs ++ ys) ≡ inv_all ys ++ inv_all xs
+inv_all-append [] ys = sym (append-nil (inv_all ys))
+inv_all-append (x ∷ xs) ys = rw (inv_all-append xs ys) (append_assoc (inv_all ys) (inv_all xs) (inv x ∷ []))
+
+inv_all-inv_all : (xs : List Prim) → inv_all (inv_all xs) ≡ xs
+inv_all-inv_all [] = refl
+inv_all-inv_all (x ∷ xs) = inv_all-append (inv_all xs) (inv x ∷ []) ∙ ap₂ (λ a b. a ∷ b) (inv_inv x) (inv_all-inv_all xs)
+
+pub list_inverses_lead_back : ListInversesLeadBack
+list_inverses_lead_back ps s t = (all_lead_back ps s t, λ h. rw (inv_all-inv_all ps) at (all_lead_back (inv_all ps) t s h))

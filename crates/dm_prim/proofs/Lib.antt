@@ -1,0 +1,11 @@
+pub mod Maps
+pub mod Undoing
+pub mod Squares
+pub mod Rows
+pub mod Ends
+pub mod RectangleLemmas
+pub mod Single
+pub mod LawProofs
+pub mod TableLemmas
+pub mod ListLemmas
+pub mod ApplyLemmas

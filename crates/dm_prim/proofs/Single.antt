@@ -1,0 +1,116 @@
+-- At most one answer: of the table, and of a primitive on a map.
+use Rattle.std.proofs.Common.{◌≡◌, ◌≢◌, ℕ, ◌+◌, List, [], ◌∷◌, ◌++◌, length, Option, ◌⊎◌, inl, inr, refl, sym, ap, ap₂, ◌∙◌, append-nil, arith}
+use Rattle.std.proofs.lemmas.List.{append_cancel_left, length-append}
+use Rattle.dm_prim.proofs.Maps.{path_dec, swaps_from}
+use Rattle.dm_prim.proofs.Ends.{split}
+use Rattle.dm_prim.proofs.RectangleLemmas.{rectangle_one}
+use Rattle.dm_tree.specs.Paths.{Path, forward}
+use Rattle.dm_tree.specs.Trees.{Lines, Entry, Map, IsLawful}
+use Rattle.dm_tree.specs.Changes.{Edits}
+use Rattle.dm_prim.specs.Primitives.{Work, AddFile, RmFile, AddDir, RmDir, Hunk, Prim, At, Move, Changes, Applies}
+use Rattle.dm_prim.specs.Table.{LiesAbove, WorkAndWork, WorkThenMove, MoveThenMove, Row, first_above, second_above, two_works, work_move, move_work, two_moves}
+use Rattle.dm_prim.specs.Commuting.{Commutes, ListsCommute}
+
+-- what the table answers for work on two paths
+pub data Both (f : Path) (w : Work) (g : Path) (v : Work) (q' p' : Prim) : Type 0 where
+  apart : WorkAndWork f w g v → q' ≡ At g v → p' ≡ At f w → Both f w g v q' p'
+  down : {l1 l2 m : ℕ} {o1 n1 o2 n2 : Lines} → f ≡ g → w ≡ Hunk l1 o1 n1 → v ≡ Hunk l2 o2 n2 →
+      LiesAbove (l1 + length n1) l2 (length o1) (length n1) (length o2) (length n2) → m + length n1 ≡ l2 + length o1 →
+      q' ≡ At g (Hunk m o2 n2) → p' ≡ At f (Hunk l1 o1 n1) → Both f w g v q' p'
+  up : {l1 l2 k : ℕ} {o1 n1 o2 n2 : Lines} → f ≡ g → w ≡ Hunk l1 o1 n1 → v ≡ Hunk l2 o2 n2 →
+      LiesAbove (l2 + length o2) l1 (length o1) (length n1) (length o2) (length n2) → k + length o2 ≡ l1 + length n2 →
+      q' ≡ At g (Hunk l2 o2 n2) → p' ≡ At f (Hunk k o1 n1) → Both f w g v q' p'
+
+-- what the table answers, by the two primitives
+abbrev pub Answer : Prim → Prim → Prim → Prim → Type 0
+Answer (At f w) (At g v) q' p' = Both f w g v q' p'
+Answer (At f w) (Move a b) q' p' = WorkThenMove f w a b × (q' ≡ Move a b) × (p' ≡ At (forward a b f) w)
+Answer (Move a b) (At f w) q' p' = WorkThenMove f w b a × (q' ≡ At (forward b a f) w) × (p' ≡ Move a b)
+Answer (Move a b) (Move c d) q' p' = MoveThenMove a b c d × (q' ≡ Move (forward b a c) (forward b a d)) ×
+    (p' ≡ Move (forward (forward b a c) (forward b a d) a) (forward (forward b a c) (forward b a d) b))
+
+pub answer_from : {p q q' p' : Prim} → Row p q q' p' → Answer p q q' p'
+answer_from (first_above c e) = down refl refl refl c e refl refl
+answer_from (second_above c e) = up refl refl refl c e refl refl
+answer_from (two_works s) = apart s refl refl
+answer_from (work_move {w = w} c e) = (c, refl, ap (λ x. At x w) e)
+answer_from (move_work {w = w} c e) = (c, ap (λ x. At x w) e, refl)
+answer_from (two_moves {a} {b} {c} {d} {a'} {b'} {c'} {d'} p ec ed ea eb) =
+    (p, ap₂ Move ec ed, ap₂ Move (ea ∙ rw (ec, ed)) (eb ∙ rw (ec, ed)))
+
+pub clears_both : (l1 o1 n1 l2 o2 n2 : ℕ) → LiesAbove (l1 + n1) l2 o1 n1 o2 n2 → LiesAbove (l2 + o2) l1 o1 n1 o2 n2 → ⊥
+clears_both l1 o1 n1 l2 o2 n2 (inl h) (inl k) = omega arith
+clears_both l1 o1 n1 l2 o2 n2 (inl h) (inr k) = omega arith
+clears_both l1 o1 n1 l2 o2 n2 (inr h) (inl k) = omega arith
+clears_both l1 o1 n1 l2 o2 n2 (inr h) (inr k) = omega arith
+
+pub both_one : (f : Path) (w : Work) (g : Path) (v : Work) (q1 p1 q2 p2 : Prim) → Both f w g v q1 p1 → Both f w g v q2 p2 → (q1 ≡ q2) × (p1 ≡ p2)
+both_one f w g v q1 p1 q2 p2 (apart s i j) (apart t k l) = (i ∙ sym k, j ∙ sym l)
+both_one f w g v q1 p1 q2 p2 (apart s i j) (down e a b c d k l) = absurd (s.differ e)
+both_one f w g v q1 p1 q2 p2 (apart s i j) (up e a b c d k l) = absurd (s.differ e)
+both_one f w g v q1 p1 q2 p2 (down e a b c d k l) (apart s i j) = absurd (s.differ e)
+both_one f w g v q1 p1 q2 p2 (up e a b c d k l) (apart s i j) = absurd (s.differ e)
+both_one f w g v q1 p1 q2 p2 (down {l1} {l2} {m} {o1} {n1} {o2} {n2} e a b c d k l) (down {l1 = l1'} {l2 = l2'} {m = m'} {o1 = o1'} {n1 = n1'} {o2 = o2'} {n2 = n2'} e' a' b' c' d' k' l') =
+    let x : l2 ≡ l2' = cc in let y : o1 ≡ o1' = cc in let z : n1 ≡ n1' = cc in
+    let lo : length o1 ≡ length o1' = ap length y in let ln : length n1 ≡ length n1' = ap length z in
+    let mm : m ≡ m' = omega arith in (cc, cc)
+both_one f w g v q1 p1 q2 p2 (up {l1} {l2} {k = m} {o1} {n1} {o2} {n2} e a b c d k l) (up {l1 = l1'} {l2 = l2'} {k = m'} {o1 = o1'} {n1 = n1'} {o2 = o2'} {n2 = n2'} e' a' b' c' d' k' l') =
+    let x : l1 ≡ l1' = cc in let y : o2 ≡ o2' = cc in let z : n2 ≡ n2' = cc in
+    let lo : length o2 ≡ length o2' = ap length y in let ln : length n2 ≡ length n2' = ap length z in
+    let mm : m ≡ m' = omega arith in (cc, cc)
+both_one f w g v q1 p1 q2 p2 (down {l1} {l2} {m} {o1} {n1} {o2} {n2} e a b c d k l) (up {l1 = l1'} {l2 = l2'} {k = m'} {o1 = o1'} {n1 = n1'} {o2 = o2'} {n2 = n2'} e' a' b' c' d' k' l') =
+    let x : l1' ≡ l1 = cc in let x2 : l2' ≡ l2 = cc in let y : o2' ≡ o2 = cc in let y1 : o1' ≡ o1 = cc in let z : n2' ≡ n2 = cc in let z1 : n1' ≡ n1 = cc in
+    absurd (clears_both l1 (length o1) (length n1) l2 (length o2) (length n2) c (rw (x, x2, y, y1, z, z1) at c'))
+both_one f w g v q1 p1 q2 p2 (up {l1} {l2} {k = m} {o1} {n1} {o2} {n2} e a b c d k l) (down {l1 = l1'} {l2 = l2'} {m = m'} {o1 = o1'} {n1 = n1'} {o2 = o2'} {n2 = n2'} e' a' b' c' d' k' l') =
+    let x : l1' ≡ l1 = cc in let x2 : l2' ≡ l2 = cc in let y : o2' ≡ o2 = cc in let y1 : o1' ≡ o1 = cc in let z : n2' ≡ n2 = cc in let z1 : n1' ≡ n1 = cc in
+    absurd (clears_both l1 (length o1) (length n1) l2 (length o2) (length n2) (rw (x, x2, y, y1, z, z1) at c') c)
+
+pub answer_one : (p q q1 p1 q2 p2 : Prim) → Answer p q q1 p1 → Answer p q q2 p2 → (q1 ≡ q2) × (p1 ≡ p2)
+answer_one (At f w) (At g v) q1 p1 q2 p2 x y = both_one f w g v q1 p1 q2 p2 x y
+answer_one (At f w) (Move a b) q1 p1 q2 p2 x y = (x.1 ∙ sym y.1, x.2 ∙ sym y.2)
+answer_one (Move a b) (At f w) q1 p1 q2 p2 x y = (x.1 ∙ sym y.1, x.2 ∙ sym y.2)
+answer_one (Move a b) (Move c d) q1 p1 q2 p2 x y = (x.1 ∙ sym y.1, x.2 ∙ sym y.2)
+
+pub commutes_one : (p q q1 p1 q2 p2 : Prim) → Commutes p q q1 p1 → Commutes p q q2 p2 → (q1 ≡ q2) × (p1 ≡ p2)
+commutes_one p q q1 p1 q2 p2 x y = answer_one p q q1 p1 q2 p2 (answer_from x.row) (answer_from y.row)
+
+pub lists_one : {xs ys ys1 xs1 ys2 xs2 : List Prim} → ListsCommute xs ys ys1 xs1 → ListsCommute xs ys ys2 xs2 → (ys1 ≡ ys2) × (xs1 ≡ xs2)
+lists_one g h = rectangle_one Prim Commutes commutes_one g h
+
+-- a primitive gives one map at most
+
+pub edits_one : (l : ℕ) (old new ls a b : Lines) → Edits l old new ls a → Edits l old new ls b → a ≡ b
+edits_one l old new ls a b x y = go (split x.front (old ++ x.back) y.front (old ++ y.back) (sym x.before ∙ y.before) (omega arith))
+  where
+    nil : (m : Lines) → length m ≡ 0 → m ≡ []
+    nil [] e = refl
+    nil (z ∷ m) e = absurd (omega arith)
+
+    go : (m : Lines) × (y.front ≡ x.front ++ m) × (old ++ x.back ≡ m ++ (old ++ y.back)) → a ≡ b
+    go (m, i, j) =
+        let k : length y.front ≡ length x.front + length m = simp length-append at (ap length i) in
+        let n : m ≡ [] = nil m (omega arith) in
+        let f : y.front ≡ x.front = i ∙ rw n (append-nil x.front) in
+        let h : old ++ x.back ≡ old ++ y.back = rw n at j in
+        let b' : x.back ≡ y.back = append_cancel_left old x.back y.back h in
+        x.after ∙ rw (b', ← f) (sym y.after)
+
+pub changes_one : (w : Work) (e a b : Option Entry) → Changes w e a → Changes w e b → a ≡ b
+changes_one AddFile e a b x y = x.1 ∙ sym y.1
+changes_one RmFile e a b x y = x.1 ∙ sym y.1
+changes_one AddDir e a b x y = x.1 ∙ sym y.1
+changes_one RmDir e a b x y = x.1 ∙ sym y.1
+changes_one (Hunk l old new) e a b (ls, ls1, i, j, k) (ms, ls2, i', j', k') =
+    let s : ms ≡ ls = cc in let t : ls1 ≡ ls2 = edits_one l old new ls ls1 ls2 k (rw s at k') in cc
+
+pub applies_one : (p : Prim) (t u v : Map) → IsLawful t → Applies p t u → Applies p t v → (x : Path) → u x ≡ v x
+applies_one (At f w) t u v l h k x = go (path_dec x f)
+  where
+    go : (x ≡ f) ⊎ (x ≢ f) → u x ≡ v x
+    go (inl e) = rw e (changes_one w (t f) (u f) (v f) h.here k.here)
+    go (inr n) = h.elsewhere x n ∙ sym (k.elsewhere x n)
+applies_one (Move a b) t u v l h k x = let s = swaps_from a b t u l h in let r = swaps_from a b t v l k in s.is x ∙ sym (r.is x)
+
+-- maps that agree at each path are one
+pub same_map : (s t : Map) → ((x : Path) → s x ≡ t x) → s ≡ t
+same_map s t h = λ i x. h x i

@@ -1,0 +1,139 @@
+-- What the table says of two primitives of each kind.
+use Rattle.std.proofs.Common.{◌≡◌, ℕ, ◌<◌, length, inl, inr, refl, sym, ap, Option, Some, None, arith}
+use Rattle.dm_tree.specs.Paths.{Path, Under, forward}
+use Rattle.dm_tree.specs.Parts.{IsGoodPath}
+use Rattle.dm_tree.specs.Trees.{Lines}
+use Rattle.dm_tree.proofs.Parts.{good_parts}
+use Rattle.dm_tree.proofs.Paths.{forward-other}
+use Rattle.dm_prim.specs.Primitives.{Work, Prim, At, Move, Hunk}
+use Rattle.dm_prim.specs.Table.{Row, first_above, second_above, two_works, work_move, move_work, two_moves, WorkAndWork, WorkThenMove, MoveThenMove, IsHunk}
+use Rattle.dm_prim.specs.Commuting.{IsLineNumber, IsGoodPrim, Commutes}
+use Rattle.dm_prim.specs.Hunks.{HunkParts, hunk_of, ChangePlaces}
+use Rattle.dm_prim.specs.Prims.{path_of, work_of, IsWork, CommutesTo, PairLawsHold}
+use Rattle.dm_prim.specs.declared.primitive.Primitive as code
+use Rattle.dm_prim.proofs.Single.{answer_from, Both, apart, down, up}
+use Rattle.dm_prim.proofs.LawProofs.{pair_laws}
+
+pub laws_hold : {Z : Type 0} (p q : Prim) (r : Option (code.Primitive Z × code.Primitive Z)) → CommutesTo p q r → PairLawsHold p q r
+laws_hold p q None h = tt
+laws_hold p q (Some r) h = pair_laws h
+
+-- a path that a move leaves alone
+pub stays : (a b p : Path) → (Under p a → ⊥) → p ≡ forward a b p
+stays a b p h = sym (forward-other a b p h)
+
+-- two hunks of one file
+hunk_row : {f g : Path} {l1 l2 : ℕ} {o1 n1 o2 n2 : Lines} {q' p' : Prim} → f ≡ g → Row (At f (Hunk l1 o1 n1)) (At g (Hunk l2 o2 n2)) q' p' →
+    (m k : ℕ) × ChangePlaces l1 (length o1) (length n1) l2 (length o2) (length n2) m k × (q' ≡ At g (Hunk m o2 n2)) × (p' ≡ At f (Hunk k o1 n1))
+hunk_row e (first_above {l1 = l1} {l2' = m} c i) = (m, l1, inl (c, i, refl), refl, refl)
+hunk_row e (second_above {l2 = l2} {l1' = k} c i) = (l2, k, inr (c, refl, i), refl, refl)
+hunk_row e (two_works s) = absurd (s.differ e)
+
+row_at : (f : Path) (l1 l2 m k : ℕ) (o1 n1 o2 n2 : Lines) → ChangePlaces l1 (length o1) (length n1) l2 (length o2) (length n2) m k →
+    Row (At f (Hunk l1 o1 n1)) (At f (Hunk l2 o2 n2)) (At f (Hunk m o2 n2)) (At f (Hunk k o1 n1))
+row_at f l1 l2 m k o1 n1 o2 n2 (inl (c, i, e)) = rw e (first_above c i)
+row_at f l1 l2 m k o1 n1 o2 n2 (inr (c, e, i)) = rw e (second_above c i)
+
+module _ (p q : HunkParts) (l1 o1 n1 l2 o2 n2 : ℕ) (e1 : l1 ≡ p.line) (e2 : o1 ≡ length p.old) (e3 : n1 ≡ length p.new)
+    (e4 : l2 ≡ q.line) (e5 : o2 ≡ length q.old) (e6 : n2 ≡ length q.new) (same : p.path ≡ q.path) where
+  pub no_places : ((m k : ℕ) → ChangePlaces l1 o1 n1 l2 o2 n2 m k → IsLineNumber m → IsLineNumber k → ⊥) → (q' p' : Prim) → Commutes (hunk_of p) (hunk_of q) q' p' → ⊥
+  no_places h q' p' c =
+      let r = hunk_row same c.row in
+      h r.0 r.1 (rw (e1, e2, e3, e4, e5, e6) r.2) (let f = rw r.3 at c.good_q' in f.1.0) (let f = rw r.4 at c.good_p' in f.1.0)
+
+  pub at_places : IsGoodPrim (hunk_of p) → IsGoodPrim (hunk_of q) → (m k : ℕ) → ChangePlaces l1 o1 n1 l2 o2 n2 m k → IsLineNumber m → IsLineNumber k →
+      Commutes (hunk_of p) (hunk_of q) (hunk_of (record q { line = m })) (hunk_of (record p { line = k }))
+  at_places gp gq m k h im ik = record {
+    good_p = gp;
+    good_q = gq;
+    good_q' = (gq.0, (im, gq.1.1, gq.1.2, gq.1.3));
+    good_p' = (gp.0, (ik, gp.1.1, gp.1.2, gp.1.3));
+    row = rw same (row_at q.path p.line q.line m k p.old p.new q.old q.new (rw (e1, e2, e3, e4, e5, e6) at h));
+  }
+
+-- two moves
+not_long : (p : Path) → 32 < length p → IsGoodPath p → ⊥
+not_long p l g = absurd (omega (arith, (good_parts p g).not_deep))
+
+module _ (a b c d : Path) where
+  pub no_move_both : (MoveThenMove a b c d → ⊥) → (q' p' : Prim) → Commutes (Move a b) (Move c d) q' p' → ⊥
+  no_move_both h q' p' r = h (answer_from r.row).0
+
+  pub both_moved : (from to x y : Path) → from ≡ forward b a c → to ≡ forward b a d → x ≡ forward from to a → y ≡ forward from to b → MoveThenMove a b c d →
+      IsGoodPrim (Move a b) → IsGoodPrim (Move c d) → IsGoodPrim (Move from to) → IsGoodPrim (Move x y) → Commutes (Move a b) (Move c d) (Move from to) (Move x y)
+  both_moved from to x y ef et ex ey p gp gq gq' gp' = record { good_p = gp; good_q = gq; good_q' = gq'; good_p' = gp'; row = two_moves p ef et ex ey }
+
+  pub long_from : 32 < length (forward b a c) → (q' p' : Prim) → Commutes (Move a b) (Move c d) q' p' → ⊥
+  long_from l q' p' r = let h = answer_from r.row in let g = rw h.1 at r.good_q' in not_long (forward b a c) l g.0
+
+  pub long_to : 32 < length (forward b a d) → (q' p' : Prim) → Commutes (Move a b) (Move c d) q' p' → ⊥
+  long_to l q' p' r = let h = answer_from r.row in let g = rw h.1 at r.good_q' in not_long (forward b a d) l g.1
+
+  pub long_first_from : (from to : Path) → from ≡ forward b a c → to ≡ forward b a d → 32 < length (forward from to a) → (q' p' : Prim) → Commutes (Move a b) (Move c d) q' p' → ⊥
+  long_first_from from to ef et l q' p' r = let h = answer_from r.row in let g = rw h.2 at r.good_p' in not_long (forward from to a) l (rw (ef, et) g.0)
+
+  pub long_first_to : (from to : Path) → from ≡ forward b a c → to ≡ forward b a d → 32 < length (forward from to b) → (q' p' : Prim) → Commutes (Move a b) (Move c d) q' p' → ⊥
+  long_first_to from to ef et l q' p' r = let h = answer_from r.row in let g = rw h.2 at r.good_p' in not_long (forward from to b) l (rw (ef, et) g.1)
+
+-- work, then a move; and the other way
+as_work : (p : Prim) → IsWork p → p ≡ At (path_of p) (work_of p)
+as_work (At f w) h = refl
+as_work (Move a b) h = absurd h
+
+pub work_stays : (p : Prim) (a b : Path) → IsWork p → (f : Path) → f ≡ path_of p → (Under f a → ⊥) → p ≡ At (forward a b (path_of p)) (work_of p)
+work_stays (At f w) a b is g e n = ap (λ x. At x w) (stays a b f (rw e at n))
+work_stays (Move c d) a b is g e n = absurd is
+
+module _ (p : Prim) (a b : Path) (is : IsWork p) where
+  pub no_work_move : (WorkThenMove (path_of p) (work_of p) a b → ⊥) → (q' p' : Prim) → Commutes p (Move a b) q' p' → ⊥
+  no_work_move n q' p' r = let h = rw (as_work p is) at r.row in n (answer_from h).0
+
+  pub no_move_work : (WorkThenMove (path_of p) (work_of p) b a → ⊥) → (q' p' : Prim) → Commutes (Move a b) p q' p' → ⊥
+  no_move_work n q' p' r = let h = rw (as_work p is) at r.row in n (answer_from h).0
+
+  pub long_work_move : 32 < length (forward a b (path_of p)) → (q' p' : Prim) → Commutes p (Move a b) q' p' → ⊥
+  long_work_move l q' p' r = let h = answer_from (rw (as_work p is) at r.row) in let g = rw h.2 at r.good_p' in not_long (forward a b (path_of p)) l g.0
+
+  pub long_move_work : 32 < length (forward b a (path_of p)) → (q' p' : Prim) → Commutes (Move a b) p q' p' → ⊥
+  long_move_work l q' p' r = let h = answer_from (rw (as_work p is) at r.row) in let g = rw h.1 at r.good_q' in not_long (forward b a (path_of p)) l g.0
+
+  pub moved_before : (m : Prim) → m ≡ At (forward a b (path_of p)) (work_of p) → WorkThenMove (path_of p) (work_of p) a b →
+      IsGoodPrim p → IsGoodPrim m → IsGoodPath a → IsGoodPath b → Commutes p (Move a b) (Move a b) m
+  moved_before m e k gp gm ga gb =
+      let r : Row p (Move a b) (Move a b) m = rw (e, as_work p is) (work_move k refl) in
+      record { good_p = gp; good_q = (ga, gb); good_q' = (ga, gb); good_p' = gm; row = r }
+
+  pub moved_after : (m : Prim) → m ≡ At (forward b a (path_of p)) (work_of p) → WorkThenMove (path_of p) (work_of p) b a →
+      IsGoodPrim p → IsGoodPrim m → IsGoodPath a → IsGoodPath b → Commutes (Move a b) p m (Move a b)
+  moved_after m e k gp gm ga gb =
+      let r : Row (Move a b) p m (Move a b) = rw (e, as_work p is) (move_work k refl) in
+      record { good_p = (ga, gb); good_q = gp; good_q' = gm; good_p' = (ga, gb); row = r }
+
+-- work and work
+module _ (f g : Path) (w v : Work) where
+  on_two_paths : (q' p' : Prim) → (IsHunk w → IsHunk v → f ≡ g → ⊥) → Both f w g v q' p' → WorkAndWork f w g v
+  on_two_paths q' p' n (apart s i j) = s
+  on_two_paths q' p' n (down e a b c d k l) = absurd (n (rw a tt) (rw b tt) e)
+  on_two_paths q' p' n (up e a b c d k l) = absurd (n (rw a tt) (rw b tt) e)
+
+module _ (p q : Prim) (ip : IsWork p) (iq : IsWork q) where
+  no_works : (IsHunk (work_of p) → IsHunk (work_of q) → path_of p ≡ path_of q → ⊥) → (WorkAndWork (path_of p) (work_of p) (path_of q) (work_of q) → ⊥) →
+      (q' p' : Prim) → Commutes p q q' p' → ⊥
+  no_works n s q' p' r = let h : Row (At (path_of p) (work_of p)) (At (path_of q) (work_of q)) q' p' = rw (← as_work p ip, ← as_work q iq) r.row in
+      s (on_two_paths (path_of p) (path_of q) (work_of p) (work_of q) q' p' n (answer_from h))
+
+  -- on two paths that may not change places
+  pub no_two_paths : (path_of p ≡ path_of q → ⊥) → (WorkAndWork (path_of p) (work_of p) (path_of q) (work_of q) → ⊥) → (q' p' : Prim) → Commutes p q q' p' → ⊥
+  no_two_paths d = no_works (λ i j e. d e)
+
+  -- on one path, where one isn't a hunk
+  pub no_first_hunk : path_of p ≡ path_of q → (IsHunk (work_of p) → ⊥) → (q' p' : Prim) → Commutes p q q' p' → ⊥
+  no_first_hunk e n = no_works (λ i j k. n i) (λ s. s.differ e)
+
+  pub no_second_hunk : path_of p ≡ path_of q → (IsHunk (work_of q) → ⊥) → (q' p' : Prim) → Commutes p q q' p' → ⊥
+  no_second_hunk e n = no_works (λ i j k. n j) (λ s. s.differ e)
+
+  pub change_places : WorkAndWork (path_of p) (work_of p) (path_of q) (work_of q) → IsGoodPrim p → IsGoodPrim q → Commutes p q q p
+  change_places s gp gq =
+      let h : Row p q q p = rw (as_work p ip, as_work q iq) (two_works s) in
+      record { good_p = gp; good_q = gq; good_q' = gq; good_p' = gp; row = h }

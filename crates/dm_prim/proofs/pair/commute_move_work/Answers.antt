@@ -1,0 +1,18 @@
+use Rattle.std.proofs.Common.{subst}
+use Rattle.dm_tree.specs.Parts.{IsGoodPath}
+use Rattle.dm_tree.proofs.Fronts.{refuted}
+use Rattle.dm_prim.specs.Prims.{prim_of}
+use Rattle.dm_prim.proofs.TableLemmas.{no_move_work, long_move_work, moved_after}
+use Rattle.dm_prim.proofs.pair.commute_move_work.Goals as goal
+
+pub returns-then-not-may_move_after : goal.returns-then-not-may_move_after
+returns-then-not-may_move_after g c = no_move_work (prim_of c.args.q) c.args.a c.args.b c.requires (refuted c.if-not-may_move_after.ensures)
+
+pub returns-in_default : goal.returns-in_default
+returns-in_default g c = long_move_work (prim_of c.args.q) c.args.a c.args.b c.requires (rw c.in_default.is at c.in_ok-moved.ensures.value)
+
+pub returns : goal.returns
+returns g c = let m = rw c.in-Some.is at c.in_ok-moved.ensures.value in
+    moved_after (prim_of c.args.q) c.args.a c.args.b c.requires (prim_of c.in-Some.moved) m.0
+    (c.may_move_after.ensures.0 c.if-not-may_move_after.false) c.in_ok-moved.ensures.good m.1
+    (subst IsGoodPath c.a.view_is c.a.invariant) (subst IsGoodPath c.b.view_is c.b.invariant)

@@ -1,0 +1,9 @@
+pub mod Runs
+pub mod Rectangles
+pub mod Primitives
+pub mod Table
+pub mod Commuting
+pub mod Laws
+pub mod Hunks
+pub mod Prims
+pub mod Applying

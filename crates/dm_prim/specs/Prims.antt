@@ -1,0 +1,62 @@
+-- Which primitive a value of the code is, and what commuting such values answers.
+use Rattle.std.specs.Prelude.{List, Vec, map, Option, Some, None}
+use Rattle.dm_tree.specs.Paths.{Path}
+use Rattle.dm_prim.specs.Primitives as primitives
+use Rattle.dm_prim.specs.Rectangles.{CellRow}
+use Rattle.dm_prim.specs.Commuting.{Commutes, ListsCommute}
+use Rattle.dm_prim.specs.Laws.{PairLaws, ListLaws}
+use Rattle.dm_prim.specs.Hunks.{hunk_of}
+use Rattle.dm_prim.specs.declared.primitive.Primitive.{Primitive}
+use Rattle.dm_prim.specs.declared.primitive.Primitive.TheVariants.{AddFile, RmFile, AddDir, RmDir, Move, Hunk}
+
+-- the primitive that a value is
+abbrev pub prim_of : {Z : Type 0} → Primitive Z → primitives.Prim
+prim_of (AddFile p) = primitives.At p primitives.AddFile
+prim_of (RmFile p) = primitives.At p primitives.RmFile
+prim_of (AddDir p) = primitives.At p primitives.AddDir
+prim_of (RmDir p) = primitives.At p primitives.RmDir
+prim_of (Move a b) = primitives.Move a b
+prim_of (Hunk h) = hunk_of h
+
+abbrev pub prims_of : {Z : Type 0} → List (Primitive Z) → List primitives.Prim
+prims_of ps = map prim_of ps
+
+-- the path that it works at, or that it moves
+abbrev pub path_of : primitives.Prim → Path
+path_of (primitives.At f w) = f
+path_of (primitives.Move a b) = a
+
+-- the work that it does, where it is no move
+abbrev pub work_of : primitives.Prim → primitives.Work
+work_of (primitives.At f w) = w
+work_of (primitives.Move a b) = primitives.AddFile
+
+-- it is no move
+abbrev pub IsWork : primitives.Prim → Type 0
+IsWork (primitives.At f w) = Unit {0}
+IsWork (primitives.Move a b) = ⊥
+
+-- p then q commute to the pair that is answered; where none is, they commute to nothing
+abbrev pub CommutesTo : {Z : Type 0} → primitives.Prim → primitives.Prim → Option (Primitive Z × Primitive Z) → Type 0
+CommutesTo p q None = (q' p' : primitives.Prim) → Commutes p q q' p' → ⊥
+CommutesTo p q (Some r) = Commutes p q (prim_of r.0) (prim_of r.1)
+
+-- the three laws hold of the pair that is answered
+abbrev pub PairLawsHold : {Z : Type 0} → primitives.Prim → primitives.Prim → Option (Primitive Z × Primitive Z) → Type 0
+PairLawsHold p q None = Unit {0}
+PairLawsHold p q (Some r) = PairLaws p q (prim_of r.0) (prim_of r.1)
+
+-- x passes all of ys, which become ys', and is then the one that is answered; where none is, it does not pass
+abbrev pub PassesTo : {Z : Type 0} → primitives.Prim → List primitives.Prim → List primitives.Prim → Option (Primitive Z) → Type 0
+PassesTo x ys zs None = (ys' : List primitives.Prim) (x' : primitives.Prim) → CellRow Commutes x ys ys' x' → ⊥
+PassesTo x ys zs (Some x') = CellRow Commutes x ys zs (prim_of x')
+
+-- the lists xs then ys commute to the lists that are answered; where none are, they commute to nothing
+abbrev pub ListsCommuteTo : {Z Y : Type 0} → List primitives.Prim → List primitives.Prim → Option (Vec (Primitive Z) Y × Vec (Primitive Z) Y) → Type 0
+ListsCommuteTo xs ys None = (ys' xs' : List primitives.Prim) → ListsCommute xs ys ys' xs' → ⊥
+ListsCommuteTo xs ys (Some r) = ListsCommute xs ys (prims_of r.0.items) (prims_of r.1.items)
+
+-- the three laws hold of the lists that are answered
+abbrev pub ListLawsHold : {Z Y : Type 0} → List primitives.Prim → List primitives.Prim → Option (Vec (Primitive Z) Y × Vec (Primitive Z) Y) → Type 0
+ListLawsHold xs ys None = Unit {0}
+ListLawsHold xs ys (Some r) = ListLaws xs ys (prims_of r.0.items) (prims_of r.1.items)

@@ -1,0 +1,119 @@
+//! What a primitive does to a tree.
+ghost use Rattle.std.specs.FinMap as map;
+ghost use Rattle.dm_tree.specs.Trees.{path_cmp};
+ghost use Rattle.dm_prim.specs.Primitives.{AddFile, RmFile, AddDir, RmDir, At, Move};
+ghost use Rattle.dm_prim.specs.Hunks.{hunk_of};
+ghost use Rattle.dm_prim.specs.Prims.{prim_of, prims_of};
+ghost use Rattle.dm_prim.specs.Applying.{Applied, AppliedAll, FaultsAs};
+
+use crate::hunk::Hunk;
+use crate::primitive::Primitive;
+use dm_tree::laws::tree_is_lawful;
+use dm_tree::{Path, Tree, TreeFault};
+use std::alloc::Allocator;
+
+/// Changes the tree as the primitive says; after a fault it is as it was. The faults are those of
+/// the tree's call that the primitive is.
+pub fn apply<A: Allocator + Copy, B: Allocator>(
+    prim: &Primitive<B>,
+    tree: &mut Tree<A>,
+) -> Result<(), TreeFault>
+    ensures change { Applied (prim_of prim.now) tree.old tree.new result }
+    ensures fault { FaultsAs (prim_of prim.now) (map.get tree.old) result }
+{
+    match prim {
+        Primitive::AddFile(path) => add_file(tree, path),
+        Primitive::RmFile(path) => remove_file(tree, path),
+        Primitive::AddDir(path) => add_dir(tree, path),
+        Primitive::RmDir(path) => remove_dir(tree, path),
+        Primitive::Move(from, to) => rename(tree, from, to),
+        Primitive::Hunk(hunk) => edit(tree, hunk),
+    }
+}
+
+/// Applies them in turn. After a fault at place k the tree is the one after the first k.
+pub fn apply_all<A: Allocator + Copy, B: Allocator>(
+    prims: &[Primitive<B>],
+    tree: &mut Tree<A>,
+) -> Result<(), (usize, TreeFault)>
+    ensures { AppliedAll (prims_of prims.now) tree.old tree.new result }
+{
+    apply_each(prims, tree)
+}
+
+fn apply_each<A: Allocator + Copy, B: Allocator>(
+    prims: &[Primitive<B>],
+    tree: &mut Tree<A>,
+) -> Result<(), (usize, TreeFault)>
+    ensures { AppliedAll (prims_of prims.now) tree.old tree.new result }
+{
+    for k in 0..prims.len() {
+        if let Err(fault) = apply(&prims[k], tree) {
+            return Err((k, fault));
+        }
+    }
+    Ok(())
+}
+
+fn add_file<A: Allocator + Copy, B: Allocator>(
+    tree: &mut Tree<A>,
+    path: &Path<B>,
+) -> Result<(), TreeFault>
+    ensures change { Applied (At path.now AddFile) tree.old tree.new result }
+    ensures fault { FaultsAs (At path.now AddFile) (map.get tree.old) result }
+{
+    tree.add_file(path)
+}
+
+fn remove_file<A: Allocator + Copy, B: Allocator>(
+    tree: &mut Tree<A>,
+    path: &Path<B>,
+) -> Result<(), TreeFault>
+    ensures change { Applied (At path.now RmFile) tree.old tree.new result }
+    ensures fault { FaultsAs (At path.now RmFile) (map.get tree.old) result }
+{
+    tree.remove_file(path)
+}
+
+fn add_dir<A: Allocator + Copy, B: Allocator>(
+    tree: &mut Tree<A>,
+    path: &Path<B>,
+) -> Result<(), TreeFault>
+    ensures change { Applied (At path.now AddDir) tree.old tree.new result }
+    ensures fault { FaultsAs (At path.now AddDir) (map.get tree.old) result }
+{
+    tree.add_dir(path)
+}
+
+fn remove_dir<A: Allocator + Copy, B: Allocator>(
+    tree: &mut Tree<A>,
+    path: &Path<B>,
+) -> Result<(), TreeFault>
+    ensures change { Applied (At path.now RmDir) tree.old tree.new result }
+    ensures fault { FaultsAs (At path.now RmDir) (map.get tree.old) result }
+{
+    tree_is_lawful(tree);
+    tree.remove_dir(path)
+}
+
+fn rename<A: Allocator + Copy, B: Allocator>(
+    tree: &mut Tree<A>,
+    from: &Path<B>,
+    to: &Path<B>,
+) -> Result<(), TreeFault>
+    ensures change { Applied (Move from.now to.now) tree.old tree.new result }
+    ensures fault { FaultsAs (Move from.now to.now) (map.get tree.old) result }
+{
+    tree_is_lawful(tree);
+    tree.rename(from, to)
+}
+
+fn edit<A: Allocator + Copy, B: Allocator>(
+    tree: &mut Tree<A>,
+    hunk: &Hunk<B>,
+) -> Result<(), TreeFault>
+    ensures change { Applied (hunk_of hunk.now) tree.old tree.new result }
+    ensures fault { FaultsAs (hunk_of hunk.now) (map.get tree.old) result }
+{
+    tree.edit(hunk.path(), hunk.line(), hunk.old(), hunk.new_lines())
+}

@@ -1,0 +1,155 @@
+//! Hunks: at a line of a file, old lines are replaced by new.
+ghost use Rattle.std.specs.Prelude.{◌≡◌, IfOk, length};
+ghost use Rattle.dm_prim.specs.Commuting.{IsGoodPrim, IsLineNumber};
+ghost use Rattle.dm_prim.specs.Hunks.{MakesHunk, hunk_of};
+
+use crate::places::Span;
+use dm_tree::{Lines, Path};
+use std::alloc::{AllocError, Allocator};
+use std::marker::Model;
+
+/// A change of one file: at a line, counted from 1, the old lines are replaced by the new ones.
+#[derive(Drop)]
+pub struct Hunk<A: Allocator> {
+    path: Path<A>,
+    line: u32,
+    old: Lines<A>,
+    new: Lines<A>,
+}
+
+impl<A: Allocator> Model for Hunk<A> {
+    ghost use Rattle.dm_prim.specs.Hunks.{HunkParts, hunk_of};
+    ghost use Rattle.dm_prim.specs.Commuting.{IsGoodPrim};
+
+    ghost Value = { HunkParts };
+
+    ghost view = { λ h. record { path = h.path; line = h.line; old = h.old; new = h.new } };
+
+    ghost invariant = { λ h. IsGoodPrim (hunk_of (record { path = h.path; line = h.line; old = h.old; new = h.new })) };
+}
+
+/// Why there is no such hunk.
+#[derive(Clone, Copy, Debug, PartialEq, Eq)]
+pub enum HunkFault {
+    /// The line is 0.
+    BadLine,
+    /// There are neither old nor new lines.
+    NoChange,
+}
+
+impl<A: Allocator> Hunk<A> {
+    /// A hunk of these parts, which are given up where it is refused.
+    pub fn new(path: Path<A>, line: u32, old: Lines<A>, new: Lines<A>) -> Result<Hunk<A>, HunkFault>
+        ensures { MakesHunk (record { path = path; line = line; old = old; new = new }) result }
+    {
+        if line == 0 {
+            return Err(HunkFault::BadLine);
+        }
+        let old_count = old.len();
+        let new_count = new.len();
+        if old_count == 0 && new_count == 0 {
+            return Err(HunkFault::NoChange);
+        }
+        Ok(Hunk {
+            path,
+            line,
+            old,
+            new,
+        })
+    }
+
+    /// The path of the file that it changes.
+    pub fn path(&self) -> &Path<A>
+        ensures value { result.now ≡ self.now.path }
+        ensures good { IsGoodPrim (hunk_of self.now) }
+    {
+        &self.path
+    }
+
+    /// The line of its change, counted from 1.
+    pub fn line(&self) -> u32
+        ensures value { result ≡ self.now.line }
+        ensures good { IsGoodPrim (hunk_of self.now) }
+    {
+        self.line
+    }
+
+    /// The lines that it takes out.
+    pub fn old(&self) -> &Lines<A>
+        ensures { result.now ≡ self.now.old }
+    {
+        &self.old
+    }
+
+    /// The lines that it puts in their place.
+    pub fn new_lines(&self) -> &Lines<A>
+        ensures { result.now ≡ self.now.new }
+    {
+        &self.new
+    }
+
+    /// The same hunk with another allocator.
+    pub(crate) fn copy_into<B: Allocator + Copy>(&self, alloc: B) -> Result<Hunk<B>, AllocError>
+        ensures { IfOk result (λ copy. copy ≡ self.now) }
+    {
+        let path = self.path.copy_into(alloc)?;
+        let old = self.old.copy_into(alloc)?;
+        let new = self.new.copy_into(alloc)?;
+        Ok(Hunk {
+            path,
+            line: self.line,
+            old,
+            new,
+        })
+    }
+
+    pub(crate) fn span(&self) -> Span
+        ensures line { result.line ≡ self.now.line }
+        ensures old { result.old ≡ length self.now.old }
+        ensures new { result.new ≡ length self.now.new }
+        ensures good { IsGoodPrim (hunk_of self.now) }
+    {
+        Span {
+            line: self.line,
+            old: self.old.len(),
+            new: self.new.len(),
+        }
+    }
+
+    /// The same change with old and new exchanged.
+    pub(crate) fn inverse(self) -> Hunk<A>
+        ensures { result ≡ record self { old = self.new; new = self.old } }
+    {
+        Hunk {
+            path: self.path,
+            line: self.line,
+            old: self.new,
+            new: self.old,
+        }
+    }
+
+    /// The same change at another path.
+    pub(crate) fn at(self, path: Path<A>) -> Hunk<A>
+        ensures { result ≡ record self { path = path } }
+    {
+        Hunk {
+            path,
+            line: self.line,
+            old: self.old,
+            new: self.new,
+        }
+    }
+
+    /// The same change at another line.
+    pub(crate) fn at_line(self, line: u32) -> Hunk<A>
+        requires { IsLineNumber line }
+        ensures { result ≡ record self { line = line } }
+    {
+        Hunk {
+            path: self.path,
+            line,
+            old: self.old,
+            new: self.new,
+        }
+    }
+}

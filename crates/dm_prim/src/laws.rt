@@ -1,0 +1,45 @@
+//! The laws of the definitions alone, for all values, whether or not they ever apply to a tree.
+//! Each call does nothing; whoever calls it knows the law from there on.
+ghost use Rattle.dm_prim.specs.Laws.{CommutedPairsEndAlike, PairsCommuteBack, PairsCommutePastAnInverse, CommutedListsEndAlike, ListsCommuteBack, ListsCommutePastAnInverse, InversesLeadBack, ListInversesLeadBack};
+
+/// Every lawful map on which two primitives apply in turn has the same end by those that they
+/// commute to.
+pub fn commuted_pairs_end_alike()
+    ensures { CommutedPairsEndAlike }
+{}
+
+/// Two primitives that commuted commute back to what they were.
+pub fn commuting_back()
+    ensures { PairsCommuteBack }
+{}
+
+/// Where p then q commute to q' then p', the inverse of p then q' commute to q then the inverse of p'.
+pub fn commuting_past_an_inverse()
+    ensures { PairsCommutePastAnInverse }
+{}
+
+/// A primitive leads from one lawful map to another exactly where its inverse leads back.
+pub fn applying_is_undone_by_the_inverse()
+    ensures { InversesLeadBack }
+{}
+
+/// Every lawful map on which two lists apply in turn has the same end by those that they commute to.
+pub fn commuted_lists_end_alike()
+    ensures { CommutedListsEndAlike }
+{}
+
+/// Two lists that commuted commute back to what they were.
+pub fn commuting_lists_back()
+    ensures { ListsCommuteBack }
+{}
+
+/// Where xs then ys commute to ys' then xs', the inverse of xs then ys' commute to ys then the
+/// inverse of xs'.
+pub fn commuting_lists_past_an_inverse()
+    ensures { ListsCommutePastAnInverse }
+{}
+
+/// A list leads from one lawful map to another exactly where its inverse leads back.
+pub fn applying_a_list_is_undone_by_its_inverse()
+    ensures { ListInversesLeadBack }
+{}

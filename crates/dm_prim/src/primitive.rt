@@ -1,0 +1,167 @@
+//! Primitive patches, over any allocator.
+ghost use Rattle.std.specs.Prelude.{◌≡◌, ◌↔◌, IfOk, IsTrue, MatchOption, MatchResult};
+ghost use Rattle.dm_prim.specs.Primitives as primitives;
+ghost use Rattle.dm_prim.specs.Table.{IsDirectoryWork, IsHunk};
+ghost use Rattle.dm_prim.specs.Commuting.{IsGoodPrim};
+ghost use Rattle.dm_prim.specs.Hunks.{hunk_of};
+ghost use Rattle.dm_prim.specs.Prims.{prim_of, path_of, work_of, IsWork};
+
+use crate::hunk::Hunk;
+use dm_tree::Path;
+use std::alloc::{AllocError, Allocator};
+
+/// A primitive patch: a change of a tree at one path, or the move of all that is at or under the
+/// first path to the second.
+#[derive(Drop)]
+pub enum Primitive<A: Allocator> {
+    AddFile(Path<A>),
+    RmFile(Path<A>),
+    AddDir(Path<A>),
+    RmDir(Path<A>),
+    Move(Path<A>, Path<A>),
+    Hunk(Hunk<A>),
+}
+
+impl<A: Allocator> Primitive<A> {
+    /// The same primitive with another allocator.
+    pub fn copy_into<B: Allocator + Copy>(&self, alloc: B) -> Result<Primitive<B>, AllocError>
+        ensures value { IfOk result (λ copy. prim_of copy ≡ prim_of self.now) }
+        ensures good { IsGoodPrim (prim_of self.now) }
+    {
+        self.tells_good();
+        match self {
+            Primitive::AddFile(path) => Ok(Primitive::AddFile(path.copy_into(alloc)?)),
+            Primitive::RmFile(path) => Ok(Primitive::RmFile(path.copy_into(alloc)?)),
+            Primitive::AddDir(path) => Ok(Primitive::AddDir(path.copy_into(alloc)?)),
+            Primitive::RmDir(path) => Ok(Primitive::RmDir(path.copy_into(alloc)?)),
+            Primitive::Move(from, to) => {
+                let from = from.copy_into(alloc)?;
+                let to = to.copy_into(alloc)?;
+                Ok(Primitive::Move(from, to))
+            }
+            Primitive::Hunk(hunk) => Ok(Primitive::Hunk(hunk.copy_into(alloc)?)),
+        }
+    }
+
+    /// The move of all that is at or under one path to another.
+    pub(crate) fn moving(from: Path<A>, to: Path<A>) -> Primitive<A>
+        ensures value { prim_of result ≡ primitives.Move from to }
+        ensures good { IsGoodPrim (primitives.Move from to) }
+    {
+        Primitive::Move(from, to)
+    }
+
+    /// The path that it works at, or that it moves.
+    pub(crate) fn path(&self) -> &Path<A>
+        ensures { result.now ≡ path_of (prim_of self.now) }
+    {
+        match self {
+            Primitive::AddFile(path) => path,
+            Primitive::RmFile(path) => path,
+            Primitive::AddDir(path) => path,
+            Primitive::RmDir(path) => path,
+            Primitive::Move(from, _) => from,
+            Primitive::Hunk(hunk) => hunk.path(),
+        }
+    }
+
+    /// Reads its parts, and so tells that they are good.
+    pub(crate) fn tells_good(&self)
+        ensures { IsGoodPrim (prim_of self.now) }
+    {
+        match self {
+            Primitive::AddFile(path) => {
+                let _ = path.len();
+            }
+            Primitive::RmFile(path) => {
+                let _ = path.len();
+            }
+            Primitive::AddDir(path) => {
+                let _ = path.len();
+            }
+            Primitive::RmDir(path) => {
+                let _ = path.len();
+            }
+            Primitive::Move(from, to) => {
+                let _ = from.len();
+                let _ = to.len();
+            }
+            Primitive::Hunk(hunk) => {
+                let _ = hunk.line();
+            }
+        }
+    }
+
+    pub(crate) fn is_directory_work(&self) -> bool
+        ensures { IsTrue result ↔ IsDirectoryWork (work_of (prim_of self.now)) }
+    {
+        match self {
+            Primitive::AddFile(_) => false,
+            Primitive::RmFile(_) => false,
+            Primitive::AddDir(_) => true,
+            Primitive::RmDir(_) => true,
+            Primitive::Move(_, _) => false,
+            Primitive::Hunk(_) => false,
+        }
+    }
+
+    pub(crate) fn is_hunk(&self) -> bool
+        ensures { IsTrue result ↔ IsHunk (work_of (prim_of self.now)) }
+    {
+        match self {
+            Primitive::AddFile(_) => false,
+            Primitive::RmFile(_) => false,
+            Primitive::AddDir(_) => false,
+            Primitive::RmDir(_) => false,
+            Primitive::Move(_, _) => false,
+            Primitive::Hunk(_) => true,
+        }
+    }
+
+    /// Its two paths, where it is a move; else it comes back.
+    pub(crate) fn into_move(self) -> Result<(Path<A>, Path<A>), Primitive<A>>
+        ensures { MatchResult result
+            (λ paths. prim_of self ≡ primitives.Move paths.0 paths.1)
+            (λ work. (prim_of work ≡ prim_of self) × IsWork (prim_of self)) }
+    {
+        match self {
+            Primitive::AddFile(path) => Err(Primitive::AddFile(path)),
+            Primitive::RmFile(path) => Err(Primitive::RmFile(path)),
+            Primitive::AddDir(path) => Err(Primitive::AddDir(path)),
+            Primitive::RmDir(path) => Err(Primitive::RmDir(path)),
+            Primitive::Move(from, to) => Ok((from, to)),
+            Primitive::Hunk(hunk) => Err(Primitive::Hunk(hunk)),
+        }
+    }
+
+    /// The hunk, where it is one.
+    pub(crate) fn into_hunk(self) -> Option<Hunk<A>>
+        ensures { MatchOption result
+            (IsHunk (work_of (prim_of self)) → ⊥)
+            (λ hunk. prim_of self ≡ hunk_of hunk) }
+    {
+        match self {
+            Primitive::AddFile(_) => None,
+            Primitive::RmFile(_) => None,
+            Primitive::AddDir(_) => None,
+            Primitive::RmDir(_) => None,
+            Primitive::Move(_, _) => None,
+            Primitive::Hunk(hunk) => Some(hunk),
+        }
+    }
+
+    /// The same work at another path.
+    pub(crate) fn at(self, path: Path<A>) -> Primitive<A>
+        requires { IsWork (prim_of self) }
+        ensures { prim_of result ≡ primitives.At path (work_of (prim_of self)) }
+    {
+        match self {
+            Primitive::AddFile(_) => Primitive::AddFile(path),
+            Primitive::RmFile(_) => Primitive::RmFile(path),
+            Primitive::AddDir(_) => Primitive::AddDir(path),
+            Primitive::RmDir(_) => Primitive::RmDir(path),
+            Primitive::Move(_, _) => unreachable!(),
+            Primitive::Hunk(hunk) => Primitive::Hunk(hunk.at(path)),
+        }
+    }
+}
