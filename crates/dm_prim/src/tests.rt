@@ -394,6 +394,33 @@ fn all<A: Allocator + Copy>(rt: &impl Abort, alloc: A) -> Result<(), Fail> {
     lists_apply_in_turn(rt, alloc)
 }
 
+/// So many hunks of the file, at one line, with as many old lines each, and one new line.
+fn many<A: Allocator + Copy>(
+    alloc: A,
+    count: usize,
+    line: u32,
+    old: u8,
+) -> Result<Vec<Prim<A>, A>, Fail> {
+    let mut prims = Vec::new(alloc);
+    for _ in 0..count {
+        if let Ok(hunk) = hunk(alloc, "f", line, old, 1)? {
+            prims.push(Prim::Hunk(hunk))?;
+        }
+    }
+    Ok(prims)
+}
+
+/// An arena gives nothing back: a million pairs must not take memory each.
+#[test]
+fn a_thousand_hunks_pass_a_thousand(rt: HostRuntime) -> Result<(), Fail> {
+    let bump = Bump::new(rt.alloc());
+    let xs = many(&bump, 1000, 1, 0)?;
+    let ys = many(&bump, 1000, 5000, 1)?;
+    assert!(rt; commute_lists(&bump, &xs, &ys)?.is_some(), "they commute");
+    assert!(rt; bump.allocated_bytes() < 64 * 1024 * 1024, "64 MB");
+    Ok(())
+}
+
 #[test]
 fn over_the_global_allocator(rt: HostRuntime) -> Result<(), Fail> {
     all(&rt, rt.alloc())

@@ -1,6 +1,3 @@
-pub mod WordLemmas
-pub mod NumberLemmas
-pub mod PathLemmas
-pub mod ThinLemmas
 pub mod PrintLemmas
+pub mod FitLemmas
 pub mod TakeLemmas

@@ -1,7 +1,4 @@
-pub mod White
-pub mod Words
-pub mod Thin
 pub mod Printing
 pub mod Taking
+pub mod Checking
 pub mod Streams
-pub mod Faults

@@ -1,5 +1,5 @@
 -- What is printed: the line of a verdict, and a line for each entry of a tree.
-use Rattle.std.specs.Prelude.{ℕ, ◌||◌, ◌==◌, List, [], ◌∷◌, ◌++◌, codes, drop, if◌then◌else◌}
+use Rattle.std.specs.Prelude.{ℕ, List, [], ◌∷◌, ◌++◌, codes, drop}
 use Rattle.std.specs.List.{flat_map}
 use Rattle.std.specs.Fmt.{decimal}
 use Rattle.std.specs.FinMap as map
@@ -8,26 +8,35 @@ use Rattle.dm_tree.specs.Trees.{Tree}
 use Rattle.dm_tree.specs.Listings.{kind_of}
 use Rattle.dm_tree.specs.declared.listing.Kind.{Kind}
 use Rattle.dm_tree.specs.declared.listing.Kind.TheVariants.{Dir, File}
-use Rattle.dm_tool.specs.White.{is_white}
+use Rattle.dm_named.specs.Canonical.{path_text}
+use Rattle.dm_named.specs.FaultWords.{fault_word}
+use Rattle.dm_tool.specs.declared.refusal.Refusal.{Refusal}
+use Rattle.dm_tool.specs.declared.refusal.Refusal.TheVariants.{DoesNotFit, NoMemory}
 use Rattle.dm_tool.specs.declared.verdict.Verdict.{Verdict}
-use Rattle.dm_tool.specs.declared.verdict.Verdict.TheVariants.{Taken, DoesNotFit}
+use Rattle.dm_tool.specs.declared.verdict.Verdict.TheVariants.{Taken, NothingNew, Malformed, Refused}
 
--- the text of a verdict
+-- why a bundle is refused
+abbrev pub refusal_text : Refusal → List ℕ
+refusal_text (DoesNotFit place) = codes "does-not-fit " ++ decimal place
+refusal_text NoMemory = codes "no-memory"
+
+-- the text of a verdict; a malformed text is told by the word of its fault and the fault's place
 abbrev pub verdict_text : Verdict → List ℕ
 verdict_text (Taken count) = codes "taken " ++ decimal count
-verdict_text (DoesNotFit place) = codes "refused does-not-fit " ++ decimal place
+verdict_text NothingNew = codes "nothing new"
+verdict_text (Malformed fault) = codes "malformed " ++ (fault_word fault.kind ++ 32 ∷ decimal fault.at)
+verdict_text (Refused refusal) = codes "refused " ++ refusal_text refusal
+
+-- the exit status that tells a verdict
+abbrev pub status_of : Verdict → ℕ
+status_of (Taken count) = 0
+status_of NothingNew = 0
+status_of (Malformed fault) = 1
+status_of (Refused refusal) = 1
 
 -- a text and a newline
 abbrev pub line_of : List ℕ → List ℕ
 line_of text = text ++ 10 ∷ []
-
--- a byte of a name; white space and the backslash are written as their code between backslashes
-abbrev pub byte_text : ℕ → List ℕ
-byte_text b = if is_white b || b == 92 then 92 ∷ (decimal b ++ 92 ∷ []) else b ∷ []
-
--- a path: a dot, and each name behind a slash
-abbrev pub path_text : Path → List ℕ
-path_text p = 46 ∷ flat_map (λ name. 47 ∷ flat_map byte_text name) p
 
 -- an entry: a directory, or a file with its size in bytes
 abbrev pub entry_text : Path → Kind → List ℕ

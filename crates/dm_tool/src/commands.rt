@@ -1,5 +1,6 @@
 //! The words of the command line, and what they start.
 use crate::apply::apply_over;
+use crate::check::check_over;
 use crate::fault::ToolFault;
 use crate::streams::read_text;
 use clap::error::ErrorKind;
@@ -28,18 +29,37 @@ fn program<'a>(alloc: Global) -> Result<Command<'a>, AllocError> {
         )
         .arg(base)?
         .arg(bundle)?;
+    let check = Command::new(alloc, "check").about(
+        "Read the patch bundle on standard input; print its canonical text, or what is wrong with it",
+    );
     Command::new(alloc, "dm")
         .bin_name("dm")?
         .about("Reads Darcs patch bundles and takes them into repositories")
         .subcommand_required(true)
         .arg_required_else_help(true)
-        .subcommand(apply)
+        .subcommand(apply)?
+        .subcommand(check)
 }
 
 /// Prints why there is no answer. Where that fails too, the exit status alone tells it.
 fn tell<R: Runtime + AllocGlobal>(rt: &R, fault: ToolFault) -> u8 {
     let _ = eprintln!(rt; "dm: {fault}");
     NO_ANSWER
+}
+
+/// The exit status of a command that has run.
+fn status_of<R: Runtime + AllocGlobal>(rt: &R, answer: Result<u8, ToolFault>) -> u8 {
+    match answer {
+        Ok(status) => status,
+        Err(fault) => tell(rt, fault),
+    }
+}
+
+/// `dm check`.
+fn check<R: Runtime + AllocGlobal>(rt: &R) -> u8 {
+    let mut reader = rt.reader();
+    let mut writer = io::writer(rt);
+    status_of(rt, check_over(rt.alloc(), &mut reader, &mut writer))
 }
 
 /// `dm apply`: the base is read before standard input.
@@ -70,10 +90,7 @@ fn apply<R: Runtime + AllocGlobal>(rt: &R, words: &ArgMatches<'_>) -> u8 {
             }
         }
     };
-    match result {
-        Ok(status) => status,
-        Err(fault) => tell(rt, fault),
-    }
+    status_of(rt, result)
 }
 
 /// Runs the command that these words name, and answers the exit status.
@@ -82,9 +99,10 @@ fn run_words<R: Runtime + AllocGlobal>(rt: &R, words: &[String]) -> u8 {
         return tell(rt, ToolFault::NoMemory);
     };
     match program.try_get_matches_from(words) {
-        Ok(matches) => match matches.subcommand_matches("apply") {
-            Some(words) => apply(rt, words),
-            None => NO_ANSWER,
+        Ok(matches) => match matches.subcommand() {
+            Some(("apply", words)) => apply(rt, words),
+            Some(("check", _)) => check(rt),
+            _ => NO_ANSWER,
         },
         Err(error) => {
             if error.kind() == ErrorKind::OutOfMemory {

@@ -1,28 +1,29 @@
 //! The program `dm`: Darcs patch bundles from the command line.
 //!
-//! `dm apply` reads a bundle on standard input, takes it into an empty repository, and prints the
-//! verdict and the listing of the repository's tree. So far it takes bundles in the [`thin`] form
-//! alone: one new patch, in braces, of added files and hunks, with an empty log, no dependencies
-//! and an empty context. To any other text it answers "not yet".
+//! `dm check` reads a bundle on standard input and prints its canonical text, or what is wrong with
+//! it and where. `dm apply` reads a bundle, takes it into an empty repository, and prints the verdict
+//! and the listing of the repository's tree; so far it answers "not yet" to a bundle that rests on
+//! other patches.
 //!
-//! The crate stands on `dm_info` for the text of a patch's information, on `dm_prim` and `dm_tree`
+//! The crate stands on `dm_bundle` and `dm_named` for the text of bundles, on `dm_prim` and `dm_tree`
 //! for what a primitive patch does to a tree, and on `clap` for the words of the command line. Its
-//! theorem is the contract of [`apply::apply_over`]: over a reader and a writer that tell their
-//! bytes, what is written, and the exit status, are those of the tree that the bundle's primitives
-//! make of the root alone, or of a refusal where they make none.
+//! theorems are the contracts of [`check::check_over`] and [`apply::apply_over`]: over a reader and a
+//! writer that tell their bytes, what is written and the exit status are those of the bundle that the
+//! text stands for, or of the text's first fault.
 #![tactic(auto)]
 
 mod apply;
+mod check;
 mod commands;
 mod fault;
+mod fit;
 mod print;
+mod refusal;
 mod streams;
 mod take;
 #[cfg(test)]
 mod tests;
-mod thin;
 mod verdict;
-mod white;
 
 use std::process::ExitCode;
 

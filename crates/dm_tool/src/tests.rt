@@ -1,291 +1,380 @@
-//! Worked examples of `dm apply`.
+//! Worked examples of the commands.
 use crate::apply::apply_over;
+use crate::check::check_over;
 use crate::fault::ToolFault;
-use crate::take::print_taken;
-use crate::verdict::Verdict;
-use dm_tree::{Path, Tree};
 use std::alloc::Global;
 use std::io;
 use std::io::{ErrorKind, Read, Write};
+use std::process::Abort;
 use std::test::Fail;
 
-/// An added file that gets one line.
-const ONE_LINE: &[u8] =
-    b"New patches:\n\n[a\np**20240101000000] {\naddfile ./a\nhunk ./a 1\n+x\n}\n\nContext:\n\n";
+/// A text in which `|` is a newline, `%N` the heading and an empty line, `%C` an empty line, the
+/// word of the context and an empty line, and `(x)` the information with the name `x` and the
+/// space behind it.
+fn text_of(alloc: Global, row: &str) -> Result<Vec<u8>, Fail> {
+    let row = row.as_bytes();
+    let mut text = Vec::new(alloc);
+    let mut i = 0;
+    while i < row.len() {
+        let rest = &row[i..];
+        if rest.starts_with(b"%N") {
+            text.extend_from_slice(b"New patches:\n\n")?;
+            i += 2;
+        } else if rest.starts_with(b"%C") {
+            text.extend_from_slice(b"\nContext:\n\n")?;
+            i += 2;
+        } else if rest.len() > 2 && rest[0] == b'(' && rest[2] == b')' {
+            text.push(b'[')?;
+            text.push(rest[1])?;
+            text.extend_from_slice(b"\np**20240101000000] ")?;
+            i += 3;
+        } else if rest[0] == b'|' {
+            text.push(b'\n')?;
+            i += 1;
+        } else {
+            text.push(rest[0])?;
+            i += 1;
+        }
+    }
+    Ok(text)
+}
 
-/// What is printed for a bundle, and the exit status.
-fn applied(alloc: Global, bundle: &[u8]) -> Result<(Vec<u8>, u8), ToolFault> {
-    let mut reader = bundle;
+/// A new file that gets a line.
+const ONE_LINE: &str = "%N(a){|addfile ./a|hunk ./a 1|+x|}|%C";
+
+/// What is printed for a text that is checked, and the exit status.
+fn checked(alloc: Global, text: &[u8]) -> Result<(Vec<u8>, u8), ToolFault> {
+    let mut reader = text;
+    let mut out = Vec::new(alloc);
+    let status = check_over(alloc, &mut reader, &mut out)?;
+    Ok((out, status))
+}
+
+/// What is printed for a text that is applied, and the exit status.
+fn applied(alloc: Global, text: &[u8]) -> Result<(Vec<u8>, u8), ToolFault> {
+    let mut reader = text;
     let mut out = Vec::new(alloc);
     let status = apply_over(alloc, None, false, &mut reader, &mut out)?;
     Ok((out, status))
 }
 
+/// The answer is this text with this exit status.
+fn expect(
+    rt: &impl Abort,
+    row: &str,
+    answer: Result<(Vec<u8>, u8), ToolFault>,
+    printed: &[u8],
+    status: u8,
+) {
+    match answer {
+        Ok((out, found)) => {
+            assert!(rt; out.as_slice() == printed, "{row}: the output");
+            assert_eq!(rt; found, status, "{row}: the exit status");
+        }
+        Err(fault) => panic!(rt; "{row}: {fault}"),
+    }
+}
+
 #[test]
-fn thin_bundles_are_taken_or_refused(rt: HostRuntime) {
-    let rows = [
+fn a_bundle_is_written_canonically(rt: HostRuntime) -> Result<(), Fail> {
+    for (row, text, canonical) in [
         (
-            "an added file with a line",
+            "several primitives without braces",
+            "%N(a)|addfile  ./a|adddir ./d|(b)rmdir ./d|(c)|{ }|%C",
+            "%N(a){|addfile ./a|adddir ./d|}|(b)rmdir ./d|(c){|}|%C",
+        ),
+        (
+            "lines for people in a hunk",
+            "%N(a)hunk ./a 2| above|-old|+new| below|%C",
+            "%N(a)hunk ./a 2|-old|+new|%C",
+        ),
+        (
+            "a summary, a context and a bundle hash",
+            "1 patch:||%N(a)adddir ./d|%C(b)||Patch bundle hash:|0123|",
+            "%N(a)adddir ./d|%C(b)|",
+        ),
+        ("neither a patch nor a context", "%N%C", "%N%C"),
+        (
+            "dependencies",
+            "%N(t) < (a)(b) >{}|%C(a)(b)",
+            "%N(t)<|(a)|(b)|> {|}|%C(a)|(b)|",
+        ),
+    ] {
+        let text = text_of(rt.alloc(), text)?;
+        let canonical = text_of(rt.alloc(), canonical)?;
+        expect(&rt, row, checked(rt.alloc(), &text), &canonical, 0);
+        expect(&rt, row, checked(rt.alloc(), &canonical), &canonical, 0);
+    }
+    Ok(())
+}
+
+#[test]
+fn a_malformed_text_is_told_by_its_fault(rt: HostRuntime) -> Result<(), Fail> {
+    for (row, text, verdict) in [
+        ("an empty text", "", "malformed no-new-patches 0|"),
+        (
+            "a name that is the parent",
+            "%N(a)addfile ./../x|%C",
+            "malformed bad-path 44|",
+        ),
+        (
+            "a name that is Darcs' own",
+            "%N(a)addfile ./_darcs/x|%C",
+            "malformed bad-path 44|",
+        ),
+        (
+            "a hunk at line 0",
+            "%N(a)hunk ./a 0|+x|%C",
+            "malformed bad-number 45|",
+        ),
+        (
+            "replace",
+            "%N(a)replace ./a [A] x y|%C",
+            "malformed unsupported 36|",
+        ),
+        (
+            "an inverted patch",
+            "%N[a|p*-20240101000000] adddir ./d|%C",
+            "malformed inverted 14|",
+        ),
+        (
+            "a hunk without lines",
+            "%N(a)hunk ./a 1|%C",
+            "malformed empty-hunk 36|",
+        ),
+        (
+            "a new patch in the context",
+            "%N(a)adddir ./d|%C(a)|",
+            "malformed doubled 58|",
+        ),
+        (
+            "a dependency that is no information",
+            "%N(t)<|x> {|}|%C",
+            "malformed bad-depends 38|",
+        ),
+        (
+            "a word that is no primitive's",
+            "%N(a){|foo ./a|}|%C",
+            "malformed bad-patch 38|",
+        ),
+        (
+            "an escape without its end",
+            "%N(a)addfile ./a\\3",
+            "malformed bad-path 44|",
+        ),
+    ] {
+        let text = text_of(rt.alloc(), text)?;
+        let verdict = text_of(rt.alloc(), verdict)?;
+        expect(&rt, row, checked(rt.alloc(), &text), &verdict, 1);
+        expect(&rt, row, applied(rt.alloc(), &text), &verdict, 1);
+    }
+    Ok(())
+}
+
+#[test]
+fn a_bundle_that_is_cut_is_malformed(rt: HostRuntime) -> Result<(), Fail> {
+    let whole = text_of(rt.alloc(), ONE_LINE)?;
+    assert_eq!(rt; whole.len(), 77, "the whole bundle");
+    for (end, verdict) in [
+        (0, "malformed no-new-patches 0|"),
+        (11, "malformed no-new-patches 11|"),
+        (12, "malformed no-context 12|"),
+        (30, "malformed bad-info 14|"),
+        (36, "malformed no-context 36|"),
+        (38, "malformed unclosed 38|"),
+        (41, "malformed bad-patch 38|"),
+        (45, "malformed bad-path 45|"),
+        (48, "malformed bad-path 46|"),
+        (49, "malformed unclosed 49|"),
+        (53, "malformed bad-patch 50|"),
+        (54, "malformed bad-path 54|"),
+        (57, "malformed bad-path 55|"),
+        (58, "malformed bad-number 58|"),
+        (60, "malformed empty-hunk 50|"),
+        (61, "malformed empty-hunk 50|"),
+        (63, "malformed unclosed 63|"),
+        (64, "malformed unclosed 64|"),
+        (65, "malformed no-context 65|"),
+        (70, "malformed no-context 67|"),
+    ] {
+        let verdict = text_of(rt.alloc(), verdict)?;
+        let row = format!(in rt.alloc(); "cut at {end}")?;
+        expect(&rt, &row, checked(rt.alloc(), &whole[..end]), &verdict, 1);
+    }
+    for end in [75, 76, 77] {
+        let row = format!(in rt.alloc(); "cut at {end}")?;
+        expect(&rt, &row, checked(rt.alloc(), &whole[..end]), &whole, 0);
+    }
+    Ok(())
+}
+
+#[test]
+fn a_bundle_is_taken_or_refused(rt: HostRuntime) -> Result<(), Fail> {
+    for (row, text, printed, status) in [
+        (
+            "a new file that gets a line",
             ONE_LINE,
-            b"taken 1\nfile ./a 2\n".as_slice(),
+            "taken 1|file ./a 2|",
             0,
         ),
         (
             "the empty line of a new file is replaced",
-            b"New patches:\n\n[a\np**20240101000000] {\naddfile ./a\nhunk ./a 1\n-\n+x\n}\n\nContext:\n\n".as_slice(),
-            b"taken 1\nfile ./a 1\n".as_slice(),
+            "%N(a){|addfile ./a|hunk ./a 1|-|+x|}|%C",
+            "taken 1|file ./a 1|",
+            0,
+        ),
+        (
+            "an escaped space",
+            "%N(a)addfile ./a\\32\\b|%C",
+            "taken 1|file ./a\\32\\b 0|",
+            0,
+        ),
+        (
+            "a directory moves with what is in it",
+            "%N(a){|adddir ./d|addfile ./d/f|move ./d ./e|}|%C",
+            "taken 1|dir ./e|file ./e/f 0|",
+            0,
+        ),
+        ("a directory", "%N(a)adddir ./d|%C", "taken 1|dir ./d|", 0),
+        ("no new patch", "%N%C", "nothing new|", 0),
+        (
+            "a patch on top of another",
+            "%N(a)adddir ./d|(b)addfile ./d/f|%C",
+            "taken 2|dir ./d|file ./d/f 0|",
+            0,
+        ),
+        (
+            "what was added is removed",
+            "%N(a){|adddir ./d|addfile ./f|}|(b){|rmdir ./d|rmfile ./f|}|%C",
+            "taken 2|",
             0,
         ),
         (
             "a hunk of a file that is not there",
-            b"New patches:\n\n[a\np**20240101000000] {\nhunk ./a 1\n+x\n}\n\nContext:\n\n".as_slice(),
-            b"refused does-not-fit 0\n".as_slice(),
+            "%N(a){|hunk ./a 1|+x|}|%C",
+            "refused does-not-fit 0|",
             1,
         ),
         (
-            "a second hunk that does not fit",
-            b"New patches:\n\n[a\np**d] {\naddfile ./a\nhunk ./a 1\n+x\nhunk ./a 2\n-y\n}\nContext:\n".as_slice(),
-            b"refused does-not-fit 0\n".as_slice(),
+            "the second patch adds what the first has added",
+            "%N(a)adddir ./d|(b)adddir ./d|(c)adddir ./e|%C",
+            "refused does-not-fit 1|",
             1,
         ),
         (
-            "no primitives",
-            b"New patches:\n[a\np**d] { }\nContext:\n".as_slice(),
-            b"taken 1\n".as_slice(),
-            0,
+            "a patch fits in part",
+            "%N(a){|adddir ./d|adddir ./e|adddir ./d|}|%C",
+            "refused does-not-fit 0|",
+            1,
         ),
-        (
-            "no white space where it may be empty",
-            b"New patches:\n[a\np**d]{addfile ./a\n}Context:".as_slice(),
-            b"taken 1\nfile ./a 0\n".as_slice(),
-            0,
-        ),
-        (
-            "an empty log between newlines",
-            b"New patches:\n[a\np**d\n]{}Context:".as_slice(),
-            b"taken 1\n".as_slice(),
-            0,
-        ),
-        (
-            "files are listed by their names, and what follows the context is not read",
-            b"New patches:\n[a\np**d] {\naddfile ./b\naddfile ./B\naddfile ./a\n}\nContext:\nPatch bundle hash:\n0123\n".as_slice(),
-            b"taken 1\nfile ./B 0\nfile ./a 0\nfile ./b 0\n".as_slice(),
-            0,
-        ),
-        (
-            "a line number with leading zeros, and white space behind it",
-            b"New patches:\n[a\np**d] {\naddfile ./a\nhunk ./a 001 \t\n+x\n+y\n}\nContext:\n".as_slice(),
-            b"taken 1\nfile ./a 4\n".as_slice(),
-            0,
-        ),
-    ];
-    for (row, bundle, printed, status) in rows {
-        match applied(rt.alloc(), bundle) {
-            Ok((out, found)) => {
-                assert!(rt; out.as_slice() == printed, "{row}: the output");
-                assert_eq!(rt; found, status, "{row}: the exit status");
-            }
-            Err(fault) => panic!(rt; "{row}: {fault}"),
-        }
+    ] {
+        let text = text_of(rt.alloc(), text)?;
+        let printed = text_of(rt.alloc(), printed)?;
+        expect(&rt, row, applied(rt.alloc(), &text), &printed, status);
     }
+    Ok(())
+}
+
+/// Directories in one another, all with the name `s`, so many deep; then `./x`; then a patch of
+/// these primitives.
+fn chain(alloc: Global, depth: usize, last: &str) -> Result<Vec<u8>, Fail> {
+    let mut text = text_of(alloc, "%N(a){|")?;
+    let mut path = Vec::from_slice(alloc, b".")?;
+    for _ in 0..depth {
+        path.extend_from_slice(b"/s")?;
+        text.extend_from_slice(b"adddir ")?;
+        text.extend_from_slice(&path)?;
+        text.push(b'\n')?;
+    }
+    text.extend_from_slice(&text_of(alloc, "adddir ./x|}|(b){|")?)?;
+    text.extend_from_slice(&text_of(alloc, last)?)?;
+    text.extend_from_slice(&text_of(alloc, "|}|%C")?)?;
+    Ok(text)
 }
 
 #[test]
-fn other_texts_are_not_taken_yet(rt: HostRuntime) {
-    let rows = [
-        ("nothing", b"".as_slice()),
+fn a_path_has_at_most_32_names(rt: HostRuntime) -> Result<(), Fail> {
+    for (row, depth, last) in [
+        ("a move below 32 names", 32, "move ./s ./x/s"),
         (
-            "a summary line first",
-            b"1 patch:\nNew patches:\n[a\np**d] {\n}\nContext:\n".as_slice(),
+            "a move below 32 names that comes back",
+            32,
+            "move ./s ./x/s|move ./x/s ./s",
         ),
-        (
-            "a heading that goes on",
-            b"New patches: \n[a\np**d] {\n}\nContext:\n".as_slice(),
-        ),
-        (
-            "a heading before a carriage return",
-            b"New patches:\r\n[a\np**d] {\n}\nContext:\n".as_slice(),
-        ),
-        ("no patch", b"New patches:\n\nContext:\n".as_slice()),
-        (
-            "two patches",
-            b"New patches:\n[a\np**d] {\n}\n[b\np**d] {\n}\nContext:\n".as_slice(),
-        ),
-        (
-            "a log",
-            b"New patches:\n[a\np**d\n l\n] {\n}\nContext:\n".as_slice(),
-        ),
-        (
-            "an inverted patch",
-            b"New patches:\n[a\np*-d] {\n}\nContext:\n".as_slice(),
-        ),
-        (
-            "dependencies",
-            b"New patches:\n[a\np**d] <\n[b\np**d] \n> {\n}\nContext:\n".as_slice(),
-        ),
-        (
-            "a primitive without braces",
-            b"New patches:\n[a\np**d] addfile ./a\nContext:\n".as_slice(),
-        ),
-        (
-            "rmfile",
-            b"New patches:\n[a\np**d] {\nrmfile ./a\n}\nContext:\n".as_slice(),
-        ),
-        (
-            "adddir",
-            b"New patches:\n\n[a\np**20240101000000] adddir ./d\n\nContext:\n\n".as_slice(),
-        ),
-        (
-            "adddir in braces",
-            b"New patches:\n[a\np**d] {\nadddir ./d\n}\nContext:\n".as_slice(),
-        ),
-        (
-            "rmdir",
-            b"New patches:\n[a\np**d] {\nrmdir ./d\n}\nContext:\n".as_slice(),
-        ),
-        (
-            "move",
-            b"New patches:\n[a\np**d] {\nmove ./a ./b\n}\nContext:\n".as_slice(),
-        ),
-        (
-            "replace",
-            b"New patches:\n[a\np**d] {\nreplace ./a [A] x y\n}\nContext:\n".as_slice(),
-        ),
-        (
-            "a longer word",
-            b"New patches:\n[a\np**d] {\naddfiles ./a\n}\nContext:\n".as_slice(),
-        ),
-        (
-            "a line for people above the change",
-            b"New patches:\n[a\np**d] {\nhunk ./a 1\n above\n+x\n}\nContext:\n".as_slice(),
-        ),
-        (
-            "a line for people below the change",
-            b"New patches:\n[a\np**d] {\nhunk ./a 1\n+x\n below\n}\nContext:\n".as_slice(),
-        ),
-        (
-            "a closing brace behind a space",
-            b"New patches:\n[a\np**d] {\nhunk ./a 1\n+x\n }\nContext:\n".as_slice(),
-        ),
-        (
-            "new lines before old ones",
-            b"New patches:\n[a\np**d] {\nhunk ./a 1\n+x\n-y\n}\nContext:\n".as_slice(),
-        ),
-        (
-            "an empty hunk",
-            b"New patches:\n[a\np**d] {\nhunk ./a 1\n}\nContext:\n".as_slice(),
-        ),
-        (
-            "a hunk at line 0",
-            b"New patches:\n[a\np**d] {\nhunk ./a 0\n+x\n}\nContext:\n".as_slice(),
-        ),
-        (
-            "a hunk past the last line",
-            b"New patches:\n[a\np**d] {\nhunk ./a 4294967296\n+x\n}\nContext:\n".as_slice(),
-        ),
-        (
-            "a word behind the number",
-            b"New patches:\n[a\np**d] {\nhunk ./a 1 x\n+x\n}\nContext:\n".as_slice(),
-        ),
-        (
-            "a backslash in a path",
-            b"New patches:\n[a\np**d] {\naddfile ./a\\32\\b\n}\nContext:\n".as_slice(),
-        ),
-        (
-            "a path without a dot",
-            b"New patches:\n[a\np**d] {\naddfile a\n}\nContext:\n".as_slice(),
-        ),
-        (
-            "a path without a name",
-            b"New patches:\n[a\np**d] {\naddfile ./\n}\nContext:\n".as_slice(),
-        ),
-        (
-            "a path with an empty name",
-            b"New patches:\n[a\np**d] {\naddfile ./a//b\n}\nContext:\n".as_slice(),
-        ),
-        (
-            "a path through its parent",
-            b"New patches:\n[a\np**d] {\naddfile ./../x\n}\nContext:\n".as_slice(),
-        ),
-        (
-            "a path into the repository's own store",
-            b"New patches:\n[a\np**d] {\naddfile ./_darcs/x\n}\nContext:\n".as_slice(),
-        ),
-        (
-            "a path of 33 names",
-            b"New patches:\n[a\np**d] {\naddfile ./a/a/a/a/a/a/a/a/a/a/a/a/a/a/a/a/a/a/a/a/a/a/a/a/a/a/a/a/a/a/a/a/a\n}\nContext:\n".as_slice(),
-        ),
-        ("no context", b"New patches:\n[a\np**d] {\n}\n".as_slice()),
-        (
-            "a context's word that goes on",
-            b"New patches:\n[a\np**d] {\n}\nContext:[x\n".as_slice(),
-        ),
-        (
-            "an information in the context",
-            b"New patches:\n[a\np**d] {\n}\nContext:\n[b\np**d] \n".as_slice(),
-        ),
-        (
-            "the context first",
-            b"Context:\nNew patches:\n[a\np**d] {\n}\n".as_slice(),
-        ),
-    ];
-    for (row, bundle) in rows {
-        match applied(rt.alloc(), bundle) {
-            Ok((_, _)) => panic!(rt; "{row}: taken or refused"),
-            Err(fault) => assert_eq!(rt; fault, ToolFault::NotYet, "{row}"),
-        }
+    ] {
+        let text = chain(rt.alloc(), depth, last)?;
+        expect(
+            &rt,
+            row,
+            applied(rt.alloc(), &text),
+            b"refused does-not-fit 1\n",
+            1,
+        );
     }
+    let text = chain(rt.alloc(), 31, "move ./s ./x/s")?;
+    let (out, status) = applied(rt.alloc(), &text).ok().ok_or("no fault")?;
+    assert!(rt;
+        out.as_slice()
+            .starts_with(b"taken 2\ndir ./x\ndir ./x/s\ndir ./x/s/s\n"),
+        "a move to 32 names"
+    );
+    assert_eq!(rt; status, 0, "a move to 32 names");
+    Ok(())
 }
 
 #[test]
-fn a_bundle_that_is_cut_is_not_thin(rt: HostRuntime) {
-    for end in 0..ONE_LINE.len() {
-        let found = applied(rt.alloc(), &ONE_LINE[..end]);
-        if end < 75 {
-            assert!(rt; matches!(found, Err(ToolFault::NotYet)), "cut at {end}");
-        } else {
-            assert!(rt; matches!(found, Ok((_, 0))), "cut at {end}");
-        }
-    }
-}
-
-#[test]
-fn a_base_and_a_bundle_as_output_are_not_taken_yet(rt: HostRuntime) {
-    let rows = [
-        ("a base", Some(ONE_LINE), false),
-        ("an empty base", Some(b"".as_slice()), false),
-        ("a bundle as output", None, true),
-    ];
-    for (row, base, as_bundle) in rows {
-        let mut reader = ONE_LINE;
+fn some_bundles_are_not_taken_yet(rt: HostRuntime) -> Result<(), Fail> {
+    let one = text_of(rt.alloc(), ONE_LINE)?;
+    let context = text_of(rt.alloc(), "%N(n)adddir ./d|%C(z)|")?;
+    let dependency = text_of(rt.alloc(), "%N(a)adddir ./d|(b)<|(a)|> adddir ./e|%C")?;
+    for (row, base, as_bundle, text) in [
+        ("a base", Some(one.as_slice()), false, one.as_slice()),
+        ("an empty base", Some(b"".as_slice()), false, one.as_slice()),
+        ("a bundle as output", None, true, one.as_slice()),
+        ("a context", None, false, context.as_slice()),
+        ("a dependency", None, false, dependency.as_slice()),
+    ] {
+        let mut reader = text;
         let mut out = Vec::new(rt.alloc());
         let found = apply_over(rt.alloc(), base, as_bundle, &mut reader, &mut out);
         assert!(rt; matches!(found, Err(ToolFault::NotYet)), "{row}");
         assert!(rt; out.is_empty(), "{row}: nothing is printed");
     }
+    Ok(())
 }
 
 #[test]
 fn a_text_may_have_4194304_bytes(rt: HostRuntime) -> Result<(), Fail> {
-    let mut text = Vec::from_slice(rt.alloc(), ONE_LINE)?;
+    let empty = text_of(rt.alloc(), "%N%C")?;
+    let mut text = Vec::from_slice(rt.alloc(), &empty)?;
     for _ in 0..4194304 {
         if text.len() < 4194304 {
             text.push(b'x')?;
         }
     }
-    assert!(rt;
-        matches!(applied(rt.alloc(), &text), Ok((_, 0))),
-        "the largest text"
+    expect(
+        &rt,
+        "the largest text",
+        checked(rt.alloc(), &text),
+        &empty,
+        0,
     );
     text.push(b'x')?;
-    assert!(rt;
-        matches!(applied(rt.alloc(), &text), Err(ToolFault::NotYet)),
-        "one byte more"
+    let verdict = b"malformed too-large 4194304\n".as_slice();
+    expect(&rt, "one byte more", checked(rt.alloc(), &text), verdict, 1);
+    text.push(b'x')?;
+    expect(
+        &rt,
+        "two bytes more",
+        applied(rt.alloc(), &text),
+        verdict,
+        1,
     );
     Ok(())
 }
 
 /// A reader that gives one byte at a time, and fails before the byte at a place.
+#[derive(Drop)]
 struct FailingReader<'a> {
     text: &'a [u8],
     at: usize,
@@ -307,21 +396,30 @@ impl Read for FailingReader<'_> {
 }
 
 #[test]
-fn a_reader_that_fails(rt: HostRuntime) {
-    for fails_at in 0..ONE_LINE.len() {
-        let mut reader = FailingReader {
-            text: ONE_LINE,
-            at: 0,
-            fails_at,
-        };
-        let mut out = Vec::new(rt.alloc());
-        let found = apply_over(rt.alloc(), None, false, &mut reader, &mut out);
-        assert!(rt; matches!(found, Err(ToolFault::Read)), "at byte {fails_at}");
-        assert!(rt; out.is_empty(), "nothing is printed: at byte {fails_at}");
+fn a_reader_that_fails(rt: HostRuntime) -> Result<(), Fail> {
+    let text = text_of(rt.alloc(), ONE_LINE)?;
+    for fails_at in 0..text.len() {
+        for is_check in [false, true] {
+            let mut reader = FailingReader {
+                text: &text,
+                at: 0,
+                fails_at,
+            };
+            let mut out = Vec::new(rt.alloc());
+            let found = if is_check {
+                check_over(rt.alloc(), &mut reader, &mut out)
+            } else {
+                apply_over(rt.alloc(), None, false, &mut reader, &mut out)
+            };
+            assert!(rt; matches!(found, Err(ToolFault::Read)), "at byte {fails_at}");
+            assert!(rt; out.is_empty(), "nothing is printed: at byte {fails_at}");
+        }
     }
+    Ok(())
 }
 
 /// A writer that takes one byte at a time, so many in all, and then fails or takes none.
+#[derive(Drop)]
 struct FailingWriter {
     out: Vec<u8>,
     room: usize,
@@ -349,18 +447,21 @@ impl Write for FailingWriter {
     }
 }
 
-#[test]
-fn a_writer_that_fails(rt: HostRuntime) {
-    let printed = b"taken 1\nfile ./a 2\n".as_slice();
+/// A command on this text and this output fails at each byte, and what was written is a prefix.
+fn fails_at_each_byte(rt: &impl Abort, alloc: Global, is_check: bool, text: &[u8], printed: &[u8]) {
     for room in 0..printed.len() {
         for is_error in [false, true] {
-            let mut reader = ONE_LINE;
+            let mut reader = text;
             let mut writer = FailingWriter {
-                out: Vec::new(rt.alloc()),
+                out: Vec::new(alloc),
                 room,
                 is_error,
             };
-            let found = apply_over(rt.alloc(), None, false, &mut reader, &mut writer);
+            let found = if is_check {
+                check_over(alloc, &mut reader, &mut writer)
+            } else {
+                apply_over(alloc, None, false, &mut reader, &mut writer)
+            };
             assert!(rt; matches!(found, Err(ToolFault::Write)), "at byte {room}");
             assert!(rt;
                 writer.out.as_slice() == &printed[..room],
@@ -371,23 +472,11 @@ fn a_writer_that_fails(rt: HostRuntime) {
 }
 
 #[test]
-fn names_are_escaped(rt: HostRuntime) -> Result<(), Fail> {
-    let mut tree = Tree::new(rt.alloc());
-    for name in [
-        b"a b".as_slice(),
-        b"\\".as_slice(),
-        b"\t\x0b".as_slice(),
-        b"\xc3\xa4\x7f".as_slice(),
-    ] {
-        let path = Path::from_parts(rt.alloc(), &[name]).ok().ok_or("a path")?;
-        tree.add_dir(&path).ok().ok_or("a directory")?;
-    }
-    let text = print_taken(rt.alloc(), Verdict::Taken(1), &tree)?;
-    let want =
-        b"taken 1\ndir ./\\9\\\\11\\\ndir ./\\92\\\ndir ./a\\32\\b\ndir ./\xc3\xa4\x7f\n".as_slice();
-    assert!(rt;
-        text.as_slice() == want,
-        "white space and the backslash, and no other byte"
-    );
+fn a_writer_that_fails(rt: HostRuntime) -> Result<(), Fail> {
+    let text = text_of(rt.alloc(), ONE_LINE)?;
+    fails_at_each_byte(&rt, rt.alloc(), true, &text, &text);
+    fails_at_each_byte(&rt, rt.alloc(), false, &text, b"taken 1\nfile ./a 2\n");
+    fails_at_each_byte(&rt, rt.alloc(), true, b"", b"malformed no-new-patches 0\n");
+    fails_at_each_byte(&rt, rt.alloc(), false, b"", b"malformed no-new-patches 0\n");
     Ok(())
 }

@@ -1,7 +1,9 @@
 //! What becomes of a bundle.
-ghost use Rattle.std.specs.Prelude.{◌≡◌};
-ghost use Rattle.dm_tool.specs.Taking.{status_of};
+ghost use Rattle.std.specs.Prelude.{◌≡◌, ◌≢◌, ◌⊎◌};
+ghost use Rattle.dm_tool.specs.Printing.{status_of};
 
+use crate::refusal::Refusal;
+use dm_named::{FaultKind, ReadFault};
 use std::fmt;
 
 /// What becomes of a bundle.
@@ -9,18 +11,35 @@ use std::fmt;
 pub enum Verdict {
     /// So many patches were taken.
     Taken(usize),
-    /// The patch at this place of the bundle does not apply.
-    DoesNotFit(usize),
+    /// The repository has every new patch of the bundle already.
+    NothingNew,
+    /// The text is no bundle's: what is wrong, and at which byte.
+    Malformed(ReadFault),
+    /// The bundle isn't taken.
+    Refused(Refusal),
 }
 
 impl Verdict {
+    /// The verdict on a text that couldn't be read.
+    pub fn unread(fault: ReadFault) -> Verdict
+        ensures { ((fault.kind ≢ FaultKind.NoMemory) × (result ≡ Verdict.Malformed fault)) ⊎
+            ((fault.kind ≡ FaultKind.NoMemory) × (result ≡ Verdict.Refused Refusal.NoMemory)) }
+    {
+        if fault.kind == FaultKind::NoMemory {
+            return Verdict::Refused(Refusal::NoMemory);
+        }
+        Verdict::Malformed(fault)
+    }
+
     /// The exit status that tells it.
     pub fn status(&self) -> u8
         ensures { result ≡ status_of self.now }
     {
         match self {
             Verdict::Taken(_) => 0,
-            Verdict::DoesNotFit(_) => 1,
+            Verdict::NothingNew => 0,
+            Verdict::Malformed(_) => 1,
+            Verdict::Refused(_) => 1,
         }
     }
 }
@@ -34,7 +53,9 @@ impl fmt::Display for Verdict {
     fn fmt<W: fmt::Write>(&self, f: &mut fmt::Formatter<W>) -> fmt::Result {
         match self {
             Verdict::Taken(count) => write!(f, "taken {count}"),
-            Verdict::DoesNotFit(place) => write!(f, "refused does-not-fit {place}"),
+            Verdict::NothingNew => f.write_str("nothing new"),
+            Verdict::Malformed(fault) => write!(f, "malformed {} {}", fault.kind.word(), fault.at),
+            Verdict::Refused(refusal) => write!(f, "refused {refusal}"),
         }
     }
 }

@@ -61,7 +61,7 @@ pub(crate) fn copy_all<A: Allocator, B: Allocator + Copy>(
 ) -> Result<Vec<Bytes<B>, B>, AllocError>
     ensures { IfOk result (λ v. v.items ≡ texts.now) }
 {
-    let mut copies = Vec::new(alloc);
+    let mut copies = Vec::with_capacity(alloc, texts.len())?;
     for text in texts {
         copies.push(Bytes::from_slice(alloc, text.as_slice())?)?;
     }

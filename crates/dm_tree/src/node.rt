@@ -120,7 +120,7 @@ fn make_leaf<A: Allocator + Copy>(alloc: A, name: &[u8], leaf: Leaf) -> Result<N
     let body = match leaf {
         Leaf::Folder => Body::Children(Vec::new(alloc)),
         Leaf::Empty => {
-            let mut lines = Vec::new(alloc);
+            let mut lines = Vec::with_capacity(alloc, 1)?;
             lines.push(Bytes::new(alloc))?;
             Body::Text(lines)
         }

@@ -84,7 +84,7 @@ fn copy_names<A: Allocator + Copy>(
 ) -> Result<Vec<Bytes<A>, A>, AllocError>
     ensures { IfOk result (λ r. r.items ≡ map (λ b. b.now) parts.now) }
 {
-    let mut names = Vec::new(alloc);
+    let mut names = Vec::with_capacity(alloc, parts.len())?;
     for part in parts {
         names.push(Bytes::from_slice(alloc, part)?)?;
     }

@@ -1,13 +1,14 @@
-use Rattle.std.proofs.Common.{List, ℕ, take, refl, subst, inr}
+use Rattle.std.proofs.Common.{◌≡◌, ◌∙◌, List, ℕ, take, refl, subst, inr}
 use Rattle.std.proofs.lemmas.Result.{err_from_is_err_and}
 use Rattle.std.specs.Io.KnownBytes.{Appends}
-use Rattle.dm_tool.specs.Taking.{IsNotThin, Takes, status_of}
+use Rattle.dm_tool.specs.Printing.{status_of}
+use Rattle.dm_tool.specs.Taking.{RestsOnMore, Takes}
 use Rattle.dm_tool.proofs.apply.apply_over.Goals as goal
 
 pub returns-in_err-verdict-clause-not_yet : goal.returns-in_err-verdict-clause-not_yet
 returns-in_err-verdict-clause-not_yet g c =
     let q = err_from_is_err_and c.from_residual-in_err-verdict.result c.from_residual-in_err-verdict.ensures.1 in
-    rw (q.1, q.2) (λ is. inr (inr (c.in_ok-bundle.bundle.items, c.in_ok-bundle.ensures.text, subst IsNotThin c.deref.ensures.value (c.in_err-verdict.ensures.not_yet is))))
+    rw (q.1, q.2) (λ is. inr (inr (c.in_ok-bundle.bundle.items, c.in_ok-bundle.ensures.text, subst RestsOnMore c.deref.ensures.value c.in_err-verdict.ensures.not_yet.1)))
 
 pub returns-in_err-write_text-clause-prefix : goal.returns-in_err-write_text-clause-prefix
 returns-in_err-write_text-clause-prefix g c =

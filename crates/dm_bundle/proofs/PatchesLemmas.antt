@@ -1,0 +1,71 @@
+-- The new patches, one after the other.
+use Rattle.std.proofs.Common.{◌≡◌, ◌<◌, ◌≤◌, ◌↔◌, ◌⊎◌, ℕ, suc, List, [], ◌∷◌, ◌++◌, length, refl, sym, ap, subst, inl, inr, arith}
+use Rattle.std.specs.Prelude.{Contains}
+use Rattle.std.specs.List.{AllByRecursion}
+use Rattle.std.proofs.lemmas.List.{length-append}
+use Rattle.std.proofs.lemmas.List.Elements.{Contains-push_cases, Contains-append_left, Contains-push}
+use Rattle.dm_info.specs.Parts.{Parts}
+use Rattle.dm_info.specs.Spelling.{Stands}
+use Rattle.dm_info.proofs.SpellingLemmas.{one_info, not_both}
+use Rattle.dm_named.specs.Words.{skipped, Begins}
+use Rattle.dm_named.specs.Patches.{Patch, PatchText}
+use Rattle.dm_named.specs.Faults.{InfoFault, info}
+use Rattle.dm_named.specs.declared.fault.FaultKind.{FaultKind}
+use Rattle.dm_named.specs.declared.fault.FaultKind.TheVariants as K
+use Rattle.dm_named.proofs.ManyLemmas.{many_more}
+use Rattle.dm_bundle.specs.Patches.{infos_of, Distinct, SameMembers, NextPatch, NewPatches, AreFew}
+use Rattle.dm_bundle.specs.Faults.{IsDoubled, DueFault, in_patch, no_memory, NewFault}
+use Rattle.dm_bundle.proofs.Members.{distinct_more, infos_more}
+
+pub same_more : (s n is : List Parts) (k : Parts) → SameMembers s is → ((i : Parts) → Contains n i ↔ (Contains s i ⊎ (i ≡ k))) → SameMembers n (is ++ k ∷ [])
+same_more s n is k same noted i = (
+  λ h. elim ((noted i).0 h) [ inl m ↦ Contains-append_left is (k ∷ []) i ((same i).0 m) | inr e ↦ subst (λ (j : Parts). Contains (is ++ k ∷ []) j) (sym e) (Contains-push is k) ],
+  λ h. (noted i).1 (elim (Contains-push_cases is k i h) [ inl m ↦ inl ((same i).1 m) | inr e ↦ inr (sym e) ]),
+)
+
+pub new_more : (text : List ℕ) (ps : List Patch) (mid here : List ℕ) (p : Patch) (after : List ℕ) → NewPatches text ps mid → here ≡ skipped mid → PatchText here p after → (Contains (infos_of ps) p.info → ⊥) → NewPatches text (ps ++ p ∷ []) after
+new_more text ps mid here p after r e s none =
+    record {
+      read = many_more NextPatch text ps mid p after r.read (subst (λ (t : List ℕ). PatchText t p after) e s);
+      distinct = subst Distinct (sym (infos_more ps p)) (distinct_more (infos_of ps) p.info r.distinct none);
+    }
+
+pub count_map : (ps : List Patch) → length (infos_of ps) ≡ length ps
+count_map [] = refl
+count_map (p ∷ ps) = ap suc (count_map ps)
+
+few_all : (ps : List Patch) (p : Patch) → AllByRecursion (λ q. length q.prims ≤ 10000) ps → length p.prims ≤ 10000 → AllByRecursion (λ q. length q.prims ≤ 10000) (ps ++ p ∷ [])
+few_all [] p a f = (f, tt)
+few_all (q ∷ ps) p a f = (a.0, few_all ps p a.1 f)
+
+pub few_more : (ps : List Patch) (p : Patch) → AreFew ps → length ps < 1000 → length p.prims ≤ 10000 → AreFew (ps ++ p ∷ [])
+few_more ps p few room prims = record { count = omega (arith, room, length-append ps (p ∷ [])); prims = few_all ps p few.prims prims }
+
+-- a fault of the information where a patch begins
+pub info_due : (kind : FaultKind) (known : List Parts) (text here : List ℕ) → Begins 91 text → length known < 1000 → InfoFault kind text here → DueFault kind known text here
+info_due K.BadInfo known text here b room f = in_patch b room (λ d. f.1.none d.info d.rest d.stands) (info f)
+info_due K.Inverted known text here b room f = in_patch b room (λ d. not_both text d.info d.rest d.stands f.1) (info f)
+info_due K.NoMemory known text here b room f = no_memory refl
+info_due K.TooLarge known text here b room f = elim f [ ]
+info_due K.NoNewPatches known text here b room f = elim f [ ]
+info_due K.BadDepends known text here b room f = elim f [ ]
+info_due K.BadPatch known text here b room f = elim f [ ]
+info_due K.Unsupported known text here b room f = elim f [ ]
+info_due K.BadPath known text here b room f = elim f [ ]
+info_due K.BadNumber known text here b room f = elim f [ ]
+info_due K.EmptyHunk known text here b room f = elim f [ ]
+info_due K.Unclosed known text here b room f = elim f [ ]
+info_due K.NoContext known text here b room f = elim f [ ]
+info_due K.Doubled known text here b room f = elim f [ ]
+info_due K.TooMany known text here b room f = elim f [ ]
+
+-- the information that stands in front of a named patch is its own
+pub one_front : (text : List ℕ) (i : Parts) (rest : List ℕ) (p : Patch) (after : List ℕ) → Stands text i rest → PatchText text p after → i ≡ p.info
+one_front text i rest p after s t = (one_info text i p.info rest t.after s t.info).0
+
+-- an information that is new is no double
+pub not_doubled : (known : List Parts) (text : List ℕ) (i : Parts) (rest : List ℕ) → Stands text i rest → (Contains known i → ⊥) → IsDoubled known text → ⊥
+not_doubled known text i rest s none d = none (subst (Contains known) (one_info text d.info i d.rest rest d.stands s).0 d.is_known)
+
+pub new_wrong : (kind : FaultKind) (text mid next here : List ℕ) (ps : List Patch) → NewPatches text ps mid → AreFew ps → next ≡ skipped mid → DueFault kind (infos_of ps) next here → NewFault kind text here
+new_wrong kind text mid next here ps r few e w = record { patches = ps; mid = mid; read = r; few = few; wrong = subst (λ (t : List ℕ). DueFault kind (infos_of ps) t here) e w }

@@ -1,0 +1,76 @@
+-- A bundle that is written is read again.
+use Rattle.std.proofs.Common.{◌≡◌, ℕ, List, [], ◌∷◌, ◌++◌, refl, sym, ap, subst, ◌∙◌, arith, inl, append_assoc}
+use Rattle.std.proofs.lemmas.List.{append-nil}
+use Rattle.std.specs.List.{AllByRecursion, flat_map}
+use Rattle.dm_named.specs.Many.{Many}
+use Rattle.dm_named.specs.Words.{skipped, Word}
+use Rattle.dm_named.specs.Patches.{Patch, PatchText, IsGoodPatch, RunEnds, prim_words, unsupported_words}
+use Rattle.dm_named.specs.Canonical.{info_line, patch_text}
+use Rattle.dm_named.specs.Laws.{NoLine}
+use Rattle.dm_named.proofs.NoPatch.{no_lead}
+use Rattle.dm_named.proofs.PatchRoundTrip.{front_same, patch_back, infos_back, infos_skip}
+use Rattle.dm_bundle.specs.Patches.{NextPatch}
+use Rattle.dm_bundle.specs.Context.{context_word}
+use Rattle.dm_bundle.specs.Bundles.{Contents, IsGoodBundle, BundleText}
+use Rattle.dm_bundle.specs.Canonical.{bundle_text}
+
+-- new patches stand in a text; a newline may be left behind them
+record ReadsPatches (text : List ℕ) (ps : List Patch) (rest : List ℕ) : Type 0 where
+  pub mid : List ℕ
+  pub read : Many NextPatch text ps mid
+  pub left : skipped mid ≡ skipped rest
+
+patches_skip : (t u : List ℕ) (ps : List Patch) (rest : List ℕ) → skipped t ≡ skipped u → ReadsPatches t ps rest → ReadsPatches u ps rest
+patches_skip t u [] rest e r = record { mid = u; read = refl; left = sym e ∙ (ap skipped r.read ∙ r.left) }
+patches_skip t u (p ∷ ps) rest e r = record { mid = r.mid; read = (r.read.0, subst (λ (s : List ℕ). PatchText s p r.read.0) e r.read.1, r.read.2); left = r.left }
+
+no_line_at : (b : ℕ) (rest : List ℕ) → (b ≡ 32 → ⊥) → (b ≡ 45 → ⊥) → (b ≡ 43 → ⊥) → NoLine (b ∷ rest)
+no_line_at b rest x y z = record { space = λ o. x (front_same b 32 rest o.0 o.1); old = λ o. y (front_same b 45 rest o.0 o.1); new = λ o. z (front_same b 43 rest o.0 o.1) }
+
+run_ends_info : (rest : List ℕ) → RunEnds (91 ∷ rest)
+run_ends_info rest =
+    record { prims = no_lead 91 prim_words (91 ∷ rest) rest refl refl; others = no_lead 91 unsupported_words (91 ∷ rest) rest refl refl; paren = λ o. omega (arith, front_same 91 40 rest o.0 o.1) }
+
+run_ends_context : (rest : List ℕ) → RunEnds (67 ∷ rest)
+run_ends_context rest =
+    record { prims = no_lead 67 prim_words (67 ∷ rest) rest refl refl; others = no_lead 67 unsupported_words (67 ∷ rest) rest refl refl; paren = λ o. omega (arith, front_same 67 40 rest o.0 o.1) }
+
+no_line_patches : (ps : List Patch) (rest : List ℕ) → NoLine rest → NoLine (flat_map patch_text ps ++ rest)
+no_line_patches [] rest none = none
+no_line_patches (p ∷ ps) rest none = no_line_at 91 _ (λ e. omega (arith, e)) (λ e. omega (arith, e)) (λ e. omega (arith, e))
+
+run_ends_patches : (ps : List Patch) (rest : List ℕ) → RunEnds (skipped rest) → RunEnds (skipped (flat_map patch_text ps ++ rest))
+run_ends_patches [] rest ends = ends
+run_ends_patches (p ∷ ps) rest ends = run_ends_info _
+
+patches_back : (ps : List Patch) (rest : List ℕ) → AllByRecursion IsGoodPatch ps → NoLine rest → RunEnds (skipped rest) → ReadsPatches (flat_map patch_text ps ++ rest) ps rest
+patches_back [] rest good none ends = record { mid = rest; read = refl; left = refl }
+patches_back (p ∷ ps) rest good none ends =
+    let tail = flat_map patch_text ps ++ rest in
+    let one = patch_back p tail good.0 (no_line_patches ps rest none) (run_ends_patches ps rest ends) in
+    let more = patches_skip tail one.after ps rest (sym one.left) (patches_back ps rest good.1 none ends) in
+    let whole : patch_text p ++ tail ≡ (patch_text p ++ flat_map patch_text ps) ++ rest = sym (append_assoc (patch_text p) (flat_map patch_text ps) rest) in
+    record { mid = more.mid; read = (one.after, subst (λ (t : List ℕ). PatchText (skipped t) p one.after) whole one.read, more.read); left = more.left }
+
+nothing : (rest : List ℕ) → [] ≡ 91 ∷ rest → ⊥
+nothing rest e = cc
+
+pub round_trip : (b : Contents) → IsGoodBundle b → BundleText (bundle_text b) b
+round_trip b good =
+    let infos = flat_map info_line b.context in
+    let context = 10 ∷ (context_word ++ 10 ∷ 10 ∷ infos) in
+    let patches = flat_map patch_text b.patches ++ context in
+    let ps = patches_back b.patches context good.patches (no_line_at 10 _ (λ e. omega (arith, e)) (λ e. omega (arith, e)) (λ e. omega (arith, e))) (run_ends_context _) in
+    let new = patches_skip patches (10 ∷ patches) b.patches context refl ps in
+    let is = infos_skip (infos ++ []) (10 ∷ 10 ∷ infos) b.context [] (ap skipped (append-nil infos)) (infos_back b.context [] good.context) in
+    record {
+      new = 10 ∷ patches;
+      heading = record { summary = []; here = bundle_text b; before = refl; line = record { free = (refl, (refl, (refl, (refl, (refl, (refl, (refl, (refl, (refl, (refl, (refl, (refl, tt)))))))))))); parts = inl refl } };
+      sections = record {
+        between = new.mid;
+        behind = 10 ∷ 10 ∷ infos;
+        patches = record { read = new.read; distinct = good.no_doubles.distinct };
+        word = subst (λ (t : List ℕ). Word t context_word (10 ∷ 10 ∷ infos)) (sym new.left) (record { parts = refl; solid = (refl, (refl, (refl, (refl, (refl, (refl, (refl, (refl, tt)))))))); ends = refl });
+        context = record { rest = is.mid; read = is.read; ends = λ o. nothing o.0 (sym is.left ∙ o.1); apart = good.no_doubles.apart };
+      };
+    }

@@ -1,0 +1,18 @@
+use Rattle.std.proofs.Common.{◌∙◌, sym, subst, refl, List}
+use Rattle.std.proofs.lemmas.List.{take_all}
+use Rattle.std.proofs.lemmas.Bool.{false≢true}
+use Rattle.std.specs.Prelude.{Contains}
+use Rattle.dm_named.specs.Patches.{Patch}
+use Rattle.dm_bundle.specs.Patches.{infos_of}
+use Rattle.dm_bundle.proofs.Members.{none_more, info_in}
+use Rattle.dm_bundle.proofs.bundle.is_among.Goals as goal
+
+pub returns-then-same : goal.returns-then-same
+returns-then-same g c = info_in c.args.patches.now c.loop-patch.patch-index c.patch-item.result c.args.info.now c.loop-patch-test.true c.patch-item.is (sym c.info.ensures ∙ c.if-same.ensures.0 refl)
+
+pub loop-patch-preserved : goal.loop-patch-preserved
+loop-patch-preserved g c =
+    none_more c.args.patches.now c.loop-patch.patch-index c.patch-item.result c.args.info.now c.loop-patch-test.true c.patch-item.is c.loop-patch.invariant (λ e. false≢true (c.if-same.ensures.1 (c.info.ensures ∙ e)))
+
+pub returns : goal.returns
+returns g c = subst (λ (ps : List Patch). Contains (infos_of ps) c.args.info.now → ⊥) (take_all c.loop-patch.patch-index c.args.patches.now c.loop-patch-test.false) c.loop-patch.invariant

@@ -1,0 +1,9 @@
+use Rattle.dm_bundle.proofs.OneBundle.{one_bundle}
+use Rattle.dm_bundle.proofs.NoBundle.{fault_excludes_bundle}
+use Rattle.dm_bundle.proofs.reading.read_bundle.Goals as goal
+
+pub returns-in-Ok-clause-only : goal.returns-in-Ok-clause-only
+returns-in-Ok-clause-only g c = λ b t. one_bundle c.args.text.now c.in-Ok.bundle b c.in-Ok.ensures.ok t
+
+pub returns-in-Err-clause-none : goal.returns-in-Err-clause-none
+returns-in-Err-clause-none g c = λ k. fault_excludes_bundle c.args.text.now c.in-Err.e.kind c.in-Err.e.at k (c.in-Err.ensures.err k.memory)

@@ -1,0 +1,12 @@
+use Rattle.std.proofs.Common.{arith}
+use Rattle.std.proofs.lemmas.List.{take_all}
+use Rattle.std.proofs.lemmas.Grind.{common_steps}
+use Rattle.dm_info.specs.Parts.{IsInfo}
+use Rattle.dm_named.proofs.NamedLemmas.{all_more}
+use Rattle.dm_bundle.proofs.writing.push_context.Goals as goal
+
+pub loop-info-preserved : goal.loop-info-preserved
+loop-info-preserved g c = record { text = grind (arith, common_steps); good = all_more IsInfo c.args.context.now c.loop-info.info-index c.info-item.result c.loop-info-test.true c.info-item.is c.log_len-count.ensures.good c.loop-info.invariant.good }
+
+pub returns-clause-good : goal.returns-clause-good
+returns-clause-good g c = rw (take_all c.loop-info.info-index c.args.context.now c.loop-info-test.false) at c.loop-info.invariant.good

@@ -1,0 +1,38 @@
+-- What a bundle is, and the texts that stand for it (Darcs manual, "darcs send"; Darcs.Patch.Bundle).
+use Rattle.std.specs.Prelude.{ℕ, List}
+use Rattle.std.specs.List.{AllByRecursion}
+use Rattle.dm_info.specs.Parts.{Parts, IsInfo}
+use Rattle.dm_named.specs.Patches.{Patch, IsGoodPatch}
+use Rattle.dm_bundle.specs.Heading.{Heading}
+use Rattle.dm_bundle.specs.Patches.{infos_of, Distinct, NewPatches}
+use Rattle.dm_bundle.specs.Context.{ContextWord, Apart, Context}
+
+-- the new patches, oldest first, and the informations of the context
+pub record Contents : Type 0 where
+  pub patches : List Patch
+  pub context : List Parts
+
+-- no information is twice among the new patches, nor both there and in the context
+pub record HasNoDoubles (patches : List Patch) (context : List Parts) : Type 0 where
+  pub distinct : Distinct (infos_of patches)
+  pub apart : Apart (infos_of patches) context
+
+-- what a bundle may hold
+pub record IsGoodBundle (b : Contents) : Type 0 where
+  pub patches : AllByRecursion IsGoodPatch b.patches
+  pub context : AllByRecursion IsInfo b.context
+  pub no_doubles : HasNoDoubles b.patches b.context
+
+-- behind the heading: the new patches, the word `Context:` and the context, each from where the one before it ends
+pub record Sections (text : List ℕ) (b : Contents) : Type 0 where
+  pub between : List ℕ
+  pub behind : List ℕ
+  pub patches : NewPatches text b.patches between
+  pub word : ContextWord between behind
+  pub context : Context (infos_of b.patches) behind b.context
+
+-- the text stands for the bundle: the heading, and the rest behind it
+pub record BundleText (text : List ℕ) (b : Contents) : Type 0 where
+  pub new : List ℕ
+  pub heading : Heading text new
+  pub sections : Sections new b

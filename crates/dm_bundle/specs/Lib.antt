@@ -1,0 +1,7 @@
+pub mod Heading
+pub mod Patches
+pub mod Context
+pub mod Bundles
+pub mod Canonical
+pub mod Faults
+pub mod Laws

@@ -1,0 +1,34 @@
+-- The new patches of a bundle, oldest first.
+use Rattle.std.specs.Prelude.{◌≤◌, ◌↔◌, ℕ, List, [], ◌∷◌, length, map, Contains}
+use Rattle.std.specs.List.{AllByRecursion}
+use Rattle.dm_info.specs.Parts.{Parts}
+use Rattle.dm_named.specs.Many.{Many}
+use Rattle.dm_named.specs.Words.{skipped}
+use Rattle.dm_named.specs.Patches.{Patch, PatchText}
+
+-- the informations of patches
+abbrev pub infos_of : List Patch → List Parts
+infos_of patches = map (λ p. p.info) patches
+
+-- no information is twice among these
+abbrev pub Distinct : List Parts → Type 0
+Distinct [] = Unit {0}
+Distinct (i ∷ is) = (Contains is i → ⊥) × Distinct is
+
+-- what is in one of these is in the other
+abbrev pub SameMembers : List Parts → List Parts → Type 0
+SameMembers xs ys = (i : Parts) → Contains xs i ↔ Contains ys i
+
+-- a named patch behind white space
+abbrev pub NextPatch : List ℕ → Patch → List ℕ → Type 0
+NextPatch text p rest = PatchText (skipped text) p rest
+
+-- named patches one after the other, and no information twice among them
+pub record NewPatches (text : List ℕ) (patches : List Patch) (rest : List ℕ) : Type 0 where
+  pub read : Many NextPatch text patches rest
+  pub distinct : Distinct (infos_of patches)
+
+-- at most 1,000 new patches, each of at most 10,000 primitives
+pub record AreFew (patches : List Patch) : Type 0 where
+  pub count : length patches ≤ 1000
+  pub prims : AllByRecursion (λ p. length p.prims ≤ 10000) patches

@@ -1,0 +1,51 @@
+//! The context of a bundle.
+
+ghost use Rattle.std.specs.Prelude.{◌≡◌, ◌≢◌, ◌≤◌, length, drop, IfOk, IfErr, MatchBool};
+ghost use Rattle.dm_bundle.specs.Context.{context_word, Context};
+ghost use Rattle.dm_bundle.specs.Faults.{ContextFault};
+
+use crate::known::Known;
+use dm_info::Info;
+use dm_named::text::{begins_at, info_at, skip};
+use dm_named::{FaultKind, ReadFault};
+use std::alloc::Allocator;
+
+/// Whether a word is that of the context.
+pub(crate) fn is_context_word(word: &[u8]) -> bool
+    ensures { MatchBool result (word.now ≡ context_word) (word.now ≢ context_word) }
+{
+    word == b"Context:".as_slice()
+}
+
+/// As many informations as stand there, each behind white space, and none of a known patch.
+pub(crate) fn context_at<A: Allocator + Copy>(
+    alloc: A,
+    known: &Known<A>,
+    text: &[u8],
+    start: usize,
+) -> Result<Vec<Info<A>, A>, ReadFault>
+    requires { start ≤ length text.now }
+    ensures ok { IfOk result (λ infos. Context known.now (drop start text.now) infos.items) }
+    ensures err { IfErr result (λ e. ContextFault e.kind known.now (drop start text.now) (drop e.at text.now)) }
+    ensures place { IfErr result (λ e. e.at ≤ length text.now) }
+{
+    let mut infos = Vec::new(alloc);
+    let mut here = skip(text, start);
+    while begins_at(text, here, b'[') {
+        let (info, next) = info_at(alloc, text, here)?;
+        if known.contains(&info) {
+            return Err(ReadFault {
+                kind: FaultKind::Doubled,
+                at: here,
+            });
+        }
+        if infos.push(info).is_err() {
+            return Err(ReadFault {
+                kind: FaultKind::NoMemory,
+                at: here,
+            });
+        }
+        here = skip(text, next);
+    }
+    Ok(infos)
+}

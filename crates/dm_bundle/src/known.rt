@@ -1,0 +1,50 @@
+//! The informations of new patches, in the order of their comparison.
+
+ghost use Rattle.std.specs.Prelude.{◌≡◌, ◌⊎◌, ◌↔◌, [], Contains, MatchBool, IfOk, OnOk};
+ghost use Rattle.dm_info.specs.Parts.{Parts};
+
+use dm_info::Info;
+use std::alloc::{AllocError, Allocator};
+use std::collections::BTreeSet;
+use std::marker::Model;
+
+/// A set of informations: to look one up costs some ten comparisons at 1,000 new patches.
+#[derive(Drop)]
+pub(crate) struct Known<A: Allocator> {
+    infos: BTreeSet<Info<A>, A>,
+}
+
+impl<A: Allocator> Model for Known<A> {
+    ghost use Rattle.std.specs.Prelude.{List};
+    ghost use Rattle.dm_info.specs.Parts.{Parts};
+
+    ghost Value = { List Parts };
+
+    ghost view = { λ k. k.infos.keys };
+}
+
+impl<A: Allocator + Copy> Known<A> {
+    pub(crate) fn new(alloc: A) -> Known<A>
+        ensures { result ≡ [] }
+    {
+        Known {
+            infos: BTreeSet::new(alloc),
+        }
+    }
+
+    /// Whether an information is known.
+    pub(crate) fn contains(&self, info: &Info<A>) -> bool
+        ensures { MatchBool result (Contains self.now info.now) (Contains self.now info.now → ⊥) }
+    {
+        self.infos.contains(info)
+    }
+
+    /// Notes an information, and answers whether it was new.
+    pub(crate) fn insert(&mut self, info: Info<A>) -> Result<bool, AllocError>
+        ensures is_new { IfOk result (λ is_new. MatchBool is_new (Contains self.old info → ⊥) (Contains self.old info)) }
+        ensures noted { OnOk result ((i : Parts) → Contains self.new i ↔ (Contains self.old i ⊎ (i ≡ info))) }
+    {
+        let is_new = self.infos.insert(info)?;
+        Ok(is_new)
+    }
+}

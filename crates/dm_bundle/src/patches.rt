@@ -1,0 +1,105 @@
+//! The new patches of a bundle, one after the other.
+
+ghost use Rattle.std.specs.Prelude.{◌≡◌, ◌≤◌, ◌<◌, [], ◌∷◌, ◌++◌, length, drop, Contains, IfOk, IfErr, OnOk};
+ghost use Rattle.dm_named.specs.Words.{skipped, Begins};
+ghost use Rattle.dm_named.specs.Patches.{PatchText};
+ghost use Rattle.dm_bundle.specs.Patches.{infos_of, SameMembers, NewPatches, AreFew};
+ghost use Rattle.dm_bundle.specs.Faults.{DueFault, NewFault};
+
+use crate::known::Known;
+use dm_named::text::{begins_at, info_at, skip};
+use dm_named::{FaultKind, Named, ReadFault, read_named};
+use std::alloc::Allocator;
+
+/// The most new patches that a bundle may have.
+const MAX_PATCHES: usize = 1000;
+
+/// The new patches of a text, the informations of these, and the place behind the last of them.
+#[derive(Drop)]
+pub(crate) struct Start<A: Allocator> {
+    pub(crate) patches: Vec<Named<A>, A>,
+    pub(crate) known: Known<A>,
+    pub(crate) end: usize,
+}
+
+/// The named patch at a place where one begins, behind these patches. Its information is known from
+/// then on.
+fn patch_at<A: Allocator + Copy>(
+    alloc: A,
+    text: &[u8],
+    here: usize,
+    patches: &[Named<A>],
+    known: &mut Known<A>,
+) -> Result<(Named<A>, usize), ReadFault>
+    requires begins { Begins 91 (drop here text.now) }
+    requires counted { length patches.now ≤ 1000 }
+    requires known { SameMembers known.old (infos_of patches.now) }
+    ensures ok { IfOk result (λ x. PatchText (drop here text.now) x.0 (drop x.1 text.now)) }
+    ensures within { IfOk result (λ x. x.1 ≤ length text.now) }
+    ensures room { OnOk result (length patches.now < 1000) }
+    ensures few { IfOk result (λ x. length x.0.prims ≤ 10000) }
+    ensures is_new { IfOk result (λ x. Contains (infos_of patches.now) x.0.info → ⊥) }
+    ensures noted { IfOk result (λ x. SameMembers known.new (infos_of patches.now ++ x.0.info ∷ [])) }
+    ensures err { IfErr result (λ e. DueFault e.kind (infos_of patches.now) (drop here text.now) (drop e.at text.now)) }
+    ensures place { IfErr result (λ e. here ≤ length text.now → e.at ≤ length text.now) }
+{
+    if patches.len() >= MAX_PATCHES {
+        return Err(ReadFault {
+            kind: FaultKind::TooMany,
+            at: here,
+        });
+    }
+    // The information is read by itself first: a double is told before a fault in the rest of the patch.
+    let (info, _) = info_at(alloc, text, here)?;
+    let Ok(is_new) = known.insert(info) else {
+        return Err(ReadFault {
+            kind: FaultKind::NoMemory,
+            at: here,
+        });
+    };
+    if !is_new {
+        return Err(ReadFault {
+            kind: FaultKind::Doubled,
+            at: here,
+        });
+    }
+    let (patch, next) = read_named(alloc, text, here)?;
+    Ok((patch, next))
+}
+
+/// As many named patches as stand there, each behind white space.
+pub(crate) fn patches_at<A: Allocator + Copy>(
+    alloc: A,
+    text: &[u8],
+    start: usize,
+) -> Result<Start<A>, ReadFault>
+    requires { start ≤ length text.now }
+    ensures ok { IfOk result (λ s. NewPatches (drop start text.now) s.patches.items (drop s.end text.now)) }
+    ensures known { IfOk result (λ s. SameMembers s.known (infos_of s.patches.items)) }
+    ensures few { IfOk result (λ s. AreFew s.patches.items) }
+    ensures closed { IfOk result (λ s. Begins 91 (skipped (drop s.end text.now)) → ⊥) }
+    ensures within { IfOk result (λ s. s.end ≤ length text.now) }
+    ensures err { IfErr result (λ e. NewFault e.kind (drop start text.now) (drop e.at text.now)) }
+    ensures place { IfErr result (λ e. e.at ≤ length text.now) }
+{
+    let mut patches = Vec::new(alloc);
+    let mut known = Known::new(alloc);
+    let mut end = start;
+    let mut here = skip(text, end);
+    while begins_at(text, here, b'[') {
+        let (patch, next) = patch_at(alloc, text, here, &patches, &mut known)?;
+        if patches.push(patch).is_err() {
+            return Err(ReadFault {
+                kind: FaultKind::NoMemory,
+                at: here,
+            });
+        }
+        end = next;
+        here = skip(text, end);
+    }
+    Ok(Start {
+        patches,
+        known,
+        end,
+    })
+}

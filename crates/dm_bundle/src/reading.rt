@@ -1,0 +1,94 @@
+//! Reading a bundle.
+
+ghost use Rattle.std.specs.Prelude.{◌≡◌, ◌≢◌, ◌≤◌, ◌<◌, length, drop, IfOk, IfErr, IsErrOf};
+ghost use Rattle.dm_bundle.specs.Patches.{AreFew};
+ghost use Rattle.dm_bundle.specs.Bundles.{Contents, Sections, BundleText};
+ghost use Rattle.dm_bundle.specs.Faults.{HasNoHeading, BehindHeading, FaultAt, Excludes};
+
+use crate::bundle::Bundle;
+use crate::context::{context_at, is_context_word};
+use crate::heading::heading_at;
+use crate::patches::{Start, patches_at};
+use dm_named::text::{skip, word_at};
+use dm_named::{FaultKind, ReadFault};
+use std::alloc::Allocator;
+
+/// The most bytes that a text may have.
+const MAX_TEXT: usize = 4_194_304;
+
+/// The bundle of what stands behind the heading.
+fn sections_at<A: Allocator + Copy>(
+    alloc: A,
+    text: &[u8],
+    new: usize,
+) -> Result<Bundle<A>, ReadFault>
+    requires { new ≤ length text.now }
+    ensures ok { IfOk result (λ b. Sections (drop new text.now) b) }
+    ensures few { IfOk result (λ b. AreFew b.patches) }
+    ensures err { IfErr result (λ e. BehindHeading e.kind (drop new text.now) (drop e.at text.now)) }
+    ensures place { IfErr result (λ e. e.at ≤ length text.now) }
+{
+    let Start {
+        patches,
+        known,
+        end,
+    } = patches_at(alloc, text, new)?;
+    let here = skip(text, end);
+    let (word, behind) = word_at(text, here);
+    if !is_context_word(word) {
+        return Err(ReadFault {
+            kind: FaultKind::NoContext,
+            at: here,
+        });
+    }
+    let context = context_at(alloc, &known, text, behind)?;
+    Ok(Bundle::without_doubles(patches, context))
+}
+
+/// The bundle of a text, or the text's fault.
+fn bundle_of<A: Allocator + Copy>(alloc: A, text: &[u8]) -> Result<Bundle<A>, ReadFault>
+    ensures ok { IfOk result (λ b. BundleText text.now b) }
+    ensures few { IfOk result (λ b. AreFew b.patches) }
+    ensures err { IfErr result (λ e. e.kind ≢ FaultKind.NoMemory → FaultAt text.now e.kind e.at) }
+    ensures too_large { 4194304 < length text.now → IsErrOf result (record { kind = FaultKind.TooLarge; at = 4194304 }) }
+    ensures no_heading { length text.now ≤ 4194304 → HasNoHeading text.now → IsErrOf result (record { kind = FaultKind.NoNewPatches; at = length text.now }) }
+{
+    if text.len() > MAX_TEXT {
+        return Err(ReadFault {
+            kind: FaultKind::TooLarge,
+            at: MAX_TEXT,
+        });
+    }
+    let Some(new) = heading_at(text) else {
+        return Err(ReadFault {
+            kind: FaultKind::NoNewPatches,
+            at: text.len(),
+        });
+    };
+    let bundle = sections_at(alloc, text, new)?;
+    Ok(bundle)
+}
+
+/// The bundle that a text stands for. What follows the context is left unread.
+///
+/// The fault tells what is missing where, from left to right. `NoMemory` is answered where a growth
+/// was refused, and never for a text that is too large or has no heading.
+pub fn read_bundle<A: Allocator + Copy>(alloc: A, text: &[u8]) -> Result<Bundle<A>, ReadFault>
+    // What is read stands there, and nothing else does.
+    ensures ok { IfOk result (λ b. BundleText text.now b) }
+    ensures only { IfOk result (λ b. (c : Contents) → BundleText text.now c → b ≡ c) }
+    // At most 1,000 new patches of at most 10,000 primitives.
+    ensures few { IfOk result (λ b. AreFew b.patches) }
+    // What is wrong, and where.
+    ensures err { IfErr result (λ e. e.kind ≢ FaultKind.NoMemory → FaultAt text.now e.kind e.at) }
+    // A text with a fault is no bundle's, unless it is too large or has too many parts.
+    ensures none { IfErr result (λ e. Excludes e.kind → (b : Contents) → BundleText text.now b → ⊥) }
+    // These two answers take no memory.
+    ensures too_large { 4194304 < length text.now → IsErrOf result (record { kind = FaultKind.TooLarge; at = 4194304 }) }
+    ensures no_heading { length text.now ≤ 4194304 → HasNoHeading text.now → IsErrOf result (record { kind = FaultKind.NoNewPatches; at = length text.now }) }
+{
+    match bundle_of(alloc, text) {
+        Ok(bundle) => Ok(bundle),
+        Err(e) => Err(e),
+    }
+}

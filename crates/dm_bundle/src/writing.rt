@@ -1,0 +1,62 @@
+//! Writing a bundle.
+
+ghost use Rattle.std.specs.Prelude.{◌≡◌, ◌++◌, IfOk, OnOk};
+ghost use Rattle.std.specs.List.{AllByRecursion, flat_map};
+ghost use Rattle.dm_info.specs.Parts.{IsInfo};
+ghost use Rattle.dm_named.specs.Patches.{IsGoodPatch};
+ghost use Rattle.dm_named.specs.Canonical.{info_line, patch_text};
+ghost use Rattle.dm_bundle.specs.Bundles.{IsGoodBundle, BundleText};
+ghost use Rattle.dm_bundle.specs.Canonical.{bundle_text};
+
+use crate::bundle::Bundle;
+use dm_info::{Info, write_info};
+use dm_named::{Named, write_named};
+use std::alloc::{AllocError, Allocator};
+
+fn push_patches<A: Allocator, B: Allocator + Copy>(
+    patches: &[Named<A>],
+    out: &mut Vec<u8, B>,
+) -> Result<(), AllocError>
+    ensures text { OnOk result (out.new.items ≡ out.old.items ++ flat_map patch_text patches.now) }
+    ensures good { OnOk result (AllByRecursion IsGoodPatch patches.now) }
+{
+    for patch in patches {
+        write_named(patch, out)?;
+    }
+    Ok(())
+}
+
+fn push_context<A: Allocator, B: Allocator + Copy>(
+    context: &[Info<A>],
+    out: &mut Vec<u8, B>,
+) -> Result<(), AllocError>
+    ensures text { OnOk result (out.new.items ≡ out.old.items ++ flat_map info_line context.now) }
+    ensures good { OnOk result (AllByRecursion IsInfo context.now) }
+{
+    for info in context {
+        write_info(info, out)?;
+        out.push(b'\n')?;
+        // A reader tells that the information is a good one.
+        let _count = info.log_len();
+    }
+    Ok(())
+}
+
+/// The canonical text of a bundle, the context in its order (`darcs send` lists the newest first). A
+/// bundle past the limits of `read_bundle` is written too.
+pub fn write_bundle<A: Allocator, B: Allocator + Copy>(
+    alloc: B,
+    bundle: &Bundle<A>,
+) -> Result<Vec<u8, B>, AllocError>
+    ensures text { IfOk result (λ text. text.items ≡ bundle_text bundle.now) }
+    ensures good { OnOk result (IsGoodBundle bundle.now) }
+    // So the text stands for the bundle.
+    ensures stands { IfOk result (λ text. BundleText text.items bundle.now) }
+{
+    let mut text = Vec::new(alloc);
+    text.extend_from_slice(b"New patches:\n\n")?;
+    push_patches(bundle.new_patches(), &mut text)?;
+    text.extend_from_slice(b"\nContext:\n\n")?;
+    push_context(bundle.context(), &mut text)?;
+    Ok(text)
+}

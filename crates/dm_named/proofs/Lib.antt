@@ -1,0 +1,13 @@
+pub mod WordLemmas
+pub mod NameLemmas
+pub mod ManyLemmas
+pub mod PathLemmas
+pub mod GroupLemmas
+pub mod PrimLemmas
+pub mod BodyLemmas
+pub mod OnePatch
+pub mod NoPatch
+pub mod NameRoundTrip
+pub mod PatchRoundTrip
+pub mod GoodParts
+pub mod NamedLemmas

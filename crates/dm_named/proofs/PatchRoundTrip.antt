@@ -1,0 +1,321 @@
+-- Written primitives and named patches are read again.
+use Rattle.std.proofs.Common.{◌≡◌, ◌≤◌, ◌<◌, ◌^◌, ℕ, List, [], ◌∷◌, ◌++◌, refl, sym, ap, subst, ◌∙◌, arith, inl, inr, false, append_assoc}
+use Rattle.std.proofs.lemmas.List.{append-nil}
+use Rattle.std.specs.Prelude.{codes, ◌⊎◌}
+use Rattle.std.specs.List.{AllByRecursion, flat_map}
+use Rattle.std.specs.Fmt.{decimal}
+use Rattle.dm_info.proofs.SpellingLemmas.{canonical_stands}
+use Rattle.dm_info.specs.Parts.{Parts, IsInfo}
+use Rattle.dm_info.specs.Spelling.{Stands, canonical}
+use Rattle.dm_tree.specs.Paths.{Path}
+use Rattle.dm_prim.specs.Primitives.{Prim, AddFile, RmFile, AddDir, RmDir, Hunk, At, Move}
+use Rattle.dm_tree.specs.Parts.{IsGoodPath}
+use Rattle.dm_prim.specs.Commuting.{IsGoodPrim, IsGoodWork}
+use Rattle.dm_named.specs.Words.{NoNewline, is_white, skipped, EndsWord, number_from, Begins, MarkedLine, NumberLine}
+use Rattle.dm_named.specs.Paths.{NoSlash, EndsPiece, SlashName, NameByte, PathWord}
+use Rattle.dm_named.specs.Patches.{WordAndPath, WordAndPaths, HunkBody, HunkText, PrimText, NextPrim, NextInfo, Dependencies, Body, RunEnds, Patch, IsGoodPatch}
+use Rattle.dm_named.proofs.GoodParts.{path_free, free_lines, some_lines}
+use Rattle.dm_named.specs.Canonical.{name_text, info_line, byte_text, path_text, lines_text, prim_text, deps_text, body_text, patch_text}
+use Rattle.dm_named.specs.Laws.{NoLine, ReadsPrim, ReadsPatch}
+use Rattle.dm_named.specs.Many.{Many}
+use Rattle.dm_named.proofs.NameRoundTrip.{Plain, decimal_numeral, Numeral, bytes_back, name_plain, digits_plain}
+
+plain_slash : (xs : List ℕ) → AllByRecursion Plain xs → NoSlash xs
+plain_slash [] f = tt
+plain_slash (x ∷ xs) f = (f.0.1, plain_slash xs f.1)
+
+plain_solid : (xs : List ℕ) → AllByRecursion Plain xs → AllByRecursion (λ b. is_white b ≡ false) xs
+plain_solid [] f = tt
+plain_solid (x ∷ xs) f = (f.0.0, plain_solid xs f.1)
+
+solid_append : (xs ys : List ℕ) → AllByRecursion (λ b. is_white b ≡ false) xs → AllByRecursion (λ b. is_white b ≡ false) ys → AllByRecursion (λ b. is_white b ≡ false) (xs ++ ys)
+solid_append [] ys f g = g
+solid_append (x ∷ xs) ys f g = (f.0, solid_append xs ys f.1 g)
+
+ends_names : (ns : Path) → EndsPiece (flat_map name_text ns)
+ends_names [] = inl refl
+ends_names (n ∷ ns) = inr (flat_map byte_text n ++ flat_map name_text ns, refl)
+
+whole_name : (n : List ℕ) → Many NameByte (flat_map byte_text n) n []
+whole_name n = subst (λ (t : List ℕ). Many NameByte t n []) (append-nil (flat_map byte_text n)) (bytes_back n [])
+
+names_back : (ns : Path) → AllByRecursion NoSlash ns → Many SlashName (flat_map name_text ns) ns []
+names_back [] f = refl
+names_back (n ∷ ns) f = (
+  flat_map name_text ns,
+  record {
+    inside = flat_map byte_text n ++ flat_map name_text ns;
+    piece = flat_map byte_text n;
+    slash = refl;
+    cut = record { parts = refl; free = plain_slash (flat_map byte_text n) (name_plain n f.0); ends = ends_names ns };
+    spelled = whole_name n;
+  },
+  names_back ns f.1,
+)
+
+names_solid : (ns : Path) → AllByRecursion NoSlash ns → AllByRecursion (λ b. is_white b ≡ false) (flat_map name_text ns)
+names_solid [] f = tt
+names_solid (n ∷ ns) f = (refl, solid_append (flat_map byte_text n) (flat_map name_text ns) (plain_solid (flat_map byte_text n) (name_plain n f.0)) (names_solid ns f.1))
+
+-- a path's text is read again, whatever follows that ends a word
+pub path_back : (p : Path) (rest : List ℕ) → IsGoodPath p → EndsWord rest → PathWord (path_text p ++ rest) p rest
+path_back p rest good ends =
+    record {
+      word = path_text p;
+      stands = record { parts = refl; solid = (refl, names_solid p (path_free p good)); ends = ends };
+      spelled = record { names = flat_map name_text p; dot = refl; each = names_back p (path_free p good); good = good };
+    }
+
+-- ---- primitives
+
+single_back : (word : List ℕ) (p : Path) (rest : List ℕ) → AllByRecursion (λ b. is_white b ≡ false) word → IsGoodPath p → EndsWord rest → WordAndPath word (word ++ 32 ∷ (path_text p ++ rest)) p rest
+single_back word p rest solid good ends =
+    record { after = 32 ∷ (path_text p ++ rest); named = record { parts = refl; solid = solid; ends = refl }; path = path_back p rest good ends }
+
+lines_back : (b : ℕ) (lines : List (List ℕ)) (rest : List ℕ) → AllByRecursion NoNewline lines → Many (MarkedLine b) (lines_text b lines ++ rest) lines rest
+lines_back b [] rest f = refl
+lines_back b (l ∷ ls) rest f = (
+  lines_text b ls ++ rest,
+  record {
+    inside = l ++ 10 ∷ (lines_text b ls ++ rest);
+    mark = ap (λ (t : List ℕ). b ∷ t) (append_assoc (l ++ 10 ∷ []) (lines_text b ls) rest ∙ append_assoc l (10 ∷ []) (lines_text b ls ++ rest));
+    read = record { free = f.0; parts = inl refl };
+  },
+  lines_back b ls rest f.1,
+)
+
+pub front_same : (c b : ℕ) (x y : List ℕ) → c ∷ x ≡ b ∷ y → c ≡ b
+front_same c b x y e = cc
+
+other_front : (b c : ℕ) (lines : List (List ℕ)) (rest : List ℕ) → (c ≡ b → ⊥) → (Begins b rest → ⊥) → Begins b (lines_text c lines ++ rest) → ⊥
+other_front b c [] rest other none o = none o
+other_front b c (l ∷ ls) rest other none o = other (front_same c b (((l ++ 10 ∷ []) ++ lines_text c ls) ++ rest) o.0 o.1)
+
+number_back : (n : ℕ) (rest : List ℕ) → 1 ≤ n → n < 2 ^ 32 → NumberLine (decimal n ++ 10 ∷ rest) n rest
+number_back n rest low high =
+    let d = decimal_numeral n (omega (arith, high)) in
+    record {
+      digits = decimal n;
+      after = 10 ∷ rest;
+      word = record { parts = refl; solid = plain_solid (decimal n) (digits_plain (decimal n) d.each); ends = refl };
+      number = record { each = d.each; value = d.value; low = low; high = high };
+      end = record { blank = []; line = record { free = tt; parts = inl refl }; white = tt };
+    }
+
+skipped_solid : (b : ℕ) (text : List ℕ) → is_white b ≡ false → skipped (b ∷ text) ≡ b ∷ text
+skipped_solid b text e = rw e refl
+
+digits_skipped : (ds rest : List ℕ) → (ds ≡ [] → ⊥) → AllByRecursion Plain ds → skipped (ds ++ rest) ≡ ds ++ rest
+digits_skipped [] rest some f = absurd (some refl)
+digits_skipped (d ∷ ds) rest some f = skipped_solid d (ds ++ rest) f.0.0
+
+no_numeral : (n : ℕ) (ds : List ℕ) → 1 ≤ n → Numeral n ds → ds ≡ [] → ⊥
+no_numeral n ds low h e = omega (arith, h.value, ap (number_from 0) e)
+
+hunk_back : (n : ℕ) (old new : List (List ℕ)) (rest : List ℕ) → IsGoodWork (Hunk n old new) → NoLine rest → HunkBody (32 ∷ (decimal n ++ 10 ∷ (lines_text 45 old ++ (lines_text 43 new ++ rest)))) n old new rest
+hunk_back n old new rest good none =
+    let d = decimal_numeral n (omega (arith, good.0.1)) in
+    let tail = lines_text 45 old ++ (lines_text 43 new ++ rest) in
+    let skips : skipped (decimal n ++ 10 ∷ tail) ≡ decimal n ++ 10 ∷ tail = digits_skipped (decimal n) (10 ∷ tail) (no_numeral n (decimal n) good.0.0 d) (digits_plain (decimal n) d.each) in
+    record {
+      lines = tail;
+      number_read = subst (λ (t : List ℕ). NumberLine t n tail) (sym skips) (number_back n tail good.0.0 good.0.1);
+      lines_read = record {
+        above = [];
+        olds = tail;
+        news = lines_text 43 new ++ rest;
+        last = rest;
+        below = [];
+        above_read = record { read = refl; ends = other_front 32 45 old (lines_text 43 new ++ rest) (λ e. omega (arith, e)) (other_front 32 43 new rest (λ e. omega (arith, e)) none.space) };
+        old_read = record { read = lines_back 45 old (lines_text 43 new ++ rest) (free_lines old good.2); ends = other_front 45 43 new rest (λ e. omega (arith, e)) none.old };
+        new_read = record { read = lines_back 43 new rest (free_lines new good.3); ends = none.new };
+        below_read = record { read = refl; ends = none.space };
+        some = some_lines old new good.1;
+      };
+    }
+
+joined_hunk : (a b c d e : List ℕ) → (a ++ 32 ∷ (b ++ 10 ∷ (c ++ d))) ++ e ≡ a ++ 32 ∷ (b ++ 10 ∷ (c ++ (d ++ e)))
+joined_hunk a b c d e = simp append_assoc refl
+
+joined_info : (a b c : List ℕ) → a ++ 10 ∷ (b ++ c) ≡ ((a ++ 10 ∷ []) ++ b) ++ c
+joined_info a b c = simp append_assoc refl
+
+joined_patch : (a b c d : List ℕ) → a ++ (b ++ (c ++ d)) ≡ (a ++ (b ++ c)) ++ d
+joined_patch a b c d = simp append_assoc refl
+
+joined_move : (a b e : List ℕ) → (a ++ 32 ∷ (b ++ 10 ∷ [])) ++ e ≡ a ++ 32 ∷ (b ++ 10 ∷ e)
+joined_move a b e = simp append_assoc refl
+
+pub prim_back : (p : Prim) (rest : List ℕ) → IsGoodPrim p → NoLine rest → ReadsPrim (prim_text p ++ rest) p rest
+prim_back (At p AddFile) rest good none =
+    record { after = 10 ∷ rest; read = subst (λ (t : List ℕ). WordAndPath (codes "addfile") (codes "addfile" ++ 32 ∷ t) p (10 ∷ rest)) (sym (append_assoc (path_text p) (10 ∷ []) rest)) (single_back (codes "addfile") p (10 ∷ rest) (refl, (refl, (refl, (refl, (refl, (refl, (refl, tt))))))) good.0 refl); left = refl }
+prim_back (At p RmFile) rest good none =
+    record { after = 10 ∷ rest; read = subst (λ (t : List ℕ). WordAndPath (codes "rmfile") (codes "rmfile" ++ 32 ∷ t) p (10 ∷ rest)) (sym (append_assoc (path_text p) (10 ∷ []) rest)) (single_back (codes "rmfile") p (10 ∷ rest) (refl, (refl, (refl, (refl, (refl, (refl, tt)))))) good.0 refl); left = refl }
+prim_back (At p AddDir) rest good none =
+    record { after = 10 ∷ rest; read = subst (λ (t : List ℕ). WordAndPath (codes "adddir") (codes "adddir" ++ 32 ∷ t) p (10 ∷ rest)) (sym (append_assoc (path_text p) (10 ∷ []) rest)) (single_back (codes "adddir") p (10 ∷ rest) (refl, (refl, (refl, (refl, (refl, (refl, tt)))))) good.0 refl); left = refl }
+prim_back (At p RmDir) rest good none =
+    record { after = 10 ∷ rest; read = subst (λ (t : List ℕ). WordAndPath (codes "rmdir") (codes "rmdir" ++ 32 ∷ t) p (10 ∷ rest)) (sym (append_assoc (path_text p) (10 ∷ []) rest)) (single_back (codes "rmdir") p (10 ∷ rest) (refl, (refl, (refl, (refl, (refl, tt))))) good.0 refl); left = refl }
+prim_back (At p (Hunk n old new)) rest good none =
+    let tail = lines_text 45 old ++ (lines_text 43 new ++ rest) in
+    record {
+      after = rest;
+      read = subst (λ (t : List ℕ). HunkText (codes "hunk" ++ 32 ∷ t) p n old new rest) (sym (joined_hunk (path_text p) (decimal n) (lines_text 45 old) (lines_text 43 new) rest))
+          (record { mid = 32 ∷ (decimal n ++ 10 ∷ tail); first = single_back (codes "hunk") p (32 ∷ (decimal n ++ 10 ∷ tail)) (refl, (refl, (refl, (refl, tt)))) good.0 refl; body = hunk_back n old new rest good.1 none });
+      left = refl;
+    }
+prim_back (Move p q) rest good none =
+    record {
+      after = 10 ∷ rest;
+      read = subst (λ (t : List ℕ). WordAndPaths (codes "move") (codes "move" ++ 32 ∷ t) p q (10 ∷ rest)) (sym (joined_move (path_text p) (path_text q) rest))
+          (record { mid = 32 ∷ (path_text q ++ 10 ∷ rest); first = single_back (codes "move") p (32 ∷ (path_text q ++ 10 ∷ rest)) (refl, (refl, (refl, (refl, tt)))) good.0 refl; second = path_back q (10 ∷ rest) good.1 refl });
+      left = refl;
+    }
+
+-- it begins with a letter
+pub record Lettered (text : List ℕ) : Type 0 where
+  pub first : ℕ
+  pub more : List ℕ
+  pub parts : text ≡ first ∷ more
+  pub low : 97 ≤ first
+  pub high : first ≤ 122
+
+lettered : (p : Prim) (rest : List ℕ) → Lettered (prim_text p ++ rest)
+lettered (At p AddFile) rest = record { first = 97; more = _; parts = refl; low = omega arith; high = omega arith }
+lettered (At p RmFile) rest = record { first = 114; more = _; parts = refl; low = omega arith; high = omega arith }
+lettered (At p AddDir) rest = record { first = 97; more = _; parts = refl; low = omega arith; high = omega arith }
+lettered (At p RmDir) rest = record { first = 114; more = _; parts = refl; low = omega arith; high = omega arith }
+lettered (At p (Hunk n old new)) rest = record { first = 104; more = _; parts = refl; low = omega arith; high = omega arith }
+lettered (Move p q) rest = record { first = 109; more = _; parts = refl; low = omega arith; high = omega arith }
+
+skipped_prim : (p : Prim) (rest : List ℕ) → skipped (prim_text p ++ rest) ≡ prim_text p ++ rest
+skipped_prim (At p AddFile) rest = refl
+skipped_prim (At p RmFile) rest = refl
+skipped_prim (At p AddDir) rest = refl
+skipped_prim (At p RmDir) rest = refl
+skipped_prim (At p (Hunk n old new)) rest = refl
+skipped_prim (Move p q) rest = refl
+
+not_letter : (b : ℕ) (text : List ℕ) → Lettered text → (b < 97) ⊎ (122 < b) → Begins b text → ⊥
+not_letter b text l out o =
+    let same : l.first ≡ b = front_same l.first b l.more o.0 (sym l.parts ∙ o.1) in
+    elim out [ inl x ↦ omega (arith, l.low, same, x) | inr x ↦ omega (arith, l.high, same, x) ]
+
+no_line_prims : (ps : List Prim) (rest : List ℕ) → NoLine rest → NoLine (flat_map prim_text ps ++ rest)
+no_line_prims [] rest none = none
+no_line_prims (p ∷ ps) rest none =
+    let l = subst Lettered (sym (append_assoc (prim_text p) (flat_map prim_text ps) rest)) (lettered p (flat_map prim_text ps ++ rest)) in
+    record {
+      space = not_letter 32 ((prim_text p ++ flat_map prim_text ps) ++ rest) l (inl (omega arith));
+      old = not_letter 45 ((prim_text p ++ flat_map prim_text ps) ++ rest) l (inl (omega arith));
+      new = not_letter 43 ((prim_text p ++ flat_map prim_text ps) ++ rest) l (inl (omega arith));
+    }
+
+pub record ReadsAll (text : List ℕ) (ps : List Prim) (rest : List ℕ) : Type 0 where
+  pub mid : List ℕ
+  pub read : Many NextPrim text ps mid
+  pub left : skipped mid ≡ skipped rest
+
+-- white space before primitives doesn't matter
+prims_skip : (t u : List ℕ) (ps : List Prim) (rest : List ℕ) → skipped t ≡ skipped u → ReadsAll t ps rest → ReadsAll u ps rest
+prims_skip t u [] rest e r = record { mid = u; read = refl; left = sym e ∙ (ap skipped r.read ∙ r.left) }
+prims_skip t u (p ∷ ps) rest e r = record { mid = r.mid; read = (r.read.0, subst (λ (s : List ℕ). PrimText s p r.read.0) e r.read.1, r.read.2); left = r.left }
+
+pub prims_back : (ps : List Prim) (rest : List ℕ) → AllByRecursion IsGoodPrim ps → NoLine rest → ReadsAll (flat_map prim_text ps ++ rest) ps rest
+prims_back [] rest good none = record { mid = rest; read = refl; left = refl }
+prims_back (p ∷ ps) rest good none =
+    let tail = flat_map prim_text ps ++ rest in
+    let one = prim_back p tail good.0 (no_line_prims ps rest none) in
+    let more = prims_skip tail one.after ps rest (sym one.left) (prims_back ps rest good.1 none) in
+    let whole : prim_text p ++ tail ≡ (prim_text p ++ flat_map prim_text ps) ++ rest = sym (append_assoc (prim_text p) (flat_map prim_text ps) rest) in
+    let first = subst (λ (t : List ℕ). PrimText t p one.after) (sym (skipped_prim p tail)) one.read in
+    record { mid = more.mid; read = (one.after, subst (λ (t : List ℕ). PrimText (skipped t) p one.after) whole first, more.read); left = more.left }
+
+-- ---- dependencies
+
+pub record ReadsInfos (text : List ℕ) (is : List Parts) (rest : List ℕ) : Type 0 where
+  pub mid : List ℕ
+  pub read : Many NextInfo text is mid
+  pub left : skipped mid ≡ skipped rest
+
+pub infos_skip : (t u : List ℕ) (is : List Parts) (rest : List ℕ) → skipped t ≡ skipped u → ReadsInfos t is rest → ReadsInfos u is rest
+infos_skip t u [] rest e r = record { mid = u; read = refl; left = sym e ∙ (ap skipped r.read ∙ r.left) }
+infos_skip t u (i ∷ is) rest e r = record { mid = r.mid; read = (r.read.0, subst (λ (s : List ℕ). Stands s i r.read.0) e r.read.1, r.read.2); left = r.left }
+
+pub infos_back : (is : List Parts) (rest : List ℕ) → AllByRecursion IsInfo is → ReadsInfos (flat_map info_line is ++ rest) is rest
+infos_back [] rest good = record { mid = rest; read = refl; left = refl }
+infos_back (i ∷ is) rest good =
+    let tail = flat_map info_line is ++ rest in
+    let one = canonical_stands i (10 ∷ tail) good.0 in
+    let more = infos_skip tail (32 ∷ 10 ∷ tail) is rest refl (infos_back is rest good.1) in
+    let whole : canonical i ++ 10 ∷ tail ≡ ((canonical i ++ 10 ∷ []) ++ flat_map info_line is) ++ rest = joined_info (canonical i) (flat_map info_line is) rest in
+    record { mid = more.mid; read = (32 ∷ 10 ∷ tail, subst (λ (t : List ℕ). Stands (skipped t) i (32 ∷ 10 ∷ tail)) whole one, more.read); left = more.left }
+
+pub record ReadsDeps (text : List ℕ) (ds : List Parts) (rest : List ℕ) : Type 0 where
+  pub after : List ℕ
+  pub read : Dependencies text ds after
+  pub left : skipped after ≡ skipped rest
+
+deps_back : (ds : List Parts) (rest : List ℕ) → AllByRecursion IsInfo ds → (Begins 60 (skipped rest) → ⊥) → ReadsDeps (32 ∷ (deps_text ds ++ rest)) ds rest
+deps_back [] rest good none = record { after = 32 ∷ rest; read = inr (none, refl, refl); left = refl }
+deps_back (d ∷ ds) rest good none =
+    let inner = flat_map info_line (d ∷ ds) in
+    let tail = 62 ∷ 32 ∷ rest in
+    let r = infos_skip (inner ++ tail) (10 ∷ (inner ++ tail)) (d ∷ ds) tail refl (infos_back (d ∷ ds) tail good) in
+    let whole : inner ++ tail ≡ (inner ++ codes "> ") ++ rest = sym (append_assoc inner (codes "> ") rest) in
+    record {
+      after = 32 ∷ rest;
+      read = inl (record { inside = 10 ∷ (inner ++ tail); mid = r.mid; opens = ap (λ (t : List ℕ). 60 ∷ 10 ∷ t) (sym whole); read = r.read; closes = r.left });
+      left = refl;
+    }
+
+-- ---- bodies and patches
+
+pub record ReadsBody (text : List ℕ) (ps : List Prim) (rest : List ℕ) : Type 0 where
+  pub after : List ℕ
+  pub read : Body text ps after
+  pub left : skipped after ≡ skipped rest
+
+brace_line : (rest : List ℕ) → NoLine (125 ∷ rest)
+brace_line rest = record { space = λ o. absurd (omega (arith, front_same 125 32 rest o.0 o.1)); old = λ o. absurd (omega (arith, front_same 125 45 rest o.0 o.1)); new = λ o. absurd (omega (arith, front_same 125 43 rest o.0 o.1)) }
+
+in_braces_back : (t : List ℕ) (ps : List Prim) (rest : List ℕ) → AllByRecursion IsGoodPrim ps → skipped t ≡ skipped ((codes "{\n" ++ (flat_map prim_text ps ++ codes "}\n")) ++ rest) → ReadsBody t ps rest
+in_braces_back t ps rest good e =
+    let inner = flat_map prim_text ps in
+    let tail = 125 ∷ 10 ∷ rest in
+    let r = prims_skip (inner ++ tail) (10 ∷ (inner ++ tail)) ps tail refl (prims_back ps tail good (brace_line (10 ∷ rest))) in
+    let whole : (inner ++ codes "}\n") ++ rest ≡ inner ++ tail = append_assoc inner (codes "}\n") rest in
+    record {
+      after = 10 ∷ rest;
+      read = inl (record { inside = 10 ∷ (inner ++ tail); mid = r.mid; opens = e ∙ ap (λ (x : List ℕ). 123 ∷ 10 ∷ x) whole; read = r.read; closes = r.left });
+      left = refl;
+    }
+
+pub body_back : (t : List ℕ) (ps : List Prim) (rest : List ℕ) → AllByRecursion IsGoodPrim ps → NoLine rest → RunEnds (skipped rest) → skipped t ≡ skipped (body_text ps ++ rest) → ReadsBody t ps rest
+body_back t [] rest good none ends e = in_braces_back t [] rest good e
+body_back t (p ∷ q ∷ ps) rest good none ends e = in_braces_back t (p ∷ q ∷ ps) rest good e
+body_back t (p ∷ []) rest good none ends e =
+    let one = prim_back p rest good.0 none in
+    let same : prim_text p ++ rest ≡ skipped t = sym (skipped_prim p rest) ∙ sym e in
+    record {
+      after = one.after;
+      read = inr (record {
+        bare = not_letter 123 (skipped t) (subst Lettered same (lettered p rest)) (inr (omega arith));
+        read = (one.after, subst (λ (s : List ℕ). PrimText s p one.after) same one.read, refl);
+        ends = subst RunEnds (sym one.left) ends;
+      });
+      left = one.left;
+    }
+
+no_angle : (ps : List Prim) (rest : List ℕ) → Begins 60 (skipped (body_text ps ++ rest)) → ⊥
+no_angle [] rest o = omega (arith, front_same 123 60 _ o.0 o.1)
+no_angle (p ∷ q ∷ ps) rest o = omega (arith, front_same 123 60 _ o.0 o.1)
+no_angle (p ∷ []) rest o = not_letter 60 (skipped (prim_text p ++ rest)) (subst Lettered (sym (skipped_prim p rest)) (lettered p rest)) (inl (omega arith)) o
+
+pub patch_back : (p : Patch) (rest : List ℕ) → IsGoodPatch p → NoLine rest → RunEnds (skipped rest) → ReadsPatch (patch_text p ++ rest) p rest
+patch_back p rest good none ends =
+    let body = body_text p.prims ++ rest in
+    let info = canonical_stands p.info (deps_text p.deps ++ body) good.info in
+    let deps = deps_back p.deps body good.deps (no_angle p.prims rest) in
+    let b = body_back deps.after p.prims rest good.prims none ends deps.left in
+    let whole : canonical p.info ++ (deps_text p.deps ++ body) ≡ (canonical p.info ++ (deps_text p.deps ++ body_text p.prims)) ++ rest = joined_patch (canonical p.info) (deps_text p.deps) (body_text p.prims) rest in
+    record { after = b.after; read = record { after = 32 ∷ (deps_text p.deps ++ body); body = deps.after; info = subst (λ (t : List ℕ). Stands t p.info (32 ∷ (deps_text p.deps ++ body))) whole info; deps = deps.read; prims = b.read }; left = b.left }

@@ -1,0 +1,62 @@
+-- Canonical texts.
+use Rattle.std.specs.Prelude.{◌||◌, ◌==◌, ℕ, List, [], ◌∷◌, ◌++◌, codes, if◌then◌else◌}
+use Rattle.std.specs.List.{flat_map}
+use Rattle.std.specs.Fmt.{decimal}
+use Rattle.dm_info.specs.Parts.{Parts}
+use Rattle.dm_info.specs.Spelling.{canonical}
+use Rattle.dm_tree.specs.Paths.{Name, Path}
+use Rattle.dm_prim.specs.Primitives.{Work, Prim, AddFile, RmFile, AddDir, RmDir, Hunk, At, Move}
+use Rattle.dm_named.specs.Words.{is_white}
+use Rattle.dm_named.specs.Patches.{Patch}
+
+-- a byte of a name: white space and the backslash are escaped
+abbrev pub byte_text : ℕ → List ℕ
+byte_text b = if is_white b || b == 92 then 92 ∷ (decimal b ++ 92 ∷ []) else b ∷ []
+
+-- a name behind its slash
+abbrev pub name_text : Name → List ℕ
+name_text n = 47 ∷ flat_map byte_text n
+
+-- a dot, and the names
+abbrev pub path_text : Path → List ℕ
+path_text p = 46 ∷ flat_map name_text p
+
+-- lines, each behind this byte and before a newline
+abbrev pub lines_text : ℕ → List (List ℕ) → List ℕ
+lines_text b lines = flat_map (λ l. b ∷ (l ++ 10 ∷ [])) lines
+
+-- a primitive's word and the space behind it
+abbrev pub work_word : Work → List ℕ
+work_word AddFile = codes "addfile "
+work_word RmFile = codes "rmfile "
+work_word AddDir = codes "adddir "
+work_word RmDir = codes "rmdir "
+work_word (Hunk n old new) = codes "hunk "
+
+-- what follows the path: a hunk has its number and its lines, without lines for people
+abbrev pub work_text : Work → List ℕ
+work_text (Hunk n old new) = 32 ∷ (decimal n ++ 10 ∷ (lines_text 45 old ++ lines_text 43 new))
+work_text w = 10 ∷ []
+
+-- a primitive: one space between its words, and a newline
+abbrev pub prim_text : Prim → List ℕ
+prim_text (At p w) = work_word w ++ (path_text p ++ work_text w)
+prim_text (Move p q) = codes "move " ++ (path_text p ++ 32 ∷ (path_text q ++ 10 ∷ []))
+
+-- an information on a line of its own, with the space behind it
+abbrev pub info_line : Parts → List ℕ
+info_line i = canonical i ++ 10 ∷ []
+
+-- the dependencies, if there are any
+abbrev pub deps_text : List Parts → List ℕ
+deps_text [] = []
+deps_text (d ∷ ds) = codes "<\n" ++ (flat_map info_line (d ∷ ds) ++ codes "> ")
+
+-- one primitive alone, or none or several in braces
+abbrev pub body_text : List Prim → List ℕ
+body_text (p ∷ []) = prim_text p
+body_text ps = codes "{\n" ++ (flat_map prim_text ps ++ codes "}\n")
+
+-- a named patch
+abbrev pub patch_text : Patch → List ℕ
+patch_text p = canonical p.info ++ (deps_text p.deps ++ body_text p.prims)

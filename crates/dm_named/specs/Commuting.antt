@@ -1,0 +1,28 @@
+-- When named patches commute (Darcs.Patch.Named).
+use Rattle.std.specs.Prelude.{◌≡◌, Option, Some, None, Contains}
+use Rattle.dm_prim.specs.Commuting.{ListsCommute}
+use Rattle.dm_prim.specs.Laws.{ListLaws}
+use Rattle.dm_named.specs.Patches.{Patch}
+
+-- the patch keeps its information and its dependencies
+pub record Stays (x x' : Patch) : Type 0 where
+  pub info : x'.info ≡ x.info
+  pub deps : x'.deps ≡ x.deps
+
+-- x then y commute to y' then x': neither names the other among its dependencies, and their primitives commute
+pub record NamedCommutes (x y y' x' : Patch) : Type 0 where
+  pub x_named : Contains y.deps x.info → ⊥
+  pub y_named : Contains x.deps y.info → ⊥
+  pub x_stays : Stays x x'
+  pub y_stays : Stays y y'
+  pub prims : ListsCommute x.prims y.prims y'.prims x'.prims
+
+-- x then y commute to the pair that is answered; where none is, they commute to nothing
+abbrev pub NamedCommutesTo : Patch → Patch → Option (Patch × Patch) → Type 0
+NamedCommutesTo x y None = (y' x' : Patch) → NamedCommutes x y y' x' → ⊥
+NamedCommutesTo x y (Some r) = NamedCommutes x y r.0 r.1
+
+-- the laws of lists that commute hold of the primitives of the pair that is answered
+abbrev pub NamedLawsHold : Patch → Patch → Option (Patch × Patch) → Type 0
+NamedLawsHold x y None = Unit {0}
+NamedLawsHold x y (Some r) = ListLaws x.prims y.prims r.0.prims r.1.prims

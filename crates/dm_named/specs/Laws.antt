@@ -1,0 +1,50 @@
+-- Laws of the text of paths, primitives and named patches.
+use Rattle.std.specs.Prelude.{◌≡◌, ℕ, List, ◌++◌}
+use Rattle.dm_tree.specs.Paths.{Path}
+use Rattle.dm_tree.specs.Parts.{IsGoodPath}
+use Rattle.dm_prim.specs.Primitives.{Prim}
+use Rattle.dm_prim.specs.Commuting.{IsGoodPrim}
+use Rattle.dm_named.specs.Words.{skipped, Begins, EndsWord}
+use Rattle.dm_named.specs.Paths.{PathWord}
+use Rattle.dm_named.specs.Patches.{PrimText, Patch, PatchText, IsGoodPatch, RunEnds}
+use Rattle.dm_named.specs.Canonical.{path_text, prim_text, patch_text}
+use Rattle.dm_named.specs.Faults.{PatchFault, SaysNone}
+use Rattle.dm_named.specs.declared.fault.FaultKind.{FaultKind}
+
+-- no line of a hunk goes on there
+pub record NoLine (rest : List ℕ) : Type 0 where
+  pub space : Begins 32 rest → ⊥
+  pub old : Begins 45 rest → ⊥
+  pub new : Begins 43 rest → ⊥
+
+-- the primitive stands at the front, and up to white space this is left behind it
+pub record ReadsPrim (text : List ℕ) (p : Prim) (rest : List ℕ) : Type 0 where
+  pub after : List ℕ
+  pub read : PrimText text p after
+  pub left : skipped after ≡ skipped rest
+
+-- the named patch stands at the front, and up to white space this is left behind it
+pub record ReadsPatch (text : List ℕ) (p : Patch) (rest : List ℕ) : Type 0 where
+  pub after : List ℕ
+  pub read : PatchText text p after
+  pub left : skipped after ≡ skipped rest
+
+-- at most one named patch stands at the front of a text
+abbrev pub OnePatch : Type 0
+OnePatch = (text : List ℕ) (p q : Patch) (r s : List ℕ) → PatchText text p r → PatchText text q s → (p ≡ q) × (r ≡ s)
+
+-- where a text has a fault that says so, no named patch stands
+abbrev pub FaultExcludesPatch : Type 0
+FaultExcludesPatch = (kind : FaultKind) (text here : List ℕ) → SaysNone kind → PatchFault kind text here → (p : Patch) (r : List ℕ) → PatchText text p r → ⊥
+
+-- a good path that is written is read again, before whatever ends a word
+abbrev pub PathRoundTrip : Type 0
+PathRoundTrip = (p : Path) (rest : List ℕ) → IsGoodPath p → EndsWord rest → PathWord (path_text p ++ rest) p rest
+
+-- a good primitive that is written is read again, before whatever is no further line of a hunk
+abbrev pub PrimRoundTrip : Type 0
+PrimRoundTrip = (p : Prim) (rest : List ℕ) → IsGoodPrim p → NoLine rest → ReadsPrim (prim_text p ++ rest) p rest
+
+-- a good named patch that is written is read again, before whatever goes on with neither its last hunk nor its run
+abbrev pub PatchRoundTrip : Type 0
+PatchRoundTrip = (p : Patch) (rest : List ℕ) → IsGoodPatch p → NoLine rest → RunEnds (skipped rest) → ReadsPatch (patch_text p ++ rest) p rest

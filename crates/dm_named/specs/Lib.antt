@@ -1,0 +1,10 @@
+pub mod Many
+pub mod Words
+pub mod Paths
+pub mod Patches
+pub mod Canonical
+pub mod Faults
+pub mod FaultWords
+pub mod BodyWords
+pub mod Laws
+pub mod Commuting

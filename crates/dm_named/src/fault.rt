@@ -1,0 +1,79 @@
+//! Why a text could not be read, and where.
+
+ghost use Rattle.std.specs.Prelude.{◌≡◌};
+ghost use Rattle.dm_named.specs.FaultWords.{fault_word};
+
+use std::fmt::{Display, Error, Formatter, Write};
+
+/// What is wrong with a text. The printed word of each is its name in small letters with dashes.
+#[derive(Clone, Copy, Debug, PartialEq, Eq)]
+pub enum FaultKind {
+    /// The text is longer than a bundle may be.
+    TooLarge,
+    /// No line is the heading of a bundle.
+    NoNewPatches,
+    /// What begins with an opening bracket is no information; or none stands where a named patch was asked for.
+    BadInfo,
+    /// The information is that of an inverted patch.
+    Inverted,
+    /// Inside angle brackets stands neither an information nor the closing one.
+    BadDepends,
+    /// Inside braces stands neither a primitive nor the closing one.
+    BadPatch,
+    /// A patch of Darcs that this profile refuses, or a nested brace or parenthesis.
+    Unsupported,
+    /// No path stands where one must.
+    BadPath,
+    /// No number stands behind a hunk's path, or more than white space behind it on its line.
+    BadNumber,
+    /// A hunk has neither old nor new lines.
+    EmptyHunk,
+    /// The text ends inside braces.
+    Unclosed,
+    /// Neither a named patch nor the context stands where one must.
+    NoContext,
+    /// An information equals that of an earlier new patch.
+    Doubled,
+    /// One patch, or one primitive of a patch, more than a bundle may have.
+    TooMany,
+    /// A growth was refused. Its place is where reading stood.
+    NoMemory,
+}
+
+impl FaultKind {
+    /// The word that is printed.
+    pub fn word(self) -> &'static str
+        ensures { result.now ≡ fault_word self }
+    {
+        match self {
+            FaultKind::TooLarge => "too-large",
+            FaultKind::NoNewPatches => "no-new-patches",
+            FaultKind::BadInfo => "bad-info",
+            FaultKind::Inverted => "inverted",
+            FaultKind::BadDepends => "bad-depends",
+            FaultKind::BadPatch => "bad-patch",
+            FaultKind::Unsupported => "unsupported",
+            FaultKind::BadPath => "bad-path",
+            FaultKind::BadNumber => "bad-number",
+            FaultKind::EmptyHunk => "empty-hunk",
+            FaultKind::Unclosed => "unclosed",
+            FaultKind::NoContext => "no-context",
+            FaultKind::Doubled => "doubled",
+            FaultKind::TooMany => "too-many",
+            FaultKind::NoMemory => "no-memory",
+        }
+    }
+}
+
+impl Display for FaultKind {
+    fn fmt<W: Write>(&self, f: &mut Formatter<W>) -> Result<(), Error> {
+        f.write_str(self.word())
+    }
+}
+
+/// What is wrong, and the place of the byte where it is.
+#[derive(Clone, Copy, Debug, PartialEq, Eq)]
+pub struct ReadFault {
+    pub kind: FaultKind,
+    pub at: usize,
+}

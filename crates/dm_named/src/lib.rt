@@ -1,0 +1,33 @@
+//! Named patches: their text, and how two of them commute (Darcs.Patch.Named).
+//!
+//! A named patch is an information, the informations of the patches that it names as dependencies, and a list of
+//! primitive patches. This crate stands on `dm_info` for informations, on `dm_prim` for primitives and on `dm_tree`
+//! for paths and lines. Its theorem is that [`read_named`] answers a named patch only where its text stands, and then
+//! the only one, and a fault only where the text has that fault at that place; that [`write_named`] appends the
+//! canonical text, which is read again as the same patch; and that [`commute_named`] answers exactly when two named
+//! patches commute.
+#![tactic(auto)]
+
+mod bodies;
+mod commuting;
+mod dependencies;
+mod fault;
+mod hunks;
+pub mod laws;
+mod named;
+mod names;
+mod numbers;
+mod paths;
+mod primitives;
+mod reading;
+#[cfg(test)]
+mod tests;
+pub mod text;
+mod words;
+mod writing;
+
+pub use commuting::commute_named;
+pub use fault::{FaultKind, ReadFault};
+pub use named::Named;
+pub use reading::read_named;
+pub use writing::{write_named, write_path};

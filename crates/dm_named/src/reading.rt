@@ -1,0 +1,63 @@
+//! Reading a named patch.
+
+ghost use Rattle.std.specs.Prelude.{◌≡◌, ◌≤◌, ◌<◌, ℕ, List, length, drop, IfOk, IfErr};
+ghost use Rattle.dm_named.specs.Patches.{Patch, PatchText};
+ghost use Rattle.dm_named.specs.Faults.{PatchFault, SaysNone};
+
+use crate::bodies::body_at;
+use crate::dependencies::deps_at;
+use crate::fault::ReadFault;
+use crate::named::Named;
+use crate::text::info_at;
+use std::alloc::Allocator;
+
+/// The named patch at a place, by its parts.
+fn named_at<A: Allocator + Copy>(
+    alloc: A,
+    text: &[u8],
+    at: usize,
+) -> Result<(Named<A>, usize), ReadFault>
+    ensures ok { IfOk result (λ x. PatchText (drop at text.now) x.0 (drop x.1 text.now)) }
+    ensures within { IfOk result (λ x. x.1 ≤ length text.now) }
+    ensures forward { IfOk result (λ x. at < x.1) }
+    ensures few { IfOk result (λ x. length x.0.prims ≤ 10000) }
+    ensures err { IfErr result (λ e. PatchFault e.kind (drop at text.now) (drop e.at text.now)) }
+    ensures place { IfErr result (λ e. at ≤ length text.now → e.at ≤ length text.now) }
+    ensures past { IfErr result (λ e. length text.now < at → e.at ≡ at) }
+{
+    let (info, after) = info_at(alloc, text, at)?;
+    let (deps, body) = deps_at(alloc, text, after)?;
+    let (prims, end) = body_at(alloc, text, body)?;
+    Ok((Named::new(info, deps, prims), end))
+}
+
+/// The named patch at a place, and the place behind its closing brace or its last primitive; behind the `]` or `>`
+/// before a run of no primitives. The limit of 10,000 primitives is asked for; that no information is doubled isn't.
+///
+/// # Errors
+/// The first fault from left to right. Where no `[` stands, and past the end of the text, it is `BadInfo` at that place.
+pub fn read_named<A: Allocator + Copy>(
+    alloc: A,
+    text: &[u8],
+    at: usize,
+) -> Result<(Named<A>, usize), ReadFault>
+    // What is read stands there.
+    ensures ok { IfOk result (λ x. PatchText (drop at text.now) x.0 (drop x.1 text.now)) }
+    ensures within { IfOk result (λ x. x.1 ≤ length text.now) }
+    ensures forward { IfOk result (λ x. at < x.1) }
+    ensures few { IfOk result (λ x. length x.0.prims ≤ 10000) }
+    // Nothing else does.
+    ensures only { IfOk result (λ x. (p : Patch) (rest : List ℕ) → PatchText (drop at text.now) p rest → (x.0 ≡ p) × (drop x.1 text.now ≡ rest)) }
+
+    // What is wrong, and where.
+    ensures err { IfErr result (λ e. PatchFault e.kind (drop at text.now) (drop e.at text.now)) }
+    ensures place { IfErr result (λ e. at ≤ length text.now → e.at ≤ length text.now) }
+    ensures past { IfErr result (λ e. length text.now < at → e.at ≡ at) }
+    // A text with a fault that says so is no named patch.
+    ensures none { IfErr result (λ e. SaysNone e.kind → (p : Patch) (rest : List ℕ) → PatchText (drop at text.now) p rest → ⊥) }
+{
+    match named_at(alloc, text, at) {
+        Ok(found) => Ok(found),
+        Err(e) => Err(e),
+    }
+}

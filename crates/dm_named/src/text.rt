@@ -1,0 +1,96 @@
+//! White space, words, lines and informations at places of a text, as the readers of named patches and bundles meet them.
+
+ghost use Rattle.std.specs.Prelude.{◌≡◌, ◌≤◌, ◌<◌, ◌+◌, ◌∷◌, length, drop, IfOk, IfErr, MatchBool};
+ghost use Rattle.dm_info.specs.Spelling.{Stands};
+ghost use Rattle.dm_named.specs.Words.{is_white, skipped, Word, Line, Begins};
+ghost use Rattle.dm_named.specs.Faults.{InfoFault};
+
+use crate::fault::{FaultKind, ReadFault};
+use dm_info::{Info, InfoReadFault, read_info};
+use memchr::memchr;
+use std::alloc::Allocator;
+
+/// Whether a byte is white space.
+pub fn is_white(byte: u8) -> bool
+    ensures { result ≡ is_white byte }
+{
+    (9 <= byte && byte <= 13) || byte == 32
+}
+
+/// The place behind the white space that stands at a place.
+pub fn skip(text: &[u8], at: usize) -> usize
+    requires { at ≤ length text.now }
+    ensures rest { drop result text.now ≡ skipped (drop at text.now) }
+    ensures within { result ≤ length text.now }
+    ensures forward { at ≤ result }
+{
+    let mut at = at;
+    while at < text.len() && is_white(text[at]) {
+        at += 1;
+    }
+    at
+}
+
+/// The bytes up to white space, and the place behind them.
+pub fn word_at(text: &[u8], at: usize) -> (&[u8], usize)
+    requires { at ≤ length text.now }
+    ensures word { Word (drop at text.now) result.0.now (drop result.1 text.now) }
+    ensures within { result.1 ≤ length text.now }
+    ensures forward { at ≤ result.1 }
+{
+    let mut end = at;
+    while end < text.len() && !is_white(text[end]) {
+        end += 1;
+    }
+    (&text[at..end], end)
+}
+
+/// Whether a byte stands at a place.
+pub fn begins_at(text: &[u8], at: usize, byte: u8) -> bool
+    requires { at ≤ length text.now }
+    ensures { MatchBool result ((drop at text.now ≡ byte ∷ drop (at + 1) text.now) × (at < length text.now)) (Begins byte (drop at text.now) → ⊥) }
+{
+    at < text.len() && text[at] == byte
+}
+
+/// The line from a place on, and the place behind its newline, or the end.
+pub fn line_at(text: &[u8], at: usize) -> (&[u8], usize)
+    requires { at ≤ length text.now }
+    ensures line { Line (drop at text.now) result.0.now (drop result.1 text.now) }
+    ensures within { result.1 ≤ length text.now }
+    ensures forward { at ≤ result.1 }
+{
+    match memchr(b'\n', &text[at..]) {
+        Some(i) => (&text[at..at + i], at + i + 1),
+        None => (&text[at..], text.len()),
+    }
+}
+
+/// The information at a place, and the place behind its closing bracket; a fault is at the place that was asked for.
+pub fn info_at<A: Allocator + Copy>(
+    alloc: A,
+    text: &[u8],
+    at: usize,
+) -> Result<(Info<A>, usize), ReadFault>
+    ensures ok { IfOk result (λ x. Stands (drop at text.now) x.0 (drop x.1 text.now)) }
+    ensures within { IfOk result (λ x. x.1 ≤ length text.now) }
+    ensures forward { IfOk result (λ x. at < x.1) }
+    ensures err { IfErr result (λ e. InfoFault e.kind (drop at text.now) (drop e.at text.now)) }
+    ensures place { IfErr result (λ e. e.at ≡ at) }
+{
+    match read_info(alloc, text, at) {
+        Ok((info, next)) => Ok((info, next)),
+        Err(InfoReadFault::BadInfo) => Err(ReadFault {
+            kind: FaultKind::BadInfo,
+            at,
+        }),
+        Err(InfoReadFault::Inverted) => Err(ReadFault {
+            kind: FaultKind::Inverted,
+            at,
+        }),
+        Err(InfoReadFault::NoMemory) => Err(ReadFault {
+            kind: FaultKind::NoMemory,
+            at,
+        }),
+    }
+}

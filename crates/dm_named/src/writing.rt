@@ -1,0 +1,249 @@
+//! Writing canonical texts.
+
+ghost use Rattle.std.specs.Prelude.{◌≡◌, ◌++◌, ◌∷◌, [], OnOk, OnErr, IfOk, codes};
+ghost use Rattle.std.specs.List.{AllByRecursion, flat_map};
+ghost use Rattle.std.specs.Fmt.{decimal};
+ghost use Rattle.dm_info.specs.Parts.{IsInfo};
+ghost use Rattle.dm_info.specs.Spelling.{canonical};
+ghost use Rattle.dm_tree.specs.Parts.{IsGoodPath};
+ghost use Rattle.dm_prim.specs.Commuting.{IsGoodPrim};
+ghost use Rattle.dm_prim.specs.Hunks.{hunk_of};
+ghost use Rattle.dm_prim.specs.Prims.{prim_of, prims_of};
+ghost use Rattle.dm_named.specs.Canonical.{byte_text, name_text, path_text, lines_text, prim_text, deps_text, body_text, patch_text};
+ghost use Rattle.dm_named.specs.Patches.{IsGoodPatch};
+
+use crate::named::Named;
+use crate::text::is_white;
+use dm_info::{Info, write_info};
+use dm_prim::{Hunk, Prim};
+use dm_tree::{Lines, Path};
+use std::alloc::{AllocError, Allocator};
+
+fn push_number<B: Allocator + Copy>(number: u32, out: &mut Vec<u8, B>) -> Result<(), AllocError>
+    ensures { OnOk result (out.new.items ≡ out.old.items ++ decimal number) }
+{
+    let text = format!(in *out.allocator(); "{number}")?;
+    out.extend_from_slice(text.as_bytes())?;
+    Ok(())
+}
+
+fn push_byte<B: Allocator + Copy>(byte: u8, out: &mut Vec<u8, B>) -> Result<(), AllocError>
+    ensures { OnOk result (out.new.items ≡ out.old.items ++ byte_text byte) }
+{
+    if is_white(byte) || byte == b'\\' {
+        out.push(b'\\')?;
+        push_number(byte as u32, out)?;
+        out.push(b'\\')?;
+        return Ok(());
+    }
+    out.push(byte)?;
+    Ok(())
+}
+
+fn push_name<B: Allocator + Copy>(name: &[u8], out: &mut Vec<u8, B>) -> Result<(), AllocError>
+    ensures { OnOk result (out.new.items ≡ out.old.items ++ name_text name.now) }
+{
+    out.push(b'/')?;
+    for byte in name {
+        push_byte(*byte, out)?;
+    }
+    Ok(())
+}
+
+fn push_path<A: Allocator, B: Allocator + Copy>(
+    path: &Path<A>,
+    out: &mut Vec<u8, B>,
+) -> Result<(), AllocError>
+    ensures text { OnOk result (out.new.items ≡ out.old.items ++ path_text path.now) }
+    ensures good { OnOk result (IsGoodPath path.now) }
+{
+    out.push(b'.')?;
+    for i in 0..path.len() {
+        push_name(path.part(i), out)?;
+    }
+    Ok(())
+}
+
+fn push_lines<A: Allocator, B: Allocator + Copy>(
+    byte: u8,
+    lines: &Lines<A>,
+    out: &mut Vec<u8, B>,
+) -> Result<(), AllocError>
+    ensures { OnOk result (out.new.items ≡ out.old.items ++ lines_text byte lines.now) }
+{
+    for i in 0..lines.len() {
+        out.push(byte)?;
+        out.extend_from_slice(lines.line(i))?;
+        out.push(b'\n')?;
+    }
+    Ok(())
+}
+
+fn push_single<A: Allocator, B: Allocator + Copy>(
+    word: &[u8],
+    path: &Path<A>,
+    out: &mut Vec<u8, B>,
+) -> Result<(), AllocError>
+    ensures text { OnOk result (out.new.items ≡ out.old.items ++ (word.now ++ (path_text path.now ++ 10 ∷ []))) }
+    ensures good { OnOk result (IsGoodPath path.now) }
+{
+    out.extend_from_slice(word)?;
+    push_path(path, out)?;
+    out.push(b'\n')?;
+    Ok(())
+}
+
+fn push_hunk<A: Allocator, B: Allocator + Copy>(
+    hunk: &Hunk<A>,
+    out: &mut Vec<u8, B>,
+) -> Result<(), AllocError>
+    ensures good { OnOk result (IsGoodPrim (hunk_of hunk.now)) }
+    ensures text { OnOk result (out.new.items ≡ out.old.items ++ (codes "hunk " ++ (path_text hunk.now.path ++ 32 ∷ (decimal hunk.now.line ++ 10 ∷ (lines_text 45 hunk.now.old ++ lines_text 43 hunk.now.new))))) }
+{
+    out.extend_from_slice(b"hunk ")?;
+    push_path(hunk.path(), out)?;
+    out.push(b' ')?;
+    push_number(hunk.line(), out)?;
+    out.push(b'\n')?;
+    push_lines(b'-', hunk.old(), out)?;
+    push_lines(b'+', hunk.new_lines(), out)?;
+    Ok(())
+}
+
+fn push_move<A: Allocator, B: Allocator + Copy>(
+    from: &Path<A>,
+    to: &Path<A>,
+    out: &mut Vec<u8, B>,
+) -> Result<(), AllocError>
+    ensures good { OnOk result (IsGoodPath from.now × IsGoodPath to.now) }
+    ensures text { OnOk result (out.new.items ≡ out.old.items ++ (codes "move " ++ (path_text from.now ++ 32 ∷ (path_text to.now ++ 10 ∷ [])))) }
+{
+    out.extend_from_slice(b"move ")?;
+    push_path(from, out)?;
+    out.push(b' ')?;
+    push_path(to, out)?;
+    out.push(b'\n')?;
+    Ok(())
+}
+
+fn push_prim<A: Allocator, B: Allocator + Copy>(
+    prim: &Prim<A>,
+    out: &mut Vec<u8, B>,
+) -> Result<(), AllocError>
+    ensures text { OnOk result (out.new.items ≡ out.old.items ++ prim_text (prim_of prim.now)) }
+    ensures good { OnOk result (IsGoodPrim (prim_of prim.now)) }
+{
+    match prim {
+        Prim::AddFile(path) => push_single(b"addfile ", path, out),
+        Prim::RmFile(path) => push_single(b"rmfile ", path, out),
+        Prim::AddDir(path) => push_single(b"adddir ", path, out),
+        Prim::RmDir(path) => push_single(b"rmdir ", path, out),
+        Prim::Move(from, to) => push_move(from, to, out),
+        Prim::Hunk(hunk) => push_hunk(hunk, out),
+    }
+}
+
+fn push_info<A: Allocator, B: Allocator + Copy>(
+    info: &Info<A>,
+    out: &mut Vec<u8, B>,
+) -> Result<(), AllocError>
+    ensures text { OnOk result (out.new.items ≡ out.old.items ++ canonical info.now) }
+    ensures good { OnOk result (IsInfo info.now) }
+{
+    write_info(info, out)?;
+    // A reader tells that the information is a good one.
+    let _lines = info.log_len();
+    Ok(())
+}
+
+fn push_deps<A: Allocator, B: Allocator + Copy>(
+    deps: &[Info<A>],
+    out: &mut Vec<u8, B>,
+) -> Result<(), AllocError>
+    ensures text { OnOk result (out.new.items ≡ out.old.items ++ deps_text deps.now) }
+    ensures good { OnOk result (AllByRecursion IsInfo deps.now) }
+{
+    if deps.is_empty() {
+        return Ok(());
+    }
+    out.extend_from_slice(b"<\n")?;
+    for dep in deps {
+        push_info(dep, out)?;
+        out.push(b'\n')?;
+    }
+    out.extend_from_slice(b"> ")?;
+    Ok(())
+}
+
+fn push_prims<A: Allocator, B: Allocator + Copy>(
+    prims: &[Prim<A>],
+    out: &mut Vec<u8, B>,
+) -> Result<(), AllocError>
+    ensures text { OnOk result (out.new.items ≡ out.old.items ++ flat_map prim_text (prims_of prims.now)) }
+    ensures good { OnOk result (AllByRecursion IsGoodPrim (prims_of prims.now)) }
+{
+    for prim in prims {
+        push_prim(prim, out)?;
+    }
+    Ok(())
+}
+
+fn push_body<A: Allocator, B: Allocator + Copy>(
+    prims: &[Prim<A>],
+    out: &mut Vec<u8, B>,
+) -> Result<(), AllocError>
+    ensures text { OnOk result (out.new.items ≡ out.old.items ++ body_text (prims_of prims.now)) }
+    ensures good { OnOk result (AllByRecursion IsGoodPrim (prims_of prims.now)) }
+{
+    if prims.len() == 1 {
+        return push_prim(&prims[0], out);
+    }
+    out.extend_from_slice(b"{\n")?;
+    push_prims(prims, out)?;
+    out.extend_from_slice(b"}\n")?;
+    Ok(())
+}
+
+/// The canonical text, on its own.
+fn text_of<A: Allocator, B: Allocator + Copy>(
+    alloc: B,
+    patch: &Named<A>,
+) -> Result<Vec<u8, B>, AllocError>
+    ensures text { IfOk result (λ text. text.items ≡ patch_text patch.now) }
+    ensures good { OnOk result (IsGoodPatch patch.now) }
+{
+    let mut text = Vec::new(alloc);
+    push_info(patch.info(), &mut text)?;
+    push_deps(patch.deps(), &mut text)?;
+    push_body(patch.prims(), &mut text)?;
+    Ok(text)
+}
+
+/// Appends the canonical text of a path. A refused growth changes nothing.
+pub fn write_path<A: Allocator, B: Allocator + Copy>(
+    path: &Path<A>,
+    out: &mut Vec<u8, B>,
+) -> Result<(), AllocError>
+    ensures ok { OnOk result (out.new.items ≡ out.old.items ++ path_text path.now) }
+    ensures err { OnErr result (out.new.items ≡ out.old.items) }
+{
+    let mut text = Vec::new(*out.allocator());
+    push_path(path, &mut text)?;
+    out.extend_from_slice(&text)?;
+    Ok(())
+}
+
+/// Appends the canonical text of a named patch. A refused growth changes nothing.
+pub fn write_named<A: Allocator, B: Allocator + Copy>(
+    patch: &Named<A>,
+    out: &mut Vec<u8, B>,
+) -> Result<(), AllocError>
+    ensures ok { OnOk result (out.new.items ≡ out.old.items ++ patch_text patch.now) }
+    // What was written is a good named patch, so its text is read again as it.
+    ensures good { OnOk result (IsGoodPatch patch.now) }
+    ensures err { OnErr result (out.new.items ≡ out.old.items) }
+{
+    let text = text_of(*out.allocator(), patch)?;
+    out.extend_from_slice(&text)?;
+    Ok(())
+}

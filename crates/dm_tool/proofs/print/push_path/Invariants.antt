@@ -1,7 +1,0 @@
-use Rattle.std.proofs.Common.{◌≡◌, ◌++◌, ◌∷◌, take}
-use Rattle.std.specs.List.{flat_map}
-use Rattle.dm_tool.specs.Printing.{byte_text}
-use Rattle.dm_tool.proofs.print.push_path.Given as goal
-
-abbrev pub invariant-loop-i : goal.invariant-loop-i
-invariant-loop-i l = l.out.items ≡ l.fn.out.items ++ 46 ∷ flat_map (λ n. 47 ∷ flat_map byte_text n) (take l.i l.path)

@@ -1,0 +1,54 @@
+//! The command `dm check`.
+ghost use Rattle.std.specs.Prelude.{◌≡◌, ◌≢◌, ℕ, List, take, IfOk, IfErr};
+ghost use Rattle.std.specs.Io.KnownBytes.{Appends, Keeps};
+ghost use Rattle.dm_tool.specs.Streams.{Gives};
+ghost use Rattle.dm_tool.specs.Checking.{Checks};
+
+use crate::fault::ToolFault;
+use crate::print::push_verdict;
+use crate::streams::{read_text, write_text};
+use crate::verdict::Verdict;
+use dm_bundle::{read_bundle, write_bundle};
+use std::alloc::{AllocError, Global};
+use std::io::{Read, Write};
+
+/// What is printed of a text, and the exit status.
+fn check_text(alloc: Global, text: &[u8]) -> Result<(Vec<u8>, u8), AllocError>
+    ensures { IfOk result (λ x. Checks text.now x.0.items x.1) }
+{
+    match read_bundle(alloc, text) {
+        Ok(bundle) => Ok((write_bundle(alloc, &bundle)?, 0)),
+        Err(fault) => {
+            let verdict = Verdict::unread(fault);
+            let mut line = Vec::new(alloc);
+            push_verdict(verdict, &mut line)?;
+            Ok((line, verdict.status()))
+        }
+    }
+}
+
+/// Reads a bundle and writes its canonical text, or the line of the verdict: that the text is
+/// malformed, or that memory was wanting as it was read. Answers the exit status, 0 with a
+/// canonical text and 1 with a verdict.
+///
+/// Errors: [`ToolFault::Read`], [`ToolFault::NoMemory`] where the text or the output could not be
+/// kept, [`ToolFault::Write`]. Only after the last has anything been written, which is a prefix of
+/// the output.
+pub fn check_over<R: Read, W: Write>(
+    alloc: Global,
+    reader: &mut R,
+    writer: &mut W,
+) -> Result<u8, ToolFault>
+    ensures ok { IfOk result (λ status. (text : List ℕ) × (out : List ℕ) × Gives (R.remaining reader.old) (R.remaining reader.new) text ×
+        Checks text out status × Appends (W.contents writer.old) (W.contents writer.new) out) }
+    ensures silent { IfErr result (λ e. (e ≢ ToolFault.Write) → Keeps (W.contents writer.old) (W.contents writer.new)) }
+    ensures prefix { IfErr result (λ e. (e ≡ ToolFault.Write) → (text : List ℕ) × (out : List ℕ) × (status : ℕ) × (count : ℕ) ×
+        Gives (R.remaining reader.old) (R.remaining reader.new) text ×
+        Checks text out status × Appends (W.contents writer.old) (W.contents writer.new) (take count out)) }
+    ensures ready { IfErr result (λ e. e ≢ ToolFault.NotYet) }
+{
+    let text = read_text(alloc, reader)?;
+    let (out, status) = check_text(alloc, &text)?;
+    write_text(&out, writer)?;
+    Ok(status)
+}
