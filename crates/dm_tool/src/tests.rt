@@ -198,12 +198,14 @@ fn a_bundle_that_is_cut_is_malformed(rt: HostRuntime) -> Result<(), Fail> {
         (70, "malformed no-context 67|"),
     ] {
         let verdict = text_of(rt.alloc(), verdict)?;
+        let cut = whole.get(..end).ok_or("a place in the bundle")?;
         let row = format!(in rt.alloc(); "cut at {end}")?;
-        expect(&rt, &row, checked(rt.alloc(), &whole[..end]), &verdict, 1);
+        expect(&rt, &row, checked(rt.alloc(), cut), &verdict, 1);
     }
     for end in [75, 76, 77] {
+        let cut = whole.get(..end).ok_or("a place in the bundle")?;
         let row = format!(in rt.alloc(); "cut at {end}")?;
-        expect(&rt, &row, checked(rt.alloc(), &whole[..end]), &whole, 0);
+        expect(&rt, &row, checked(rt.alloc(), cut), &whole, 0);
     }
     Ok(())
 }
