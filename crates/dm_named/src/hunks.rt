@@ -9,7 +9,7 @@ use crate::fault::{FaultKind, ReadFault};
 use crate::numbers::number_at;
 use crate::text::{begins_at, line_at};
 use dm_prim::{Hunk, HunkFault};
-use dm_tree::{LineFault, Lines, Path};
+use dm_tree::{Lines, Path};
 use std::alloc::{AllocError, Allocator};
 
 /// The lines that begin with a byte, without it, and the place behind them.
@@ -28,11 +28,7 @@ fn lines_at<A: Allocator + Copy>(
     let mut at = start;
     while begins_at(text, at, byte) {
         let (line, next) = line_at(text, at + 1);
-        match lines.push(line) {
-            Ok(()) => {}
-            Err(LineFault::Newline) => unreachable!(),
-            Err(LineFault::NoMemory) => return Err(AllocError),
-        }
+        lines.push_plain(line)?;
         at = next;
     }
     Ok((lines, at))

@@ -4,7 +4,7 @@ ghost use Rattle.dm_tree.specs.declared.fault.TreeFault.TheVariants.{NoMemory};
 ghost use Rattle.dm_tree.specs.declared.fault.PathFault.TheVariants as path;
 ghost use Rattle.dm_tree.specs.declared.fault.LineFault.TheVariants as line;
 
-use std::alloc::{AllocError, AllocFailed};
+use std::alloc::AllocError;
 
 /// Why a change of a tree is refused. Each call says which of these it answers, and in which
 /// order.
@@ -80,14 +80,6 @@ impl From<AllocError> for LineFault {
     ghost from_gives = { λ _ e. e ≡ line.NoMemory };
 
     fn from(_e: AllocError) -> LineFault {
-        LineFault::NoMemory
-    }
-}
-
-impl<T: Drop> From<AllocFailed<T>> for LineFault {
-    ghost from_gives = { λ _ e. e ≡ line.NoMemory };
-
-    fn from(_e: AllocFailed<T>) -> LineFault {
         LineFault::NoMemory
     }
 }

@@ -1,6 +1,6 @@
 //! A list of lines, none of which has a newline.
 ghost use Rattle.std.specs.Prelude.{◌≡◌, ◌<◌, ◌++◌, ◌∷◌, [], length, IfOk, OnOk, OnErr, slice_index_or};
-ghost use Rattle.dm_tree.specs.Parts.{AnswersLine, ArePlain, line_fault};
+ghost use Rattle.dm_tree.specs.Parts.{AnswersLine, ArePlain, IsPlain, line_fault};
 
 use crate::bytes::{Bytes, copy_all};
 use crate::fault::LineFault;
@@ -77,6 +77,17 @@ impl<A: Allocator + Copy> Lines<A> {
         if line.contains(&b'\n') {
             return Err(LineFault::Newline);
         }
+        self.push_plain(line)?;
+        Ok(())
+    }
+
+    /// Appends a copy of a line that is known to have no newline byte, without a look at its
+    /// bytes: for a reader that has just cut the line from a text at its newlines.
+    pub fn push_plain(&mut self, line: &[u8]) -> Result<(), AllocError>
+        requires { IsPlain line.now }
+        ensures ok { OnOk result (self.new ≡ self.old ++ line.now ∷ []) }
+        ensures err { OnErr result (self.new ≡ self.old) }
+    {
         let alloc = *self.lines.allocator();
         let fresh = Bytes::from_slice(alloc, line)?;
         self.lines.push(fresh)?;
