@@ -101,7 +101,8 @@ fn lines_have_no_newline<A: Allocator + Copy>(rt: &impl Abort, alloc: A) -> Resu
     let mut lines = Lines::new(alloc);
     assert_eq!(rt; lines.push(b"x\ny"), Err(LineFault::Newline), "a newline");
     assert_eq!(rt; lines.push(b"x"), Ok(()), "a line");
-    assert_eq!(rt; lines.len(), 1, "the count");
+    assert_eq!(rt; lines.push_plain(b"y"), Ok(()), "a line as it is");
+    assert_eq!(rt; lines.len(), 2, "the count");
     Ok(())
 }
 
@@ -151,6 +152,7 @@ fn changes_are_refused<A: Allocator + Copy>(rt: &impl Abort, alloc: A) -> Result
     let de = path(alloc, &[b"d".as_slice(), b"e".as_slice()])?;
     let z = path(alloc, &[b"z".as_slice()])?;
     let zq = path(alloc, &[b"z".as_slice(), b"q".as_slice()])?;
+    let qe = path(alloc, &[b"q".as_slice(), b"e".as_slice()])?;
     tree.add_dir(&d)?;
     tree.add_file(&f)?;
     assert_eq!(rt;
@@ -186,7 +188,7 @@ fn changes_are_refused<A: Allocator + Copy>(rt: &impl Abort, alloc: A) -> Result
         "nothing onto itself"
     );
     assert_eq!(rt;
-        tree.rename(&d, &zq),
+        tree.rename(&d, &qe),
         Err(TreeFault::NoParent),
         "to no parent"
     );
