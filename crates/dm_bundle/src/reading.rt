@@ -41,7 +41,7 @@ fn sections_at<A: Allocator + Copy>(
             at: here,
         });
     }
-    let context = context_at(alloc, &known, text, behind)?;
+    let context = context_at(alloc, &crate::known::Known::new(alloc), text, behind)?;
     Ok(Bundle::without_doubles(patches, context))
 }
 

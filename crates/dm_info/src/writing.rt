@@ -1,6 +1,7 @@
 //! Writing the canonical text.
 
 ghost use Rattle.std.specs.Prelude.{◌≡◌, ◌++◌, ◌∷◌, [], OnOk, OnErr, IfOk};
+ghost use Rattle.dm_info.specs.Parts.{IsInfo};
 ghost use Rattle.dm_info.specs.Spelling.{opening, canonical_end, canonical};
 
 use crate::info::Info;
@@ -25,7 +26,8 @@ fn push_end<A: Allocator, B: Allocator>(
     info: &Info<A>,
     out: &mut Vec<u8, B>,
 ) -> Result<(), AllocError>
-    ensures { OnOk result (out.new.items ≡ out.old.items ++ canonical_end info.now.log) }
+    ensures text { OnOk result (out.new.items ≡ out.old.items ++ canonical_end info.now.log) }
+    ensures good { OnOk result (IsInfo info.now) }
 {
     let count = info.log_len();
     if count > 0 {
@@ -42,7 +44,8 @@ fn push_end<A: Allocator, B: Allocator>(
 
 /// The canonical text, on its own.
 fn text_of<A: Allocator, B: Allocator>(alloc: B, info: &Info<A>) -> Result<Vec<u8, B>, AllocError>
-    ensures { IfOk result (λ text. text.items ≡ canonical info.now) }
+    ensures text { IfOk result (λ text. text.items ≡ canonical info.now) }
+    ensures good { OnOk result (IsInfo info.now) }
 {
     let mut text = Vec::new(alloc);
     push_opening(info, &mut text)?;
@@ -57,6 +60,8 @@ pub fn write_info<A: Allocator, B: Allocator + Copy>(
     out: &mut Vec<u8, B>,
 ) -> Result<(), AllocError>
     ensures ok { OnOk result (out.new.items ≡ out.old.items ++ canonical info.now) }
+    // What was written is a good information, so its text is read again as it.
+    ensures good { OnOk result (IsInfo info.now) }
     ensures err { OnErr result (out.new.items ≡ out.old.items) }
 {
     let text = text_of(*out.allocator(), info)?;

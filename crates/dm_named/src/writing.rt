@@ -4,7 +4,6 @@ ghost use Rattle.std.specs.Prelude.{◌≡◌, ◌++◌, ◌∷◌, [], OnOk, On
 ghost use Rattle.std.specs.List.{AllByRecursion, flat_map};
 ghost use Rattle.std.specs.Fmt.{decimal};
 ghost use Rattle.dm_info.specs.Parts.{IsInfo};
-ghost use Rattle.dm_info.specs.Spelling.{canonical};
 ghost use Rattle.dm_tree.specs.Parts.{IsGoodPath};
 ghost use Rattle.dm_prim.specs.Commuting.{IsGoodPrim};
 ghost use Rattle.dm_prim.specs.Hunks.{hunk_of};
@@ -143,19 +142,6 @@ fn push_prim<A: Allocator, B: Allocator + Copy>(
     }
 }
 
-fn push_info<A: Allocator, B: Allocator + Copy>(
-    info: &Info<A>,
-    out: &mut Vec<u8, B>,
-) -> Result<(), AllocError>
-    ensures text { OnOk result (out.new.items ≡ out.old.items ++ canonical info.now) }
-    ensures good { OnOk result (IsInfo info.now) }
-{
-    write_info(info, out)?;
-    // A reader tells that the information is a good one.
-    let _lines = info.log_len();
-    Ok(())
-}
-
 fn push_deps<A: Allocator, B: Allocator + Copy>(
     deps: &[Info<A>],
     out: &mut Vec<u8, B>,
@@ -168,7 +154,7 @@ fn push_deps<A: Allocator, B: Allocator + Copy>(
     }
     out.extend_from_slice(b"<\n")?;
     for dep in deps {
-        push_info(dep, out)?;
+        write_info(dep, out)?;
         out.push(b'\n')?;
     }
     out.extend_from_slice(b"> ")?;
@@ -213,7 +199,7 @@ fn text_of<A: Allocator, B: Allocator + Copy>(
     ensures good { OnOk result (IsGoodPatch patch.now) }
 {
     let mut text = Vec::new(alloc);
-    push_info(patch.info(), &mut text)?;
+    write_info(patch.info(), &mut text)?;
     push_deps(patch.deps(), &mut text)?;
     push_body(patch.prims(), &mut text)?;
     Ok(text)

@@ -1,10 +1,10 @@
 //! What is refused, and where.
 
 use super::*;
+use bumpalo::Bump;
 
-#[test]
-fn refuses_texts(rt: HostRuntime) -> Result<(), Fail> {
-    let alloc = rt.alloc();
+/// Patches, and the word and the place of the fault of each.
+fn patches<A: Allocator + Copy>(rt: &impl Abort, alloc: A) -> Result<(), Fail> {
     for (what, patch, word, place) in [
         ("no bracket", "x", "bad-info", 14),
         ("an empty text", "", "bad-info", 14),
@@ -153,6 +153,12 @@ fn refuses_texts(rt: HostRuntime) -> Result<(), Fail> {
             45,
         ),
         (
+            "a line in the place of a number",
+            "[a\np**20240101000000] hunk ./a\n+x\n",
+            "bad-number",
+            45,
+        ),
+        (
             "no lines in a hunk",
             "[a\np**20240101000000] hunk ./a 1\n\nContext:\n\n",
             "empty-hunk",
@@ -171,6 +177,12 @@ fn refuses_texts(rt: HostRuntime) -> Result<(), Fail> {
             46,
         ),
         (
+            "a move's second path that is none",
+            "[a\np**20240101000000] move ./a  b\n",
+            "bad-path",
+            46,
+        ),
+        (
             "the end in braces",
             "[a\np**20240101000000] {adddir ./d \n",
             "unclosed",
@@ -178,7 +190,7 @@ fn refuses_texts(rt: HostRuntime) -> Result<(), Fail> {
         ),
     ] {
         let text = format!(in alloc; "New patches:\n\n{patch}")?;
-        refuses(&rt, alloc, what, text.as_bytes(), word, place)?;
+        refuses(rt, alloc, what, text.as_bytes(), word, place)?;
     }
     let fault = read_named(alloc, b"x", 99).err().ok_or("a fault")?;
     assert_eq!(rt; fault.kind, FaultKind::BadInfo, "a place past the end");
@@ -186,9 +198,8 @@ fn refuses_texts(rt: HostRuntime) -> Result<(), Fail> {
     Ok(())
 }
 
-#[test]
-fn refuses_paths(rt: HostRuntime) -> Result<(), Fail> {
-    let alloc = rt.alloc();
+/// Texts that are no paths.
+fn paths<A: Allocator + Copy>(rt: &impl Abort, alloc: A) -> Result<(), Fail> {
     let mut long = String::new(alloc);
     for _ in 0..256 {
         long.push('x')?;
@@ -205,6 +216,7 @@ fn refuses_paths(rt: HostRuntime) -> Result<(), Fail> {
         ("the directory of the store", "./_darcs/x"),
         ("the code 0", "./\\0\\x"),
         ("the code 128", "./\\128\\x"),
+        ("a byte 0", "./a\0"),
         ("a code that does not end", "./\\32"),
         ("a code of one digit that does not end", "./a\\3"),
         ("a code of no digits", "./\\\\"),
@@ -222,9 +234,21 @@ fn refuses_paths(rt: HostRuntime) -> Result<(), Fail> {
         let text = format!(in alloc;
             "New patches:\n\n[a\np**20240101000000] addfile {path}\n\nContext:\n\n"
         )?;
-        refuses(&rt, alloc, what, text.as_bytes(), "bad-path", 44)?;
+        refuses(rt, alloc, what, text.as_bytes(), "bad-path", 44)?;
     }
     Ok(())
+}
+
+#[test]
+fn refuses_texts(rt: HostRuntime) -> Result<(), Fail> {
+    patches(&rt, rt.alloc())?;
+    patches(&rt, &Bump::new(rt.alloc()))
+}
+
+#[test]
+fn refuses_paths(rt: HostRuntime) -> Result<(), Fail> {
+    paths(&rt, rt.alloc())?;
+    paths(&rt, &Bump::new(rt.alloc()))
 }
 
 #[test]

@@ -1,11 +1,11 @@
 //! What is read and written.
 
 use super::*;
+use bumpalo::Bump;
 use dm_tree::Path;
 
-#[test]
-fn reads_and_writes(rt: HostRuntime) -> Result<(), Fail> {
-    let alloc = rt.alloc();
+/// Texts, the places behind their patches, and the canonical texts of these.
+fn patches<A: Allocator + Copy>(rt: &impl Abort, alloc: A) -> Result<(), Fail> {
     for (what, text, place, written) in [
         (
             "a hunk alone",
@@ -103,15 +103,32 @@ fn reads_and_writes(rt: HostRuntime) -> Result<(), Fail> {
             35,
             "[a\np**20240101000000] move ./a ./b{\n",
         ),
+        (
+            "a brace where a run goes on",
+            "[a\np**20240101000000] adddir ./d\n{ }",
+            32,
+            "[a\np**20240101000000] adddir ./d\n",
+        ),
+        (
+            "a word that goes on where a primitive's ends",
+            "[a\np**20240101000000] adddir ./d\nrmdirs ./d",
+            32,
+            "[a\np**20240101000000] adddir ./d\n",
+        ),
+        (
+            "the word of the context behind a run",
+            "[a\np**20240101000000] adddir ./d\n\nContext:\n",
+            32,
+            "[a\np**20240101000000] adddir ./d\n",
+        ),
     ] {
-        reads(&rt, alloc, what, text.as_bytes(), place, written.as_bytes())?;
+        reads(rt, alloc, what, text.as_bytes(), place, written.as_bytes())?;
     }
     Ok(())
 }
 
-#[test]
-fn reads_escapes(rt: HostRuntime) -> Result<(), Fail> {
-    let alloc = rt.alloc();
+/// Paths, and their canonical texts.
+fn escapes<A: Allocator + Copy>(rt: &impl Abort, alloc: A) -> Result<(), Fail> {
     for (what, path, written) in [
         ("a space", "./a\\32\\b", "./a\\32\\b"),
         (
@@ -138,7 +155,7 @@ fn reads_escapes(rt: HostRuntime) -> Result<(), Fail> {
         let text = format!(in alloc; "[a\np**d] addfile {path}\n")?;
         let canon = format!(in alloc; "[a\np**d] addfile {written}\n")?;
         let place = text.len().saturating_sub(1);
-        reads(&rt, alloc, what, text.as_bytes(), place, canon.as_bytes())?;
+        reads(rt, alloc, what, text.as_bytes(), place, canon.as_bytes())?;
     }
     let mut long = Vec::from_slice(alloc, b"[a\np**d] addfile ./")?;
     for _ in 0..255 {
@@ -146,35 +163,51 @@ fn reads_escapes(rt: HostRuntime) -> Result<(), Fail> {
     }
     let mut written = Vec::from_slice(alloc, &long)?;
     written.push(b'\n')?;
-    reads(&rt, alloc, "a name of 255 bytes", &long, 274, &written)?;
+    reads(rt, alloc, "a name of 255 bytes", &long, 274, &written)?;
+    Ok(())
+}
+
+/// Names, and the canonical text of the path of each.
+fn names<A: Allocator + Copy>(rt: &impl Abort, alloc: A) -> Result<(), Fail> {
+    for (what, name, written) in [
+        (
+            "a space",
+            b"a b".as_slice(),
+            b">./a\\32\\b".as_slice(),
+        ),
+        (
+            "white space and a backslash",
+            b"\t\n\x0b\x0c\r\\".as_slice(),
+            b">./\\9\\\\10\\\\11\\\\12\\\\13\\\\92\\".as_slice(),
+        ),
+        (
+            "other bytes",
+            b"\x01\x7f\xc3\xa9.".as_slice(),
+            b">./\x01\x7f\xc3\xa9.".as_slice(),
+        ),
+    ] {
+        let path = Path::from_parts(alloc, &[name])?;
+        let mut out = Vec::from_slice(alloc, b">")?;
+        write_path(&path, &mut out)?;
+        assert_eq!(rt; out.as_slice(), written, "{what}");
+    }
     Ok(())
 }
 
 #[test]
+fn reads_and_writes(rt: HostRuntime) -> Result<(), Fail> {
+    patches(&rt, rt.alloc())?;
+    patches(&rt, &Bump::new(rt.alloc()))
+}
+
+#[test]
+fn reads_escapes(rt: HostRuntime) -> Result<(), Fail> {
+    escapes(&rt, rt.alloc())?;
+    escapes(&rt, &Bump::new(rt.alloc()))
+}
+
+#[test]
 fn writes_paths(rt: HostRuntime) -> Result<(), Fail> {
-    let alloc = rt.alloc();
-    for (what, names, written) in [
-        (
-            "a space",
-            [b"a b".as_slice(), b"c".as_slice()],
-            b"./a\\32\\b/c".as_slice(),
-        ),
-        (
-            "white space and a backslash",
-            [b"\t\n\x0b\x0c\r".as_slice(), b"\\".as_slice()],
-            b"./\\9\\\\10\\\\11\\\\12\\\\13\\/\\92\\".as_slice(),
-        ),
-        (
-            "other bytes",
-            [b"\x01\x7f".as_slice(), b"\xc3\xa9.".as_slice()],
-            b"./\x01\x7f/\xc3\xa9.".as_slice(),
-        ),
-    ] {
-        let path = Path::from_parts(alloc, &names)?;
-        let mut out = Vec::from_slice(alloc, b">")?;
-        write_path(&path, &mut out)?;
-        let end = out.get(1..).ok_or("a path")?;
-        assert_eq!(rt; end, written, "{what}");
-    }
-    Ok(())
+    names(&rt, rt.alloc())?;
+    names(&rt, &Bump::new(rt.alloc()))
 }

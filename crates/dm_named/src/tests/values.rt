@@ -1,10 +1,10 @@
 //! Named patches commuted, copied and changed.
 
 use super::*;
+use bumpalo::Bump;
 
-#[test]
-fn commutes(rt: HostRuntime) -> Result<(), Fail> {
-    let alloc = rt.alloc();
+/// Two patches, and those that they commute to: the second, then the first.
+fn pairs<A: Allocator + Copy>(rt: &impl Abort, alloc: A) -> Result<(), Fail> {
     for (what, first, second, answer) in [
         (
             "two directories",
@@ -62,26 +62,42 @@ fn commutes(rt: HostRuntime) -> Result<(), Fail> {
     Ok(())
 }
 
-#[test]
-fn copies_and_replaces(rt: HostRuntime) -> Result<(), Fail> {
-    let alloc = rt.alloc();
+/// A copy in another allocator, whose primitives are then replaced.
+fn copies<A: Allocator + Copy, B: Allocator + Copy>(
+    rt: &impl Abort,
+    from: A,
+    into: B,
+) -> Result<(), Fail> {
     let text =
         "[a\np**d\n log\n] <\n[b\np**d] \n[c\np**d] \n> {\nadddir ./d\nhunk ./f 2\n-x\n+y\n}\n";
-    let patch = read(alloc, text)?;
-    let mut copy = patch.copy_into(alloc)?;
+    let patch = read(from, text)?;
+    let mut copy = patch.copy_into(into)?;
     assert_eq!(rt;
-        canonical(alloc, &copy)?.as_slice(),
+        canonical(from, &copy)?.as_slice(),
         text.as_bytes(),
         "a copy"
     );
     assert!(rt;
-        copy.names(read(alloc, "[b\np**d]")?.info()),
+        copy.names(read(from, "[b\np**d]")?.info()),
         "a dependency is named"
     );
     assert!(rt; !copy.names(patch.info()), "its own information is not");
-    let taken = copy.replace_prims(Vec::new(alloc));
+    let taken = copy.replace_prims(Vec::new(into));
     assert_eq!(rt; taken.len(), 2, "the primitives that were taken out");
     assert_eq!(rt; copy.prims().len(), 0, "the primitives in their place");
     assert_eq!(rt; copy.deps().len(), 2, "the dependencies stay");
     Ok(())
+}
+
+#[test]
+fn commutes(rt: HostRuntime) -> Result<(), Fail> {
+    pairs(&rt, rt.alloc())?;
+    pairs(&rt, &Bump::new(rt.alloc()))
+}
+
+#[test]
+fn copies_and_replaces(rt: HostRuntime) -> Result<(), Fail> {
+    let bump = Bump::new(rt.alloc());
+    copies(&rt, rt.alloc(), &bump)?;
+    copies(&rt, &bump, rt.alloc())
 }
