@@ -5,4 +5,5 @@ pub mod PatchesLemmas
 pub mod ContextLemmas
 pub mod OneBundle
 pub mod NoBundle
+pub mod WithinLimits
 pub mod RoundTrips

@@ -1,9 +1,9 @@
 //! Reading a bundle.
 
-ghost use Rattle.std.specs.Prelude.{◌≡◌, ◌≢◌, ◌≤◌, ◌<◌, length, drop, IfOk, IfErr, IsErrOf};
+ghost use Rattle.std.specs.Prelude.{◌≡◌, ◌≢◌, ◌≤◌, ◌<◌, length, drop, MatchResult, IfOk, IfErr, IsErrOf};
 ghost use Rattle.dm_bundle.specs.Patches.{AreFew};
 ghost use Rattle.dm_bundle.specs.Bundles.{Contents, Sections, BundleText};
-ghost use Rattle.dm_bundle.specs.Faults.{HasNoHeading, BehindHeading, FaultAt, Excludes};
+ghost use Rattle.dm_bundle.specs.Faults.{Fits, HasNoHeading, BehindHeading, FaultAt, Excludes};
 
 use crate::bundle::Bundle;
 use crate::context::{context_at, is_context_word};
@@ -41,7 +41,7 @@ fn sections_at<A: Allocator + Copy>(
             at: here,
         });
     }
-    let context = context_at(alloc, &crate::known::Known::new(alloc), text, behind)?;
+    let context = context_at(alloc, &known, text, behind)?;
     Ok(Bundle::without_doubles(patches, context))
 }
 
@@ -79,6 +79,9 @@ pub fn read_bundle<A: Allocator + Copy>(alloc: A, text: &[u8]) -> Result<Bundle<
     ensures only { IfOk result (λ b. (c : Contents) → BundleText text.now c → b ≡ c) }
     // At most 1,000 new patches of at most 10,000 primitives.
     ensures few { IfOk result (λ b. AreFew b.patches) }
+    // The bundle of a text within the limits is read, unless memory runs out.
+    ensures within_limits { (b : Contents) → BundleText text.now b → Fits text.now → AreFew b.patches
+        → MatchResult result (λ found. found ≡ b) (λ e. e.kind ≡ FaultKind.NoMemory) }
     // What is wrong, and where.
     ensures err { IfErr result (λ e. e.kind ≢ FaultKind.NoMemory → FaultAt text.now e.kind e.at) }
     // A text with a fault is no bundle's, unless it is too large or has too many parts.

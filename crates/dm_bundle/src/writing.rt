@@ -36,8 +36,6 @@ fn push_context<A: Allocator, B: Allocator + Copy>(
     for info in context {
         write_info(info, out)?;
         out.push(b'\n')?;
-        // A reader tells that the information is a good one.
-        let _count = info.log_len();
     }
     Ok(())
 }

@@ -7,6 +7,7 @@ pub mod PrimLemmas
 pub mod BodyLemmas
 pub mod OnePatch
 pub mod NoPatch
+pub mod WithinCount
 pub mod NameRoundTrip
 pub mod PatchRoundTrip
 pub mod GoodParts

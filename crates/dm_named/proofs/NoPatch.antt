@@ -329,7 +329,7 @@ no_run kind text here f qs s q ends =
       | inr p ↦ run_no_prim kind (skipped f.mid) here f.wrong (prim_a_word (skipped f.mid) p.0 p.1 p.2)
     ]
 
-tail_same : (b : ℕ) (text x y : List ℕ) → text ≡ b ∷ x → text ≡ b ∷ y → x ≡ y
+pub tail_same : (b : ℕ) (text x y : List ℕ) → text ≡ b ∷ x → text ≡ b ∷ y → x ≡ y
 tail_same b text x y e f = let both : b ∷ x ≡ b ∷ y = sym e ∙ f in cc
 
 no_a_body : (kind : FaultKind) (text here : List ℕ) → SaysNone kind → BodyFault kind text here → (qs : List Prim) (r : List ℕ) → Body text qs r → ⊥

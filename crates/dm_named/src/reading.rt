@@ -1,12 +1,12 @@
 //! Reading a named patch.
 
-ghost use Rattle.std.specs.Prelude.{◌≡◌, ◌≤◌, ◌<◌, ℕ, List, length, drop, IfOk, IfErr};
+ghost use Rattle.std.specs.Prelude.{◌≡◌, ◌≤◌, ◌<◌, ℕ, List, length, drop, MatchResult, IfOk, IfErr};
 ghost use Rattle.dm_named.specs.Patches.{Patch, PatchText};
 ghost use Rattle.dm_named.specs.Faults.{PatchFault, SaysNone};
 
 use crate::bodies::body_at;
 use crate::dependencies::deps_at;
-use crate::fault::ReadFault;
+use crate::fault::{FaultKind, ReadFault};
 use crate::named::Named;
 use crate::text::info_at;
 use std::alloc::Allocator;
@@ -48,6 +48,10 @@ pub fn read_named<A: Allocator + Copy>(
     ensures few { IfOk result (λ x. length x.0.prims ≤ 10000) }
     // Nothing else does.
     ensures only { IfOk result (λ x. (p : Patch) (rest : List ℕ) → PatchText (drop at text.now) p rest → (x.0 ≡ p) × (drop x.1 text.now ≡ rest)) }
+
+    // A named patch that stands there is read, unless it has too many primitives or memory runs out.
+    ensures within_count { (p : Patch) (rest : List ℕ) → PatchText (drop at text.now) p rest → length p.prims ≤ 10000
+        → MatchResult result (λ x. (x.0 ≡ p) × (drop x.1 text.now ≡ rest)) (λ e. e.kind ≡ FaultKind.NoMemory) }
 
     // What is wrong, and where.
     ensures err { IfErr result (λ e. PatchFault e.kind (drop at text.now) (drop e.at text.now)) }

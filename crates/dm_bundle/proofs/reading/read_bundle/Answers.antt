@@ -1,5 +1,6 @@
 use Rattle.dm_bundle.proofs.OneBundle.{one_bundle}
 use Rattle.dm_bundle.proofs.NoBundle.{fault_excludes_bundle}
+use Rattle.dm_bundle.proofs.WithinLimits.{memory_alone}
 use Rattle.dm_bundle.proofs.reading.read_bundle.Goals as goal
 
 pub returns-in-Ok-clause-only : goal.returns-in-Ok-clause-only
@@ -7,3 +8,9 @@ returns-in-Ok-clause-only g c = λ b t. one_bundle c.args.text.now c.in-Ok.bundl
 
 pub returns-in-Err-clause-none : goal.returns-in-Err-clause-none
 returns-in-Err-clause-none g c = λ k. fault_excludes_bundle c.args.text.now c.in-Err.e.kind c.in-Err.e.at k (c.in-Err.ensures.err k.memory)
+
+pub returns-in-Ok-clause-within_limits : goal.returns-in-Ok-clause-within_limits
+returns-in-Ok-clause-within_limits g c = λ b t fits few. one_bundle c.args.text.now c.in-Ok.bundle b c.in-Ok.ensures.ok t
+
+pub returns-in-Err-clause-within_limits : goal.returns-in-Err-clause-within_limits
+returns-in-Err-clause-within_limits g c = λ b t fits few. memory_alone c.args.text.now c.in-Err.e.kind c.in-Err.e.at c.in-Err.ensures.err b t fits few
