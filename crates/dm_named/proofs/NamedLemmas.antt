@@ -39,6 +39,10 @@ pub commuted : (x y y' x' : Patch) (ys xs : List Prim) → (Contains y.deps x.in
 commuted x y y' x' ys xs first_free second_free second first prims =
     rw (second, first) (record { x_named = first_free; y_named = second_free; x_stays = record { info = refl; deps = refl }; y_stays = record { info = refl; deps = refl }; prims = prims })
 
+pub commuted_back : (x y y' x' : Patch) (ys xs : List Prim) → (Contains y.deps x.info → ⊥) → (Contains x.deps y.info → ⊥) → y' ≡ record y { prims = ys } → x' ≡ record x { prims = xs } → ListsCommute ys xs x.prims y.prims → NamedCommutes y' x' x y
+commuted_back x y y' x' ys xs first_free second_free second first prims =
+    rw (second, first) (record { x_named = second_free; y_named = first_free; x_stays = record { info = refl; deps = refl }; y_stays = record { info = refl; deps = refl }; prims = prims })
+
 -- ---- what holds of each element so far
 
 all_push : {V : Type 0} (P : V → Type 0) (vs : List V) (v : V) → AllByRecursion P vs → P v → AllByRecursion P (vs ++ v ∷ [])

@@ -26,3 +26,8 @@ NamedCommutesTo x y (Some r) = NamedCommutes x y r.0 r.1
 abbrev pub NamedLawsHold : Patch → Patch → Option (Patch × Patch) → Type 0
 NamedLawsHold x y None = Unit {0}
 NamedLawsHold x y (Some r) = ListLaws x.prims y.prims r.0.prims r.1.prims
+
+-- the pair that is answered commutes back
+abbrev pub NamedCommutesBack : Patch → Patch → Option (Patch × Patch) → Type 0
+NamedCommutesBack x y None = Unit {0}
+NamedCommutesBack x y (Some r) = NamedCommutes r.0 r.1 x y

@@ -1,7 +1,7 @@
 //! When two named patches commute.
 
 ghost use Rattle.std.specs.Prelude.{IfOk};
-ghost use Rattle.dm_named.specs.Commuting.{NamedCommutesTo, NamedLawsHold};
+ghost use Rattle.dm_named.specs.Commuting.{NamedCommutesTo, NamedLawsHold, NamedCommutesBack};
 
 use crate::named::Named;
 use dm_prim::commute_lists;
@@ -16,6 +16,7 @@ pub fn commute_named<A: Allocator, B: Allocator, C: Allocator + Copy>(
 ) -> Result<Option<(Named<C>, Named<C>)>, AllocError>
     ensures answer { IfOk result (NamedCommutesTo x.now y.now) }
     ensures laws { IfOk result (NamedLawsHold x.now y.now) }
+    ensures back { IfOk result (NamedCommutesBack x.now y.now) }
 {
     if y.names(x.info()) || x.names(y.info()) {
         return Ok(None);

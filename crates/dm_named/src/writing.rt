@@ -211,6 +211,8 @@ pub fn write_path<A: Allocator, B: Allocator + Copy>(
     out: &mut Vec<u8, B>,
 ) -> Result<(), AllocError>
     ensures ok { OnOk result (out.new.items ≡ out.old.items ++ path_text path.now) }
+    // What was written is a good path, so its text is read again as it.
+    ensures good { OnOk result (IsGoodPath path.now) }
     ensures err { OnErr result (out.new.items ≡ out.old.items) }
 {
     let mut text = Vec::new(*out.allocator());

@@ -170,11 +170,7 @@ fn escapes<A: Allocator + Copy>(rt: &impl Abort, alloc: A) -> Result<(), Fail> {
 /// Names, and the canonical text of the path of each.
 fn names<A: Allocator + Copy>(rt: &impl Abort, alloc: A) -> Result<(), Fail> {
     for (what, name, written) in [
-        (
-            "a space",
-            b"a b".as_slice(),
-            b">./a\\32\\b".as_slice(),
-        ),
+        ("a space", b"a b".as_slice(), b">./a\\32\\b".as_slice()),
         (
             "white space and a backslash",
             b"\t\n\x0b\x0c\r\\".as_slice(),
