@@ -1,0 +1,100 @@
+-- Members of lists of patches.
+use Rattle.std.proofs.Common.{◌≡◌, ℕ, zero, suc, ◌+◌, ◌<◌, List, [], ◌∷◌, ◌++◌, length, take, drop, get_or, slice_get, Some, ◌⊎◌, inl, inr, refl, sym, ap, ap₂, ◌∙◌, arith, append_assoc, append-nil}
+use Rattle.std.proofs.lemmas.List.{take_more, drop_more}
+use Rattle.std.specs.List.{Contains}
+use Rattle.dm_info.specs.Parts.{Parts}
+use Rattle.dm_named.specs.Patches.{Patch}
+use Rattle.dm_bundle.specs.Patches.{infos_of, Distinct}
+use Rattle.dm_repo.specs.Repositories.{Holds, NamesEarlier}
+use Rattle.std.proofs.lemmas.List.Elements.{Contains-append_left, Contains-append_cases}
+
+module _ {X : Type 0} where
+  pub here : (x : X) (xs : List X) → Contains (x ∷ xs) x
+  here x xs = (0, omega arith, refl)
+
+  pub more : (y : X) (xs : List X) {x : X} → Contains xs x → Contains (y ∷ xs) x
+  more y xs (k, l, e) = (suc k, omega arith, e)
+
+  pub one_of : (y : X) (xs : List X) {x : X} → Contains (y ∷ xs) x → (y ≡ x) ⊎ Contains xs x
+  one_of y xs (zero, l, e) = inl e
+  one_of y xs (suc k, l, e) = inr (k, omega arith, e)
+
+  pub none_of : {x : X} → Contains [] x → ⊥
+  none_of (k, l, e) = absurd (omega arith)
+
+  pub at_from : (xs : List X) {x : X} → Contains xs x → (k : ℕ) × (slice_get xs k ≡ Some x)
+  at_from [] c = absurd (none_of c)
+  at_from (y ∷ ys) c = elim (one_of y ys c) [ inl e ↦ (0, ap Some e) | inr d ↦ let a = at_from ys d in (suc a.0, a.1) ]
+
+  pub from_at : (xs : List X) {x : X} (k : ℕ) → slice_get xs k ≡ Some x → Contains xs x
+  from_at [] k e = absurd (cc)
+  from_at (y ∷ ys) {x} zero e = let f : x ≡ y = cc in rw f (here y ys)
+  from_at (y ∷ ys) (suc k) e = more y ys (from_at ys k e)
+
+-- what was read at a place is a member, and what was not found before a place, nor there, is not found up to the next
+module _ {X : Type 0} where
+  pub found_at : (xs : List X) (k : ℕ) (x y : X) → k < length xs → x ≡ get_or xs k x → x ≡ y → Contains xs y
+  found_at xs k x y l e f = let h : Contains xs x = (k, l, sym e) in rw f at h
+
+  pub none_on : (xs : List X) (x y : X) → (Contains xs y → ⊥) → (x ≡ y → ⊥) → Contains (xs ++ x ∷ []) y → ⊥
+  none_on xs x y n f c = elim (Contains-append_cases xs (x ∷ []) y c) [ inl h ↦ n h | inr h ↦ elim (one_of x [] h) [ inl e ↦ f e | inr d ↦ none_of d ] ]
+
+  pub none_more : (xs : List X) (k : ℕ) (x y : X) → k < length xs → x ≡ get_or xs k x → (Contains (take k xs) y → ⊥) → (x ≡ y → ⊥) → Contains (take (k + 1) xs) y → ⊥
+  none_more xs k x y l e n f c = none_on (take k xs) x y n f (rw (take_more xs k x l, ← e) at c)
+
+  -- one more copy
+  pub copied_more : (xs : List X) (k : ℕ) (x : X) (copies : List X) (y : X) {copies' : List X} → k < length xs → x ≡ get_or xs k x → copies ≡ take k xs → y ≡ x → copies' ≡ copies ++ y ∷ [] → copies' ≡ take (k + 1) xs
+  copied_more xs k x copies y l e c s new = new ∙ ap₂ (λ a b. a ++ b ∷ []) c (s ∙ e) ∙ sym (take_more xs k x l)
+
+-- the name of a member
+pub in_infos : (xs : List Patch) {x : Patch} → Contains xs x → Holds xs x.info
+in_infos [] c = absurd (none_of c)
+in_infos (y ∷ ys) c = elim (one_of y ys c) [ inl e ↦ rw (← e) (here y.info (infos_of ys)) | inr d ↦ more y.info (infos_of ys) (in_infos ys d) ]
+
+pub in_take : (k : ℕ) (xs : List Patch) {i : Parts} → Holds (take k xs) i → Holds xs i
+in_take zero xs h = absurd (none_of h)
+in_take (suc k) [] h = h
+in_take (suc k) (x ∷ xs) h = elim (one_of x.info (infos_of (take k xs)) h) [ inl e ↦ rw (← e) (here x.info (infos_of xs)) | inr d ↦ more x.info (infos_of xs) (in_take k xs d) ]
+
+pub infos_of-append : (xs ys : List Patch) → infos_of (xs ++ ys) ≡ infos_of xs ++ infos_of ys
+infos_of-append [] ys = refl
+infos_of-append (x ∷ xs) ys = ap (λ l. x.info ∷ l) (infos_of-append xs ys)
+
+-- the same of the informations of patches
+pub none_more_infos : (xs : List Patch) (k : ℕ) (x : Patch) (i : Parts) → k < length xs → x ≡ get_or xs k x → (Contains (infos_of (take k xs)) i → ⊥) → (x.info ≡ i → ⊥) →
+    Contains (infos_of (take (k + 1) xs)) i → ⊥
+none_more_infos xs k x i l e n f c = none_on (infos_of (take k xs)) x.info i n f (rw (take_more xs k x l, ← e, infos_of-append (take k xs) (x ∷ [])) at c)
+
+pub none_before_infos : (xs : List Patch) (k : ℕ) (x : Patch) (i : Parts) → k < length xs → x ≡ get_or xs k x → (Contains (infos_of (drop (k + 1) xs)) i → ⊥) → (x.info ≡ i → ⊥) →
+    Contains (infos_of (drop k xs)) i → ⊥
+none_before_infos xs k x i l e n f c = let d : drop k xs ≡ x ∷ drop (k + 1) xs = drop_more xs k x l ∙ ap (λ z. z ∷ drop (k + 1) xs) (sym e) in go (rw d at c)
+  where
+    go : Contains (x.info ∷ infos_of (drop (k + 1) xs)) i → ⊥
+    go h = elim (one_of x.info (infos_of (drop (k + 1) xs)) h) [ inl g ↦ f g | inr d ↦ n d ]
+
+pub info_at : (xs : List Patch) (k : ℕ) (x : Patch) → k < length xs → x ≡ get_or xs k x → slice_get (infos_of xs) k ≡ Some x.info
+info_at [] k x l e = absurd (omega arith)
+info_at (y ∷ ys) zero x l e = ap (λ z. Some z.info) (sym e)
+info_at (y ∷ ys) (suc k) x l e = info_at ys k x (omega arith) e
+
+pub found_info : (xs : List Patch) (k : ℕ) (x : Patch) (i : Parts) → k < length xs → x ≡ get_or xs k x → x.info ≡ i → Contains (infos_of xs) i
+found_info xs k x i l e f = rw f at (in_infos xs (found_at xs k x x l e refl))
+
+-- what a member names is held, or a member's name
+pub dep_held : (held : List Parts) (xs : List Patch) {x : Patch} {d : Parts} → NamesEarlier held xs → Contains xs x → Contains x.deps d → Contains (held ++ infos_of xs) d
+dep_held held [] n c k = absurd (none_of c)
+dep_held held (y ∷ ys) {x} {d} n c k = elim (one_of y ys c) [
+  | inl e ↦ Contains-append_left held (y.info ∷ infos_of ys) d (n.0 d (rw (← e) at k))
+  | inr m ↦ rw (append_assoc held (y.info ∷ []) (infos_of ys)) at (dep_held (held ++ y.info ∷ []) ys n.1 m k)
+]
+
+pub earlier_on : (held : List Parts) (xs ys : List Patch) → NamesEarlier held xs → NamesEarlier (held ++ infos_of xs) ys → NamesEarlier held (xs ++ ys)
+earlier_on held [] ys n m = rw (append-nil held) at m
+earlier_on held (x ∷ xs) ys n m = (n.0, earlier_on (held ++ x.info ∷ []) xs ys n.1 (rw (append_assoc held (x.info ∷ []) (infos_of xs)) m))
+
+pub distinct_on : (xs ys : List Parts) → Distinct xs → Distinct ys → ((i : Parts) → Contains xs i → Contains ys i → ⊥) → Distinct (xs ++ ys)
+distinct_on [] ys d e apart = e
+distinct_on (x ∷ xs) ys d e apart = (
+  λ c. elim (Contains-append_cases xs ys x c) [ inl h ↦ d.0 h | inr h ↦ apart x (here x xs) h ],
+  distinct_on xs ys d.1 e (λ i h k. apart i (more x xs h) k),
+)

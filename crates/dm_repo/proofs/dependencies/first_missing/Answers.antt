@@ -1,0 +1,15 @@
+use Rattle.std.proofs.Common.{arith}
+use Rattle.dm_repo.proofs.DependencyLemmas.{first_lacking, all_have, have_more}
+use Rattle.dm_repo.proofs.dependencies.first_missing.Goals as goal
+
+pub loop-n-init : goal.loop-n-init
+loop-n-init g c = λ m l. absurd (omega (arith, l))
+
+pub loop-n-preserved : goal.loop-n-preserved
+loop-n-preserved g c = have_more c.args.repo.now.patches c.args.bundle.now c.loop-n.n c.in-None.ensures c.loop-n.invariant
+
+pub returns-in-Some : goal.returns-in-Some
+returns-in-Some g c = first_lacking c.args.repo.now.patches c.args.bundle.now c.loop-n.n c.in-Some.d c.loop-n.invariant c.in-Some.ensures
+
+pub returns : goal.returns
+returns g c = all_have c.args.repo.now.patches c.args.bundle.now c.loop-n.n (rw c.new_patches-new.ensures.value at c.loop-n-test.false) c.loop-n.invariant

@@ -1,0 +1,27 @@
+use Rattle.std.proofs.Common.{refl}
+use Rattle.std.proofs.lemmas.Bool.{false≢true}
+use Rattle.dm_repo.proofs.Steps.{context_to_weigh, all_held, not_all_held}
+use Rattle.dm_repo.proofs.weighed.linked.Goals as goal
+
+pub returns-in-Err : goal.returns-in-Err
+returns-in-Err g c = context_to_weigh c.args.repo.now.patches c.args.bundle.now c.in-Err.why c.in-Err.ensures
+
+pub returns-then-are_set : goal.returns-then-are_set
+returns-then-are_set g c =
+    record { knows = c.in-Ok.ensures.knows; all_held = all_held c.args.repo.now.patches c.args.bundle.now.patches c.in-Ok.marks.held.items c.in-Ok.ensures.held_is (rw c.deref.ensures.value at (c.if-are_set.ensures.0 refl)) }
+
+pub first_missing-requires : goal.first_missing-requires
+first_missing-requires g c = c.in-Ok.ensures
+
+pub returns-in-None : goal.returns-in-None
+returns-in-None g c = (
+  record {
+    knows = c.in-Ok.ensures.knows;
+    is_new = λ h. false≢true (c.if-are_set.ensures.1 (rw c.deref.ensures.value (not_all_held c.args.repo.now.patches c.args.bundle.now.patches c.in-Ok.marks.held.items c.in-Ok.ensures.held_is h)));
+    has_dependencies = c.in-None.ensures;
+  },
+  c.in-Ok.ensures,
+)
+
+pub returns-in-Some : goal.returns-in-Some
+returns-in-Some g c = (c.in-Ok.ensures.knows, (λ h. false≢true (c.if-are_set.ensures.1 (rw c.deref.ensures.value (not_all_held c.args.repo.now.patches c.args.bundle.now.patches c.in-Ok.marks.held.items c.in-Ok.ensures.held_is h)))), c.in-Some.ensures)

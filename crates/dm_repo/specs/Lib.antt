@@ -1,0 +1,14 @@
+pub mod Staircases
+pub mod Merging
+pub mod Squares
+pub mod Rows
+pub mod Marks
+pub mod Folds
+pub mod Repositories
+pub mod CommonSets
+pub mod Marking
+pub mod Weighing
+pub mod Weighed
+pub mod Splitting
+pub mod Words
+pub mod Laws

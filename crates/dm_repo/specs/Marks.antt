@@ -1,0 +1,14 @@
+-- Marks beside a list of informations.
+use Rattle.std.specs.Prelude.{◌≡◌, ◌↔◌, ◌⊎◌, ℕ, Bool, true, List, length, slice_get, Some}
+use Rattle.std.specs.List.{Contains}
+use Rattle.dm_info.specs.Parts.{Parts}
+
+-- the mark at each place says whether Q holds of the information there
+pub record Marks (marks : List Bool) (infos : List Parts) (Q : Parts → Type 0) : Type 0 where
+  pub length_is : length marks ≡ length infos
+  pub at : (k : ℕ) (i : Parts) → slice_get infos k ≡ Some i → (slice_get marks k ≡ Some true) ↔ Q i
+
+-- new marks are the old ones, and those of what stands in more
+pub record MarksAlso (old new : List Bool) (infos more : List Parts) : Type 0 where
+  pub length_is : length new ≡ length old
+  pub at : (k : ℕ) (i : Parts) → slice_get infos k ≡ Some i → (slice_get new k ≡ Some true) ↔ ((slice_get old k ≡ Some true) ⊎ Contains more i)

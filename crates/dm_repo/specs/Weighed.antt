@@ -1,0 +1,26 @@
+-- What weighing answers, over what the code holds.
+use Rattle.std.specs.Prelude.{List, ◌++◌}
+use Rattle.dm_named.specs.Patches.{Patch}
+use Rattle.dm_bundle.specs.Bundles.{Contents}
+use Rattle.dm_repo.specs.declared.refusal.Refusal.{Refusal}
+use Rattle.dm_repo.specs.declared.refusal.Refusal.TheVariants as refusals
+use Rattle.dm_repo.specs.declared.weighed.Weighed.{Weighed}
+use Rattle.dm_repo.specs.declared.weighed.Weighed.TheVariants.{NothingNew, Merged}
+use Rattle.dm_repo.specs.Repositories.{IsRepo, Makes}
+use Rattle.dm_repo.specs.Weighing.{IsNothingNew, IsMergeOf}
+
+-- nothing is new, or these are the merged patches and the tree after them
+abbrev pub Weighs : {Z : Type 0} → List Patch → Contents → Weighed Z → Type 0
+Weighs repo b NothingNew = IsNothingNew repo b
+Weighs repo b (Merged m) = IsMergeOf repo b m.patches.items × Makes (repo ++ m.patches.items) m.tree
+
+-- with the merged patches the repository is one again
+abbrev pub LeavesRepo : {Z : Type 0} → List Patch → Weighed Z → Type 0
+LeavesRepo repo NothingNew = Unit {0}
+LeavesRepo repo (Merged m) = IsRepo (repo ++ m.patches.items)
+
+-- P holds where the repository is full; want of memory may come at any time
+abbrev pub FullFor : Refusal → Type 0 → Type 0
+FullFor refusals.Full P = P
+FullFor refusals.NoMemory P = Unit {0}
+FullFor other P = ⊥

@@ -1,0 +1,113 @@
+-- What weighing a bundle against a repository answers. Each refusal holds what the steps before it found.
+use Rattle.std.specs.Prelude.{◌≡◌, ℕ, ◌+◌, ◌≤◌, ◌<◌, List, ◌∷◌, ◌++◌, length, ◌⊎◌}
+use Rattle.dm_prim.specs.Runs.{Runs}
+use Rattle.dm_prim.specs.Primitives.{LawfulMap}
+use Rattle.dm_named.specs.Patches.{Patch}
+use Rattle.dm_bundle.specs.Bundles.{Contents}
+use Rattle.dm_repo.specs.declared.refusal.Refusal.{Refusal}
+use Rattle.dm_repo.specs.declared.refusal.Refusal.TheVariants.{MissingContext, MissingDependency, ContextDepends, HeldDepends, DoesNotFit, Conflicts, Full, NoMemory}
+use Rattle.dm_repo.specs.Staircases.{Split, SplitStops}
+use Rattle.dm_repo.specs.Merging.{Merge, MergeStops}
+use Rattle.dm_repo.specs.Squares.{Placed, placed, patches, PlacedCommutes, PlacedMerges}
+use Rattle.dm_repo.specs.Rows.{AtPlaces}
+use Rattle.dm_repo.specs.Folds.{GoesAll, Grows}
+use Rattle.dm_repo.specs.Repositories.{Holds}
+use Rattle.dm_repo.specs.CommonSets.{Common, KnowsContext, HasAll, HasDependencies, First, LacksAt, LacksFirst}
+
+abbrev pub IsCommon : List Patch → Contents → Placed → Type 0
+IsCommon repo b x = Common repo b x.1.info
+
+abbrev pub IsHeld : List Patch → Placed → Type 0
+IsHeld repo x = Holds repo x.1.info
+
+-- a repository of more patches is full
+abbrev pub most_patches : ℕ
+most_patches = 100000
+
+-- the context is held, something is new, and no dependency is missing
+pub record IsLinked (repo : List Patch) (b : Contents) : Type 0 where
+  pub knows : KnowsContext repo b
+  pub is_new : HasAll repo b → ⊥
+  pub has_dependencies : HasDependencies repo b
+
+-- and the repository is split: the common patches in front, and the rest
+pub record IsParted (repo : List Patch) (b : Contents) (front rest : List Placed) : Type 0 where
+  pub linked : IsLinked repo b
+  pub split : Split PlacedCommutes (IsCommon repo b) (placed repo) front rest
+
+-- and so is the bundle: the new patches that are held, and those to merge
+pub record Chooses (repo : List Patch) (b : Contents) (front rest new : List Placed) : Type 0 where
+  pub parted : IsParted repo b front rest
+  pub held : List Placed
+  pub split : Split PlacedCommutes (IsHeld repo) (placed b.patches) held new
+
+-- the patches go from s up to x, and x goes nowhere
+pub record FitStops (s : LawfulMap) (xs : List Placed) (x : Placed) : Type 0 where
+  pub before : List Placed
+  pub after : List Placed
+  pub tree : LawfulMap
+  pub at : xs ≡ before ++ x ∷ after
+  pub goes : Runs GoesAll (patches before) s tree
+  pub stops : (t : LawfulMap) → GoesAll x.1 tree t → ⊥
+
+-- and the front makes a tree to which the patches to merge apply
+pub record Fits (repo : List Patch) (b : Contents) (rest new : List Placed) : Type 0 where
+  pub front : List Placed
+  pub chooses : Chooses repo b front rest new
+  pub base : LawfulMap
+  pub grows : Grows (patches front) base
+  pub fitted : LawfulMap
+  pub goes : Runs GoesAll (patches new) base fitted
+
+-- the merged patches go nowhere from the repository's tree, or are too many
+abbrev pub IsFull : List Patch → List Placed → Type 0
+IsFull repo merged = (most_patches < length repo + length merged) ⊎ ((s t : LawfulMap) → Grows repo s → Runs GoesAll (patches merged) s t → ⊥)
+
+-- the front goes nowhere from the root alone
+abbrev pub FrontIsFull : List Patch → Contents → Type 0
+FrontIsFull repo b =
+    (front : List Placed) × (rest : List Placed) × (new : List Placed) × Chooses repo b front rest new × ((t : LawfulMap) → Grows (patches front) t → ⊥)
+
+-- the bundle is merged, and then the repository is too full for it
+abbrev pub MergeIsFull : List Patch → Contents → Type 0
+MergeIsFull repo b =
+    (rest : List Placed) × (new : List Placed) × (merged : List Placed) × Fits repo b rest new × Merge PlacedMerges rest new merged × IsFull repo merged
+
+-- when each refusal comes; want of memory may come at any time
+abbrev pub Refuses : List Patch → Contents → Refusal → Type 0
+Refuses repo b (MissingContext c) = First (LacksAt repo b.context) c
+Refuses repo b (MissingDependency n d) =
+    KnowsContext repo b × (HasAll repo b → ⊥) × LacksFirst repo b n d
+Refuses repo b (ContextDepends h r) = IsLinked repo b × AtPlaces (SplitStops PlacedCommutes (IsCommon repo b) (placed repo)) h r
+Refuses repo b (HeldDepends h n) =
+    (front : List Placed) × (rest : List Placed) × IsParted repo b front rest × AtPlaces (SplitStops PlacedCommutes (IsHeld repo) (placed b.patches)) h n
+Refuses repo b (DoesNotFit n) =
+    (front : List Placed) × (rest : List Placed) × (new : List Placed) × Chooses repo b front rest new ×
+    ((base : LawfulMap) × (x : Placed) × (n ≡ x.0) × Grows (patches front) base × FitStops base new x)
+Refuses repo b (Conflicts n r) =
+    (rest : List Placed) × (new : List Placed) × Fits repo b rest new × AtPlaces (MergeStops PlacedMerges rest new) n r
+Refuses repo b Full = FrontIsFull repo b ⊎ MergeIsFull repo b
+Refuses repo b NoMemory = Unit {0}
+
+-- there is nothing to do: the context and every new patch are held
+pub record IsNothingNew (repo : List Patch) (b : Contents) : Type 0 where
+  pub knows : KnowsContext repo b
+  pub all_held : HasAll repo b
+
+-- the patches go on from the repository's tree, and there are not too many
+pub record Appends (repo new : List Patch) : Type 0 where
+  pub few : length repo + length new ≤ most_patches
+  pub tree : LawfulMap
+  pub after : LawfulMap
+  pub grows : Grows repo tree
+  pub goes : Runs GoesAll new tree after
+
+-- these are the bundle's patches, merged so that they apply after the repository
+pub record IsMergeOf (repo : List Patch) (b : Contents) (merged : List Patch) : Type 0 where
+  pub rest : List Placed
+  pub new : List Placed
+  pub new' : List Placed
+  pub fits : Fits repo b rest new
+  pub merge : Merge PlacedMerges rest new new'
+  pub is_merged : merged ≡ patches new'
+  pub appends : Appends repo merged

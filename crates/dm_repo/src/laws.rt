@@ -1,0 +1,23 @@
+//! Laws of the definitions alone. A call of them does nothing.
+
+ghost use Rattle.dm_repo.specs.Laws.{SplitFolds, FoldIsOne, MergeApplies, SplitIsOne, SplitStopsOnce, MergeIsOne, MergeStopsOnce, MergeIsRepo};
+
+/// A list of patches makes one tree.
+pub fn fold()
+    ensures one { FoldIsOne }
+{}
+
+/// The front then the rest make the repository's tree; a repository is split in one way, or stopped by one pair.
+pub fn split()
+    ensures folds { SplitFolds }
+    ensures one { SplitIsOne }
+    ensures stops_once { SplitStopsOnce }
+{}
+
+/// What fits and is merged applies after the repository; two lists are merged in one way, or stopped by one pair; and a merged bundle leaves a repository.
+pub fn merge()
+    ensures applies { MergeApplies }
+    ensures one { MergeIsOne }
+    ensures stops_once { MergeStopsOnce }
+    ensures is_repo { MergeIsRepo }
+{}

@@ -1,0 +1,104 @@
+//! Which held patches are common to a repository and a bundle, and which new patches are held.
+ghost use Rattle.std.specs.Prelude.{◌≡◌, length, Contains, MatchResult};
+ghost use Rattle.dm_bundle.specs.Patches.{infos_of, Distinct};
+ghost use Rattle.dm_repo.specs.CommonSets.{Closed, First, HoldsAll, KnowsContext, LacksAt};
+ghost use Rattle.dm_repo.specs.Marks.{Marks as MarksOf, MarksAlso};
+ghost use Rattle.dm_repo.specs.Marking.{AreMarked, RefusesContext};
+
+use crate::refusal::Refusal;
+use crate::repo::Repo;
+use dm_bundle::Bundle;
+use dm_info::Info;
+use std::alloc::Allocator;
+
+/// For each patch held, whether it is common; for each new patch, whether it is held.
+#[derive(Drop)]
+pub(crate) struct Marks<A: Allocator> {
+    pub common: Vec<bool, A>,
+    pub held: Vec<bool, A>,
+}
+
+/// Marks the patches of these names, or answers the place of the first that isn't held.
+fn mark<A: Allocator, B: Allocator>(
+    repo: &Repo<A>,
+    infos: &[Info<B>],
+    marks: &mut [bool],
+) -> Result<(), usize>
+    requires marks { length marks.old ≡ length repo.now.patches }
+    requires distinct { Distinct (infos_of repo.now.patches) }
+    ensures { MatchResult result
+        (λ _. MarksAlso marks.old marks.new (infos_of repo.now.patches) infos.now × HoldsAll repo.now.patches infos.now)
+        (λ c. First (LacksAt repo.now.patches infos.now) c) }
+{
+    for c in 0..infos.len() {
+        match repo.position(&infos[c]) {
+            None => return Err(c),
+            Some(k) => marks[k] = true,
+        }
+    }
+    Ok(())
+}
+
+/// Marks the context.
+fn context_marks<A: Allocator, B: Allocator + Copy>(
+    alloc: B,
+    repo: &Repo<A>,
+    bundle: &Bundle<B>,
+) -> Result<Vec<bool, B>, Refusal>
+    ensures { MatchResult result
+        (λ marks. KnowsContext repo.now.patches bundle.now × MarksOf marks.items (infos_of repo.now.patches) (Contains bundle.now.context))
+        (λ why. RefusesContext repo.now.patches bundle.now why) }
+{
+    let mut marks = vec![in alloc; false; repo.len()]?;
+    match mark(repo, bundle.context(), marks.as_mut_slice()) {
+        Ok(()) => Ok(marks),
+        Err(c) => Err(Refusal::MissingContext(c)),
+    }
+}
+
+/// Marks the context and what it rests on: one pass from the last patch to the first, since a dependency stands earlier.
+fn closed_marks<A: Allocator, B: Allocator + Copy>(
+    alloc: B,
+    repo: &Repo<A>,
+    bundle: &Bundle<B>,
+) -> Result<Vec<bool, B>, Refusal>
+    ensures { MatchResult result
+        (λ marks. KnowsContext repo.now.patches bundle.now × MarksOf marks.items (infos_of repo.now.patches) (Closed repo.now.patches bundle.now.context))
+        (λ why. RefusesContext repo.now.patches bundle.now why) }
+{
+    let mut marks = context_marks(alloc, repo, bundle)?;
+    for k in (0..repo.len()).rev() {
+        if marks[k] {
+            match mark(repo, repo.patch(k).deps(), marks.as_mut_slice()) {
+                Ok(()) => {}
+                Err(_) => unreachable!(),
+            }
+        }
+    }
+    Ok(marks)
+}
+
+/// Marks what is common, and the new patches that are held.
+pub(crate) fn common_marks<A: Allocator, B: Allocator + Copy>(
+    alloc: B,
+    repo: &Repo<A>,
+    bundle: &Bundle<B>,
+) -> Result<Marks<B>, Refusal>
+    ensures { MatchResult result
+        (λ marks. AreMarked repo.now.patches bundle.now marks.common.items marks.held.items)
+        (λ why. RefusesContext repo.now.patches bundle.now why) }
+{
+    let _ = repo.len();
+    let mut common = closed_marks(alloc, repo, bundle)?;
+    let mut held = Vec::new(alloc);
+    for patch in bundle.new_patches() {
+        match repo.position(patch.info()) {
+            None => held.push(false)?,
+            Some(k) => {
+                common[k] = true;
+                held.push(true)?;
+            }
+        }
+    }
+    Ok(Marks { common, held })
+}

@@ -1,0 +1,219 @@
+//! Weighing a bundle against a repository: what taking it would append, or why it isn't taken.
+ghost use Rattle.std.specs.Prelude.{◌≡◌, ◌↔◌, ◌+◌, ◌<◌, ◌++◌, true, All, IfErr, IfOk, IsTrue, MatchOption, MatchResult};
+ghost use Rattle.dm_repo.specs.Squares.{patches};
+ghost use Rattle.dm_repo.specs.Repositories.{Makes};
+ghost use Rattle.dm_repo.specs.Marking.{AreMarked};
+ghost use Rattle.dm_repo.specs.Weighing.{Appends, Chooses, Fits, IsFull, IsLinked, IsMergeOf, IsNothingNew, Refuses, most_patches};
+ghost use Rattle.dm_repo.specs.Weighed.{FullFor, LeavesRepo, Weighs};
+
+use crate::dependencies::first_missing;
+use crate::fit::fit;
+use crate::marks::{Marks, common_marks};
+use crate::merge::{merge_all, undo_all};
+use crate::parted::{Parted, split_new, split_repo};
+use crate::refusal::Refusal;
+use crate::repo::Repo;
+use dm_bundle::Bundle;
+use dm_named::Named;
+use dm_tree::Tree;
+use dm_tree::laws::tree_is_lawful;
+use std::alloc::{AllocError, Allocator};
+
+/// A repository holds at most so many patches.
+const MOST_PATCHES: usize = 100_000;
+
+/// What weighing a bundle answers.
+#[derive(Drop)]
+pub enum Weighed<A: Allocator> {
+    /// The context and every new patch are held.
+    NothingNew,
+    /// The bundle is merged.
+    Merged(Merged<A>),
+}
+
+/// A bundle's new patches, merged so that they apply after the repository that it was weighed against.
+#[derive(Drop)]
+pub struct Merged<A: Allocator> {
+    /// The patches to append, oldest first.
+    pub patches: Vec<Named<A>, A>,
+    /// The repository's tree after them.
+    pub tree: Tree<A>,
+}
+
+/// Whether all marks are set.
+fn are_set(marks: &[bool]) -> bool
+    ensures { IsTrue result ↔ All (λ mark. mark ≡ true) marks.now }
+{
+    for mark in marks {
+        if !*mark {
+            return false;
+        }
+    }
+    true
+}
+
+/// Looks up the bundle's names: none where nothing is new.
+fn linked<A: Allocator, B: Allocator + Copy>(
+    alloc: B,
+    repo: &Repo<A>,
+    bundle: &Bundle<B>,
+) -> Result<Option<Marks<B>>, Refusal>
+    ensures { MatchResult result
+        (λ found. MatchOption found
+        (IsNothingNew repo.now.patches bundle.now)
+        (λ marks. IsLinked repo.now.patches bundle.now × AreMarked repo.now.patches bundle.now marks.common.items marks.held.items))
+        (λ why. Refuses repo.now.patches bundle.now why) }
+{
+    let marks = match common_marks(alloc, repo, bundle) {
+        Ok(marks) => marks,
+        Err(why) => return Err(why),
+    };
+    if are_set(&marks.held) {
+        return Ok(None);
+    }
+    match first_missing(repo, bundle, &marks) {
+        None => Ok(Some(marks)),
+        Some((n, d)) => Err(Refusal::MissingDependency(n, d)),
+    }
+}
+
+/// Splits the repository, then the bundle: the repository's parts, and the new patches to merge.
+fn choose<A: Allocator, B: Allocator + Copy>(
+    alloc: B,
+    repo: &Repo<A>,
+    bundle: &Bundle<B>,
+    marks: &Marks<B>,
+) -> Result<(Parted<B>, Parted<B>), Refusal>
+    requires linked { IsLinked repo.now.patches bundle.now }
+    requires marks { AreMarked repo.now.patches bundle.now marks.now.common.items marks.now.held.items }
+    ensures { MatchResult result
+        (λ parts. Chooses repo.now.patches bundle.now parts.0.front.items parts.0.rest.items parts.1.rest.items)
+        (λ why. Refuses repo.now.patches bundle.now why) }
+{
+    let parted = match split_repo(alloc, repo, bundle, marks) {
+        Ok(parted) => parted,
+        Err(blocked) => return Err(blocked.context_depends()),
+    };
+    match split_new(alloc, repo, bundle, marks) {
+        Ok(chosen) => Ok((parted, chosen)),
+        Err(blocked) => Err(blocked.held_depends()),
+    }
+}
+
+/// Applies the front, and the patches to merge after it.
+fn fits<A: Allocator, B: Allocator + Copy>(
+    alloc: B,
+    repo: &Repo<A>,
+    bundle: &Bundle<B>,
+    parted: &Parted<B>,
+    new: &[(usize, Named<B>)],
+) -> Result<(), Refusal>
+    requires { Chooses repo.now.patches bundle.now parted.now.front.items parted.now.rest.items new.now }
+    ensures { MatchResult result
+        (λ _. Fits repo.now.patches bundle.now parted.now.rest.items new.now)
+        (λ why. Refuses repo.now.patches bundle.now why) }
+{
+    let mut tree = Tree::new(alloc);
+    tree_is_lawful(&tree);
+    match fit(&parted.front, &mut tree) {
+        Ok(()) => {}
+        Err(stop) => return Err(stop.full()),
+    }
+    match fit(new, &mut tree) {
+        Ok(()) => Ok(()),
+        Err(stop) => Err(stop.does_not_fit()),
+    }
+}
+
+/// Whether so many patches more are too many.
+fn is_too_many(held: usize, more: usize) -> bool
+    ensures { IsTrue result ↔ (most_patches < held + more) }
+{
+    if held > MOST_PATCHES {
+        return true;
+    }
+    more > MOST_PATCHES - held
+}
+
+/// The patches without their places.
+fn without_places<A: Allocator + Copy>(
+    alloc: A,
+    placed: Vec<(usize, Named<A>), A>,
+) -> Result<Vec<Named<A>, A>, AllocError>
+    ensures { IfOk result (λ list. list.items ≡ patches placed.items) }
+{
+    let mut list = Vec::new(alloc);
+    for (_, patch) in placed {
+        list.push(patch)?;
+    }
+    Ok(list)
+}
+
+/// Applies the merged patches to the repository's tree.
+fn append<A: Allocator, B: Allocator + Copy>(
+    alloc: B,
+    repo: &Repo<A>,
+    merged: Vec<(usize, Named<B>), B>,
+) -> Result<Merged<B>, Refusal>
+    ensures { MatchResult result
+        (λ m. (m.patches.items ≡ patches merged.items) × Appends repo.now.patches m.patches.items × Makes (repo.now.patches ++ m.patches.items) m.tree)
+        (λ why. FullFor why (IsFull repo.now.patches merged.items)) }
+{
+    if is_too_many(repo.len(), merged.len()) {
+        return Err(Refusal::Full);
+    }
+    let mut tree = repo.tree_copy(alloc)?;
+    match fit(&merged, &mut tree) {
+        Ok(()) => {}
+        Err(stop) => return Err(stop.full()),
+    }
+    let patches = without_places(alloc, merged)?;
+    Ok(Merged { patches, tree })
+}
+
+/// Merges the patches that fit with the rest of the repository.
+fn merge<A: Allocator, B: Allocator + Copy>(
+    alloc: B,
+    repo: &Repo<A>,
+    bundle: &Bundle<B>,
+    rest: Vec<(usize, Named<B>), B>,
+    new: Vec<(usize, Named<B>), B>,
+) -> Result<Merged<B>, Refusal>
+    requires { Fits repo.now.patches bundle.now rest.items new.items }
+    ensures { MatchResult result
+        (λ m. IsMergeOf repo.now.patches bundle.now m.patches.items × Makes (repo.now.patches ++ m.patches.items) m.tree)
+        (λ why. Refuses repo.now.patches bundle.now why) }
+{
+    let mut rest = rest;
+    let mut new = new;
+    undo_all(alloc, rest.as_mut_slice());
+    match merge_all(alloc, rest.as_mut_slice(), new.as_mut_slice()) {
+        Ok(()) => append(alloc, repo, new),
+        Err(blocked) => Err(blocked.conflicts()),
+    }
+}
+
+/// What taking a bundle would append to a repository, or why it isn't taken; neither is changed.
+///
+/// The bundle's context and dependencies are looked up; the repository is split into what the bundle was made from and the
+/// rest; the new patches are applied after the first part, and merged with the second (`darcs apply --no-allow-conflicts`).
+/// The first step that refuses decides.
+pub fn weigh<A: Allocator, B: Allocator + Copy>(
+    alloc: B,
+    repo: &Repo<A>,
+    bundle: &Bundle<B>,
+) -> Result<Weighed<B>, Refusal>
+    ensures weighed { IfOk result (Weighs repo.now.patches bundle.now) }
+    ensures refusal { IfErr result (Refuses repo.now.patches bundle.now) }
+    ensures leaves_repo { IfOk result (LeavesRepo repo.now.patches) }
+{
+    let Some(marks) = linked(alloc, repo, bundle)? else {
+        return Ok(Weighed::NothingNew);
+    };
+    let (parted, chosen) = choose(alloc, repo, bundle, &marks)?;
+    fits(alloc, repo, bundle, &parted, &chosen.rest)?;
+    let _ = repo.len();
+    let _ = bundle.new_patches();
+    let merged = merge(alloc, repo, bundle, parted.rest, chosen.rest)?;
+    Ok(Weighed::Merged(merged))
+}
