@@ -1,6 +1,7 @@
 use super::*;
 use bumpalo::Bump;
 use dm_bundle::{Bundle, read_bundle, write_bundle};
+use dm_named::write_path;
 use dm_tree::Kind;
 use std::alloc::{Allocator, Global};
 use std::process::Abort;
@@ -51,70 +52,86 @@ fn bundle_of<A: Allocator + Copy>(alloc: A, row: &str) -> Result<Bundle<A>, Fail
     }
 }
 
-/// Takes a bundle: what is printed of it.
-fn taken<A: Allocator + Copy>(
-    alloc: A,
+/// Takes a bundle by a trial under another allocator: what is printed of it.
+fn taken<A: Allocator + Copy, B: Allocator + Copy>(
+    alloc: B,
     repo: &mut Repo<A>,
-    bundle: &Bundle<A>,
-) -> Result<Vec<u8, A>, Fail> {
+    bundle: &Bundle<B>,
+) -> Result<String<B>, Fail> {
     let line = match weigh(alloc, repo, bundle) {
-        Ok(Weighed::NothingNew) => format!(in alloc; "nothing new\n")?,
+        Ok(Weighed::NothingNew) => format!(in alloc; "nothing new")?,
         Ok(Weighed::Merged(merged)) => {
             let ready = repo.prepare(&merged)?;
             let count = repo.commit(ready);
-            format!(in alloc; "taken {count}\n")?
+            format!(in alloc; "taken {count}")?
         }
-        Err(why) => format!(in alloc; "refused {why}\n")?,
+        Err(why) => format!(in alloc; "refused {why}")?,
     };
-    Ok(Vec::from_slice(alloc, line.as_bytes())?)
+    Ok(line)
 }
 
-/// What a row shows, the base, the bundle that is taken after it, and what is printed of it and of the repository.
+/// What a row shows, the base, the bundle that is taken after it, what is printed of it, and the repository, where it isn't as before.
 const TAKEN: &str =
-    r"a change of other lines is shifted: %N%F(m)hunk ./f 1|+x|+y|%C => %N(n)hunk ./f 5|-5|+five|%C(a)| => taken 1|%N%F(m)hunk ./f 1|+x|+y|(n)hunk ./f 7|-5|+five|%C
-lines that touch: %N%F(m)hunk ./f 1|-1|+one|%C => %N(n)hunk ./f 2|-2|+two|%C(a)| => taken 1|%N%F(m)hunk ./f 1|-1|+one|(n)hunk ./f 2|-2|+two|%C
-lines that touch where nothing was: %N%F(m)hunk ./f 2|+z|%C => %N(n)hunk ./f 2|-2|+two|%C(a)| => refused conflicts 0 1|%N%F(m)hunk ./f 2|+z|%C
-a file that was moved: %N%F(m)move ./f ./g|%C => %N(n)hunk ./f 1|-1|+one|%C(a)| => taken 1|%N%F(m)move ./f ./g|(n)hunk ./g 1|-1|+one|%C
-a context that isn't held: %N%C => %N(n)adddir ./d|%C(z)| => refused missing-context 0|%N%C
-a context that stops at a tag: %N(a)adddir ./d|(t)<|(a)|> {|}|%C => %N(n)adddir ./d/e|%C(t)| => taken 1|%N(a)adddir ./d|(t)<|(a)|> {|}|(n)adddir ./d/e|%C
-a new patch that is held: %N(a)adddir ./d|%C => %N(a)adddir ./d|(b)adddir ./e|%C => taken 1|%N(a)adddir ./d|(b)adddir ./e|%C
-a dependency that isn't held: %N%C => %N(n)<|(z)|> adddir ./d|%C => refused missing-dependency 0 0|%N%C
-a dependency that is held and not common: %N(a)adddir ./d|(b)adddir ./e|%C => %N(n)<|(b)|> adddir ./x|%C(a)| => refused missing-dependency 0 0|%N(a)adddir ./d|(b)adddir ./e|%C
-a missing dependency before a split that stops: %N(a)adddir ./d|(b)adddir ./d/e|%C => %N(n)<|(z)|> adddir ./x|%C(b)| => refused missing-dependency 0 0|%N(a)adddir ./d|(b)adddir ./d/e|%C
-a common patch that depends on another: %N(a)adddir ./d|(b)adddir ./d/e|%C => %N(n)adddir ./x|%C(b)| => refused context-depends 1 0|%N(a)adddir ./d|(b)adddir ./d/e|%C
-the nearest that stops it: %N(a)adddir ./d|(b)adddir ./d/e|(h)adddir ./d/e/f|%C => %N(n)adddir ./x|%C(h)| => refused context-depends 2 1|%N(a)adddir ./d|(b)adddir ./d/e|(h)adddir ./d/e/f|%C
-a held new patch that depends on a new one: %N(c)adddir ./q|%C => %N(b)adddir ./p|(c)adddir ./p/r|%C => refused held-depends 1 0|%N(c)adddir ./q|%C
-old lines that differ: %N(a){|addfile ./f|hunk ./f 1|+u|}|%C => %N(n)hunk ./f 1|-x|+y|%C(a)| => refused does-not-fit 0|%N(a){|addfile ./f|hunk ./f 1|+u|}|%C
-all held: %N(a)adddir ./d|%C => %N(a)adddir ./d|%C => nothing new|%N(a)adddir ./d|%C
-no new patch: %N%C => %N%C => nothing new|%N%C
-the rest that one new patch changed serves the next: %N%F(m)hunk ./f 5|-5|+five|%C => %N(n)hunk ./f 1|+x|+y|(o)hunk ./f 5|-3|+three|%C(a)| => taken 2|%N%F(m)hunk ./f 5|-5|+five|(n)hunk ./f 1|+x|+y|(o)hunk ./f 5|-3|+three|%C
+    r"a change of other lines is shifted: %N%F(m)hunk ./f 1|+x|+y|%C => %N(n)hunk ./f 5|-5|+five|%C(a)| => taken 1 => %N%F(m)hunk ./f 1|+x|+y|(n)hunk ./f 7|-5|+five|%C
+lines that touch: %N%F(m)hunk ./f 1|-1|+one|%C => %N(n)hunk ./f 2|-2|+two|%C(a)| => taken 1 => %N%F(m)hunk ./f 1|-1|+one|(n)hunk ./f 2|-2|+two|%C
+lines that touch where nothing was: %N%F(m)hunk ./f 2|+z|%C => %N(n)hunk ./f 2|-2|+two|%C(a)| => refused conflicts 0 1
+a file that was moved: %N%F(m)move ./f ./g|%C => %N(n)hunk ./f 1|-1|+one|%C(a)| => taken 1 => %N%F(m)move ./f ./g|(n)hunk ./g 1|-1|+one|%C
+a context that isn't held: %N%C => %N(n)adddir ./d|%C(z)| => refused missing-context 0
+a context that stops at a tag: %N(a)adddir ./d|(t)<|(a)|> {|}|%C => %N(n)adddir ./d/e|%C(t)| => taken 1 => %N(a)adddir ./d|(t)<|(a)|> {|}|(n)adddir ./d/e|%C
+a new patch that is held: %N(a)adddir ./d|%C => %N(a)adddir ./d|(b)adddir ./e|%C => taken 1 => %N(a)adddir ./d|(b)adddir ./e|%C
+a dependency that isn't held: %N%C => %N(n)<|(z)|> adddir ./d|%C => refused missing-dependency 0 0
+a dependency that is held and not common: %N(a)adddir ./d|(b)adddir ./e|%C => %N(n)<|(b)|> adddir ./x|%C(a)| => refused missing-dependency 0 0
+a missing dependency before a split that stops: %N(a)adddir ./d|(b)adddir ./d/e|%C => %N(n)<|(z)|> adddir ./x|%C(b)| => refused missing-dependency 0 0
+nothing new before a split that stops: %N(a)adddir ./d|(b)adddir ./d/e|%C => %N(b)adddir ./d/e|%C => nothing new
+a dependency on an earlier new patch: %N%C => %N(a)adddir ./d|(b)<|(a)|> adddir ./e|%C => taken 2 => %N(a)adddir ./d|(b)<|(a)|> adddir ./e|%C
+a held new patch that names what isn't common: %N(a)adddir ./d|(b)<|(a)|> adddir ./e|%C => %N(b)adddir ./e|(c)adddir ./x|%C => refused context-depends 1 0
+a common patch that depends on another: %N(a)adddir ./d|(b)adddir ./d/e|%C => %N(n)adddir ./x|%C(b)| => refused context-depends 1 0
+the nearest that stops it: %N(a)adddir ./d|(b)adddir ./d/e|(h)adddir ./d/e/f|%C => %N(n)adddir ./x|%C(h)| => refused context-depends 2 1
+a common patch passes the nearest first: %N%F(m)move ./f ./g|(o)move ./g ./k|(h)hunk ./k 1|-1|+one|%C => %N(n)hunk ./f 2|-2|+two|%C(a)|(h)| => taken 1 => %N%F(m)move ./f ./g|(o)move ./g ./k|(h)hunk ./k 1|-1|+one|(n)hunk ./k 2|-2|+two|%C
+a held new patch that depends on a new one: %N(c)adddir ./q|%C => %N(b)adddir ./p|(c)adddir ./p/r|%C => refused held-depends 1 0
+old lines that differ: %N(a){|addfile ./f|hunk ./f 1|+u|}|%C => %N(n)hunk ./f 1|-x|+y|%C(a)| => refused does-not-fit 0
+all held: %N(a)adddir ./d|%C => %N(a)adddir ./d|%C => nothing new
+no new patch: %N%C => %N%C => nothing new
+the rest that one new patch changed serves the next: %N%F(m)hunk ./f 5|-5|+five|%C => %N(n)hunk ./f 1|+x|+y|(o)hunk ./f 5|-3|+three|%C(a)| => taken 2 => %N%F(m)hunk ./f 5|-5|+five|(n)hunk ./f 1|+x|+y|(o)hunk ./f 5|-3|+three|%C
+a conflict of the second with the second of the rest: %N%F(m)adddir ./d|(o)hunk ./f 1|-1|+one|%C => %N(n)adddir ./e|(q)hunk ./f 1|-1|+uno|%C(a)| => refused conflicts 1 2
 ";
 
-/// Each row of the table, over this allocator.
-fn answers<A: Allocator + Copy>(rt: &impl Abort, alloc: A) -> Result<(), Fail> {
+/// Each row of the table, with a repository under the first allocator and trials under the second.
+fn answers<A: Allocator + Copy, B: Allocator + Copy>(
+    rt: &impl Abort,
+    alloc: A,
+    trial: B,
+) -> Result<(), Fail> {
     for line in TAKEN.lines() {
         let (what, row) = line.split_once(": ").ok_or("what the row shows")?;
         let (base, row) = row.split_once(" => ").ok_or("a base")?;
         let (text, answer) = row.split_once(" => ").ok_or("a bundle")?;
+        let (answer, after) = answer.split_once(" => ").unwrap_or((answer, base));
         let mut repo = Repo::new(alloc);
-        let _ = taken(alloc, &mut repo, &bundle_of(alloc, base)?)?;
-        let mut found = taken(alloc, &mut repo, &bundle_of(alloc, text)?)?;
-        let held = write_bundle(alloc, &repo.to_bundle(alloc)?)?;
-        found.extend_from_slice(held.as_slice())?;
-        let wanted = text_of(alloc, answer)?;
-        assert_eq!(rt; found.as_slice(), wanted.as_slice(), "{what}");
+        let _ = taken(trial, &mut repo, &bundle_of(trial, base)?)?;
+        let line = taken(trial, &mut repo, &bundle_of(trial, text)?)?;
+        assert_eq!(rt; line.as_str(), answer, "{what}");
+        let held = write_bundle(trial, &repo.to_bundle(trial)?)?;
+        let wanted = text_of(trial, after)?;
+        assert_eq!(rt;
+            held.as_slice(),
+            wanted.as_slice(),
+            "{what}: the repository"
+        );
     }
     Ok(())
 }
 
 #[test]
 fn bundles_taken_and_refused(rt: HostRuntime) -> Result<(), Fail> {
-    answers(&rt, rt.alloc())?;
-    answers(&rt, &Bump::new(rt.alloc()))
+    let arena = Bump::new(rt.alloc());
+    answers(&rt, rt.alloc(), rt.alloc())?;
+    answers(&rt, &arena, &arena)?;
+    answers(&rt, rt.alloc(), &arena)
 }
 
-/// A text of one patch that adds so many directories, each in the one before, and the directories x and y.
-fn chain(alloc: Global, count: usize) -> Result<Vec<u8>, Fail> {
+/// The bundle of a patch that adds so many directories, each in the one before, and the directories x and y, and of more.
+fn chain(alloc: Global, count: usize, more: &str) -> Result<Bundle<Global>, Fail> {
     let mut text = text_of(alloc, "%N(a){|adddir ./x|adddir ./y|")?;
     let mut path = Vec::new(alloc);
     path.push(b'.')?;
@@ -125,92 +142,122 @@ fn chain(alloc: Global, count: usize) -> Result<Vec<u8>, Fail> {
         text.push(b'\n')?;
     }
     text.extend_from_slice(b"}\n")?;
-    Ok(text)
-}
-
-/// What is printed of a bundle that is taken after such a chain and more.
-fn after_chain(alloc: Global, count: usize, more: &str, row: &str) -> Result<Vec<u8>, Fail> {
-    let mut text = chain(alloc, count)?;
     text.extend_from_slice(text_of(alloc, more)?.as_slice())?;
-    let mut repo = Repo::new(alloc);
     match read_bundle(alloc, &text) {
-        Ok(base) => {
-            let _ = taken(alloc, &mut repo, &base)?;
-            taken(alloc, &mut repo, &bundle_of(alloc, row)?)
-        }
+        Ok(bundle) => Ok(bundle),
         Err(_) => Err("a text that is no bundle".into()),
     }
 }
 
+/// What a row shows, the length of the chain, what stands behind it, what is printed of these, a bundle that is taken after them, and what is printed of it.
+const DEEP: [(&str, usize, &str, &str, &str, &str); 3] = [
+    (
+        "too deep after the rest",
+        31,
+        "(m)move ./s ./x/s|%C",
+        "taken 2",
+        "%N(n)move ./x ./y/z|%C(a)|",
+        "refused full",
+    ),
+    (
+        "too deep and back",
+        32,
+        "%C",
+        "taken 1",
+        "%N(n){|move ./s ./x/s|move ./x/s ./s|}|%C(a)|",
+        "refused does-not-fit 0",
+    ),
+    (
+        "a front that is too deep without the rest",
+        32,
+        "(r)move ./s/s ./p|(h)move ./s ./x/s|%C",
+        "taken 3",
+        "%N(n)adddir ./q|%C(a)|(h)|",
+        "refused full",
+    ),
+];
+
 #[test]
 fn paths_that_are_too_deep(rt: HostRuntime) -> Result<(), Fail> {
     let alloc = rt.alloc();
-    let found = after_chain(
-        alloc,
-        31,
-        "(m)move ./s ./x/s|%C",
-        "%N(n)move ./x ./y/z|%C(a)|",
-    )?;
-    assert_eq!(rt;
-        found.as_slice(),
-        b"refused full\n".as_slice(),
-        "too deep after the rest"
-    );
-    let found = after_chain(
-        alloc,
-        32,
-        "%C",
-        "%N(n){|move ./s ./x/s|move ./x/s ./s|}|%C(a)|",
-    )?;
-    assert_eq!(rt;
-        found.as_slice(),
-        b"refused does-not-fit 0\n".as_slice(),
-        "too deep and back"
-    );
+    for (what, count, more, base, row, answer) in DEEP {
+        let mut repo = Repo::new(alloc);
+        let line = taken(alloc, &mut repo, &chain(alloc, count, more)?)?;
+        assert_eq!(rt; line.as_str(), base, "{what}: the base");
+        let line = taken(alloc, &mut repo, &bundle_of(alloc, row)?)?;
+        assert_eq!(rt; line.as_str(), answer, "{what}");
+    }
     Ok(())
+}
+
+/// The repository and the bundle that are taken step by step.
+const BASE: &str = "%N%F(m)hunk ./f 1|+x|+y|%C";
+
+const MORE: &str = "%N(n)hunk ./f 5|-5|+five|%C(a)|";
+
+#[test]
+fn a_repository_in_two_parts(rt: HostRuntime) -> Result<(), Fail> {
+    let alloc = rt.alloc();
+    let mut repo = Repo::new(alloc);
+    let _ = taken(alloc, &mut repo, &bundle_of(alloc, BASE)?)?;
+    let Ok(parted) = split(alloc, &repo, &bundle_of(alloc, MORE)?) else {
+        return Err("a repository that can't be split".into());
+    };
+    assert_eq!(rt; parted.front.len(), 1, "one common patch");
+    for (place, _) in &parted.front {
+        assert_eq!(rt; *place, 0, "the common patch's place");
+    }
+    assert_eq!(rt; parted.rest.len(), 1, "one patch in the rest");
+    for (place, _) in &parted.rest {
+        assert_eq!(rt; *place, 1, "the place of the rest");
+    }
+    let listing = repo.tree_copy(alloc)?.listing(alloc)?;
+    assert_eq!(rt; listing.len(), 1, "one entry");
+    for listed in &listing {
+        let mut path = Vec::new(alloc);
+        write_path(&listed.path, &mut path)?;
+        assert_eq!(rt; path.as_slice(), b"./f".as_slice(), "its path");
+        assert!(rt; matches!(listed.kind, Kind::File(14)), "a file of 14 bytes");
+    }
+    Ok(())
+}
+
+/// The places of a bundle's new patches in a repository.
+fn places<A: Allocator + Copy>(
+    alloc: A,
+    repo: &Repo<A>,
+    row: &str,
+) -> Result<Vec<Option<usize>, A>, Fail> {
+    let mut places = Vec::new(alloc);
+    for patch in bundle_of(alloc, row)?.new_patches() {
+        places.push(repo.position(patch.info()))?;
+    }
+    Ok(places)
 }
 
 #[test]
 fn one_bundle_step_by_step(rt: HostRuntime) -> Result<(), Fail> {
     let alloc = rt.alloc();
     let mut repo = Repo::new(alloc);
-    let base = bundle_of(alloc, "%N%F(m)hunk ./f 1|+x|+y|%C")?;
-    let _ = taken(alloc, &mut repo, &base)?;
-    let bundle = bundle_of(alloc, "%N(n)hunk ./f 5|-5|+five|%C(a)|")?;
-    let parted = match split(alloc, &repo, &bundle) {
-        Ok(parted) => parted,
-        Err(_) => return Err("a repository that can't be split".into()),
-    };
-    assert_eq!(rt; parted.front.len(), 1, "one common patch");
-    assert_eq!(rt; parted.rest.len(), 1, "one patch in the rest");
-    assert_eq!(rt; parted.front[0].0, 0, "the common patch's place");
-    assert_eq!(rt; parted.rest[0].0, 1, "the place of the rest");
-    let listing = repo.tree_copy(alloc)?.listing(alloc)?;
-    assert_eq!(rt; listing.len(), 1, "one entry");
-    assert!(rt;
-        matches!(listing[0].kind, Kind::File(14)),
-        "a file of 14 bytes"
-    );
-    let merged = match weigh(alloc, &repo, &bundle) {
-        Ok(Weighed::Merged(merged)) => merged,
-        _ => return Err("a bundle that isn't merged".into()),
+    let _ = taken(alloc, &mut repo, &bundle_of(alloc, BASE)?)?;
+    let Ok(Weighed::Merged(merged)) = weigh(alloc, &repo, &bundle_of(alloc, MORE)?) else {
+        return Err("a bundle that isn't merged".into());
     };
     let ready = repo.prepare(&merged)?;
     assert_eq!(rt; repo.len(), 2, "prepared, and as before");
     assert_eq!(rt; repo.commit(ready), 1, "one patch appended");
     assert_eq!(rt; repo.len(), 3, "three patches");
-    for patch in bundle.new_patches() {
+    let found = places(alloc, &repo, "%N(n)adddir ./n|(z)adddir ./z|%C")?;
+    assert_eq!(rt;
+        found.as_slice(),
+        [Some(2), None].as_slice(),
+        "what was appended, and what isn't held"
+    );
+    for i in 0..repo.len() {
         assert_eq!(rt;
-            repo.position(patch.info()),
-            Some(2),
-            "the place of what was appended"
-        );
-    }
-    for patch in bundle_of(alloc, "%N(z)adddir ./z|%C")?.new_patches() {
-        assert_eq!(rt;
-            repo.position(patch.info()),
-            None,
-            "the place of what isn't held"
+            repo.position(repo.patch(i).info()),
+            Some(i),
+            "each patch is at its place"
         );
     }
     Ok(())
