@@ -22,25 +22,18 @@ module _ {X : Type 0} where
   pub none_of : {x : X} → Contains [] x → ⊥
   none_of (k, l, e) = absurd (omega arith)
 
-  pub at_from : (xs : List X) {x : X} → Contains xs x → (k : ℕ) × (slice_get xs k ≡ Some x)
-  at_from [] c = absurd (none_of c)
-  at_from (y ∷ ys) c = elim (one_of y ys c) [ inl e ↦ (0, ap Some e) | inr d ↦ let a = at_from ys d in (suc a.0, a.1) ]
-
   pub from_at : (xs : List X) {x : X} (k : ℕ) → slice_get xs k ≡ Some x → Contains xs x
   from_at [] k e = absurd (cc)
   from_at (y ∷ ys) {x} zero e = let f : x ≡ y = cc in rw f (here y ys)
   from_at (y ∷ ys) (suc k) e = more y ys (from_at ys k e)
 
--- what was read at a place is a member, and what was not found before a place, nor there, is not found up to the next
+-- what was read at a place is a member; what is neither in a list nor one element more is not in both together
 module _ {X : Type 0} where
   pub found_at : (xs : List X) (k : ℕ) (x y : X) → k < length xs → x ≡ get_or xs k x → x ≡ y → Contains xs y
   found_at xs k x y l e f = let h : Contains xs x = (k, l, sym e) in rw f at h
 
   pub none_on : (xs : List X) (x y : X) → (Contains xs y → ⊥) → (x ≡ y → ⊥) → Contains (xs ++ x ∷ []) y → ⊥
   none_on xs x y n f c = elim (Contains-append_cases xs (x ∷ []) y c) [ inl h ↦ n h | inr h ↦ elim (one_of x [] h) [ inl e ↦ f e | inr d ↦ none_of d ] ]
-
-  pub none_more : (xs : List X) (k : ℕ) (x y : X) → k < length xs → x ≡ get_or xs k x → (Contains (take k xs) y → ⊥) → (x ≡ y → ⊥) → Contains (take (k + 1) xs) y → ⊥
-  none_more xs k x y l e n f c = none_on (take k xs) x y n f (rw (take_more xs k x l, ← e) at c)
 
   -- one more copy
   pub copied_more : (xs : List X) (k : ℕ) (x : X) (copies : List X) (y : X) {copies' : List X} → k < length xs → x ≡ get_or xs k x → copies ≡ take k xs → y ≡ x → copies' ≡ copies ++ y ∷ [] → copies' ≡ take (k + 1) xs
@@ -50,11 +43,6 @@ module _ {X : Type 0} where
 pub in_infos : (xs : List Patch) {x : Patch} → Contains xs x → Holds xs x.info
 in_infos [] c = absurd (none_of c)
 in_infos (y ∷ ys) c = elim (one_of y ys c) [ inl e ↦ rw (← e) (here y.info (infos_of ys)) | inr d ↦ more y.info (infos_of ys) (in_infos ys d) ]
-
-pub in_take : (k : ℕ) (xs : List Patch) {i : Parts} → Holds (take k xs) i → Holds xs i
-in_take zero xs h = absurd (none_of h)
-in_take (suc k) [] h = h
-in_take (suc k) (x ∷ xs) h = elim (one_of x.info (infos_of (take k xs)) h) [ inl e ↦ rw (← e) (here x.info (infos_of xs)) | inr d ↦ more x.info (infos_of xs) (in_take k xs d) ]
 
 pub infos_of-append : (xs ys : List Patch) → infos_of (xs ++ ys) ≡ infos_of xs ++ infos_of ys
 infos_of-append [] ys = refl

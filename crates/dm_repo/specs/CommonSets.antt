@@ -1,4 +1,5 @@
--- What a repository and a bundle have in common, and what of a bundle is missing.
+-- What a repository and a bundle have in common, and what of a bundle is missing (`darcs apply`; that a context is closed under explicit
+-- dependencies, so that it may stop at a tag, is this project's).
 use Rattle.std.specs.Prelude.{◌≡◌, ℕ, ◌<◌, List, take, slice_get, Some, ◌⊎◌}
 use Rattle.std.specs.List.{Contains}
 use Rattle.dm_info.specs.Parts.{Parts}
@@ -7,12 +8,12 @@ use Rattle.dm_bundle.specs.Patches.{infos_of}
 use Rattle.dm_bundle.specs.Bundles.{Contents}
 use Rattle.dm_repo.specs.Repositories.{Holds}
 
--- the least set that has the context and, with a held patch, what it names as a dependency
+-- the least set that has the context's informations and, for each held patch in it, what that patch names as dependencies
 pub data Closed (repo : List Patch) (context : List Parts) : Parts → Type 0 where
   given : {i : Parts} → Contains context i → Closed repo context i
   needed : {x : Patch} {d : Parts} → Contains repo x → Closed repo context x.info → Contains x.deps d → Closed repo context d
 
--- the common set: that one, and the new patches that are held
+-- the common set: that one, and the new patches that are held, with nothing added for what these depend on
 abbrev pub Common : List Patch → Contents → Parts → Type 0
 Common repo b i = Closed repo b.context i ⊎ (Holds b.patches i × Holds repo i)
 
@@ -28,15 +29,16 @@ KnowsContext repo b = HoldsAll repo b.context
 abbrev pub HasAll : List Patch → Contents → Type 0
 HasAll repo b = HoldsAll repo (infos_of b.patches)
 
--- what the new patch at place n may name: what is common, and earlier new patches
+-- what the new patch at place n may name as a dependency: what is common, and earlier new patches
 abbrev pub IsKnown : List Patch → Contents → ℕ → Parts → Type 0
 IsKnown repo b n i = Common repo b i ⊎ Holds (take n b.patches) i
 
 -- the new patch at place n is held, or names only what it may
 abbrev pub HasDependenciesAt : List Patch → Contents → ℕ → Type 0
-HasDependenciesAt repo b n = (x : Patch) (d : Parts) → slice_get b.patches n ≡ Some x → (Holds repo x.info → ⊥) → Contains x.deps d → IsKnown repo b n d
+HasDependenciesAt repo b n = (x : Patch) (d : Parts) →
+    slice_get b.patches n ≡ Some x → (Holds repo x.info → ⊥) → Contains x.deps d → IsKnown repo b n d
 
--- so does each new patch
+-- each new patch is held, or names only what it may
 abbrev pub HasDependencies : List Patch → Contents → Type 0
 HasDependencies repo b = (n : ℕ) → HasDependenciesAt repo b n
 

@@ -1,4 +1,4 @@
--- The tree of a list of patches.
+-- The tree of a list of patches (that no path may have more than 32 names is this project's limit).
 use Rattle.std.specs.Prelude.{◌≡◌, List, [], ◌∷◌, Some, None}
 use Rattle.dm_tree.specs.Paths.{Name, Path}
 use Rattle.dm_tree.specs.Trees.{Dir}

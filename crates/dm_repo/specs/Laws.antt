@@ -1,4 +1,4 @@
--- What is promised of all repositories and bundles.
+-- What holds of all repositories and bundles.
 use Rattle.std.specs.Prelude.{◌≡◌, ◌↔◌, List, ◌++◌}
 use Rattle.dm_prim.specs.Runs.{Runs}
 use Rattle.dm_prim.specs.Primitives.{LawfulMap}
@@ -14,7 +14,8 @@ use Rattle.dm_repo.specs.Weighing.{IsCommon, Fits, IsMergeOf}
 
 -- front then rest make the repository's tree
 abbrev pub SplitFolds : Type 0
-SplitFolds = (repo : List Patch) (b : Contents) (front rest : List Placed) → Split PlacedCommutes (IsCommon repo b) (placed repo) front rest →
+SplitFolds = (repo : List Patch) (b : Contents) (front rest : List Placed) →
+    Split PlacedCommutes (IsCommon repo b) (placed repo) front rest →
     (t : LawfulMap) → Fold repo t ↔ Fold (patches front ++ patches rest) t
 
 -- a list of patches makes one tree
@@ -23,13 +24,15 @@ FoldIsOne = (xs : List Patch) (s t : LawfulMap) → Fold xs s → Fold xs t → 
 
 -- what fits and is merged applies after the repository
 abbrev pub MergeApplies : Type 0
-MergeApplies = (repo : List Patch) (b : Contents) (rest new merged : List Placed) → Fits repo b rest new → Merge PlacedMerges rest new merged →
+MergeApplies = (repo : List Patch) (b : Contents) (rest new merged : List Placed) →
+    Fits repo b rest new → Merge PlacedMerges rest new merged →
     (s : LawfulMap) → Fold repo s → (t : LawfulMap) × Runs Leads (patches merged) s t
 
--- a list is split in one way
+-- a repository is split in one way
 abbrev pub SplitIsOne : Type 0
 SplitIsOne = (repo : List Patch) (b : Contents) (front rest front1 rest1 : List Placed) →
-    Split PlacedCommutes (IsCommon repo b) (placed repo) front rest → Split PlacedCommutes (IsCommon repo b) (placed repo) front1 rest1 → (front ≡ front1) × (rest ≡ rest1)
+    Split PlacedCommutes (IsCommon repo b) (placed repo) front rest →
+    Split PlacedCommutes (IsCommon repo b) (placed repo) front1 rest1 → (front ≡ front1) × (rest ≡ rest1)
 
 -- where it is split no pair stops it, and one pair alone does
 abbrev pub SplitStopsOnce : Type 0
@@ -39,7 +42,8 @@ SplitStopsOnce = (repo : List Patch) (b : Contents) (h r : Placed) → SplitStop
 
 -- two lists are merged in one way
 abbrev pub MergeIsOne : Type 0
-MergeIsOne = (rest new merged merged1 : List Placed) → Merge PlacedMerges rest new merged → Merge PlacedMerges rest new merged1 → merged ≡ merged1
+MergeIsOne = (rest new merged merged1 : List Placed) →
+    Merge PlacedMerges rest new merged → Merge PlacedMerges rest new merged1 → merged ≡ merged1
 
 -- where they are merged no pair stops it, and one pair alone does
 abbrev pub MergeStopsOnce : Type 0
@@ -47,6 +51,7 @@ MergeStopsOnce = (rest new : List Placed) (n r : Placed) → MergeStops PlacedMe
     ((merged : List Placed) → Merge PlacedMerges rest new merged → ⊥) ×
     ((n1 r1 : Placed) → MergeStops PlacedMerges rest new n1 r1 → (n ≡ n1) × (r ≡ r1))
 
--- a merged bundle leaves a repository
+-- with a merged bundle appended a repository is one again
 abbrev pub MergeIsRepo : Type 0
-MergeIsRepo = (repo : List Patch) (b : Contents) (merged : List Patch) → IsRepo repo → Distinct (infos_of b.patches) → IsMergeOf repo b merged → IsRepo (repo ++ merged)
+MergeIsRepo = (repo : List Patch) (b : Contents) (merged : List Patch) →
+    IsRepo repo → Distinct (infos_of b.patches) → IsMergeOf repo b merged → IsRepo (repo ++ merged)

@@ -11,4 +11,5 @@ pub record Marks (marks : List Bool) (infos : List Parts) (Q : Parts → Type 0)
 -- new marks are the old ones, and those of what stands in more
 pub record MarksAlso (old new : List Bool) (infos more : List Parts) : Type 0 where
   pub length_is : length new ≡ length old
-  pub at : (k : ℕ) (i : Parts) → slice_get infos k ≡ Some i → (slice_get new k ≡ Some true) ↔ ((slice_get old k ≡ Some true) ⊎ Contains more i)
+  pub at : (k : ℕ) (i : Parts) → slice_get infos k ≡ Some i →
+      (slice_get new k ≡ Some true) ↔ ((slice_get old k ≡ Some true) ⊎ Contains more i)

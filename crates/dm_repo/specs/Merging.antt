@@ -1,12 +1,14 @@
--- Rectangles of squares, which merge two lists that start at one state. `Square r n n' r'` says that n is n' after r, and r is r' after n.
+-- Rectangles of squares, which merge two lists that start at one state (`darcs apply --no-allow-conflicts`).
+-- `Square r n n' r'` says that n is n' after r, and r is r' after n.
 use Rattle.std.specs.Prelude.{◌≡◌, List, [], ◌∷◌, ◌++◌}
 use Rattle.dm_prim.specs.Rectangles.{CellRow}
 
--- rest and new are two sides of a rectangle, new' and rest' those across from them: the first of rest meets new first, the next what that left of new
+-- rest and new are two sides of a rectangle, new' and rest' those across from them: new' is new after rest, and rest' is rest after new;
+-- the first of rest meets new, the next what that left of new
 pub data MergeRectangle {P : Type 0} (Square : P → P → P → P → Type 0) : List P → List P → List P → List P → Type 0 where
   bare : {new : List P} → MergeRectangle Square [] new new []
-  over : {r r' : P} {rest rest' new between new' : List P} → CellRow Square r new between r' → MergeRectangle Square rest between new' rest' →
-      MergeRectangle Square (r ∷ rest) new new' (r' ∷ rest')
+  over : {r r' : P} {rest rest' new between new' : List P} → CellRow Square r new between r' →
+      MergeRectangle Square rest between new' rest' → MergeRectangle Square (r ∷ rest) new new' (r' ∷ rest')
 
 -- n is n' after rest: it is merged with each of rest, the first of them first
 abbrev pub Joins : {P : Type 0} → (P → P → P → P → Type 0) → List P → P → P → List P → Type 0

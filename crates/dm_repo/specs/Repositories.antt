@@ -1,4 +1,4 @@
--- What a repository is.
+-- What a repository is (a patch's name and its explicit dependencies: Darcs.Patch.Named).
 use Rattle.std.specs.Prelude.{◌≡◌, ℕ, List, [], ◌∷◌, ◌++◌}
 use Rattle.std.specs.List.{Contains}
 use Rattle.std.specs.FinMap as map

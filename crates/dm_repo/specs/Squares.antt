@@ -1,4 +1,4 @@
--- Patches with their places, and the squares that they form.
+-- Patches with their places, and the squares that they form (Darcs.Patch.Named; a square of a merge turns one of its sides round).
 use Rattle.std.specs.Prelude.{◌≡◌, ℕ, ◌+◌, List, [], ◌∷◌, map}
 use Rattle.dm_prim.specs.Primitives.{inv_all}
 use Rattle.dm_prim.specs.Commuting.{ListsCommute}
@@ -20,7 +20,8 @@ placed xs = placed_from 0 xs
 abbrev pub patches : List Placed → List Patch
 patches xs = map (λ x. x.1) xs
 
--- r and n start at one state: n' is n after r, and r' is r after n; informations and dependencies are kept
+-- r and n start at one state: n' is n after r, and r' is r after n, since the inverse of r and then n change places;
+-- informations and dependencies are kept
 pub record Merges (r n n' r' : Patch) : Type 0 where
   pub r_stays : Stays r r'
   pub n_stays : Stays n n'

@@ -1,11 +1,13 @@
--- What weighing a bundle against a repository answers. Each refusal holds what the steps before it found.
+-- What weighing a bundle against a repository answers (`darcs apply --no-allow-conflicts`; the order of the refusals and the limits are
+-- this project's). Each step, and each refusal, holds what the steps before it found.
 use Rattle.std.specs.Prelude.{◌≡◌, ℕ, ◌+◌, ◌≤◌, ◌<◌, List, ◌∷◌, ◌++◌, length, ◌⊎◌}
 use Rattle.dm_prim.specs.Runs.{Runs}
 use Rattle.dm_prim.specs.Primitives.{LawfulMap}
 use Rattle.dm_named.specs.Patches.{Patch}
 use Rattle.dm_bundle.specs.Bundles.{Contents}
 use Rattle.dm_repo.specs.declared.refusal.Refusal.{Refusal}
-use Rattle.dm_repo.specs.declared.refusal.Refusal.TheVariants.{MissingContext, MissingDependency, ContextDepends, HeldDepends, DoesNotFit, Conflicts, Full, NoMemory}
+use Rattle.dm_repo.specs.declared.refusal.Refusal.TheVariants.{MissingContext, MissingDependency, ContextDepends, HeldDepends}
+use Rattle.dm_repo.specs.declared.refusal.Refusal.TheVariants.{DoesNotFit, Conflicts, Full, NoMemory}
 use Rattle.dm_repo.specs.Staircases.{Split, SplitStops}
 use Rattle.dm_repo.specs.Merging.{Merge, MergeStops}
 use Rattle.dm_repo.specs.Squares.{Placed, placed, patches, PlacedCommutes, PlacedMerges}
@@ -14,9 +16,11 @@ use Rattle.dm_repo.specs.Folds.{GoesAll, Grows}
 use Rattle.dm_repo.specs.Repositories.{Holds}
 use Rattle.dm_repo.specs.CommonSets.{Common, KnowsContext, HasAll, HasDependencies, First, LacksAt, LacksFirst}
 
+-- the patch's name is common
 abbrev pub IsCommon : List Patch → Contents → Placed → Type 0
 IsCommon repo b x = Common repo b x.1.info
 
+-- the patch's name is held
 abbrev pub IsHeld : List Patch → Placed → Type 0
 IsHeld repo x = Holds repo x.1.info
 
@@ -30,12 +34,12 @@ pub record IsLinked (repo : List Patch) (b : Contents) : Type 0 where
   pub is_new : HasAll repo b → ⊥
   pub has_dependencies : HasDependencies repo b
 
--- and the repository is split: the common patches in front, and the rest
+-- and the repository is split: the common patches in front, and the rest, the others
 pub record IsParted (repo : List Patch) (b : Contents) (front rest : List Placed) : Type 0 where
   pub linked : IsLinked repo b
   pub split : Split PlacedCommutes (IsCommon repo b) (placed repo) front rest
 
--- and so is the bundle: the new patches that are held, and those to merge
+-- and the bundle is split: the new patches that are held, and the others, which are to be merged
 pub record Chooses (repo : List Patch) (b : Contents) (front rest new : List Placed) : Type 0 where
   pub parted : IsParted repo b front rest
   pub held : List Placed
@@ -61,26 +65,30 @@ pub record Fits (repo : List Patch) (b : Contents) (rest new : List Placed) : Ty
 
 -- the merged patches go nowhere from the repository's tree, or are too many
 abbrev pub IsFull : List Patch → List Placed → Type 0
-IsFull repo merged = (most_patches < length repo + length merged) ⊎ ((s t : LawfulMap) → Grows repo s → Runs GoesAll (patches merged) s t → ⊥)
+IsFull repo merged = (most_patches < length repo + length merged) ⊎
+    ((s t : LawfulMap) → Grows repo s → Runs GoesAll (patches merged) s t → ⊥)
 
 -- the front goes nowhere from the root alone
 abbrev pub FrontIsFull : List Patch → Contents → Type 0
 FrontIsFull repo b =
-    (front : List Placed) × (rest : List Placed) × (new : List Placed) × Chooses repo b front rest new × ((t : LawfulMap) → Grows (patches front) t → ⊥)
+    (front : List Placed) × (rest : List Placed) × (new : List Placed) ×
+    Chooses repo b front rest new × ((t : LawfulMap) → Grows (patches front) t → ⊥)
 
 -- the bundle is merged, and then the repository is too full for it
 abbrev pub MergeIsFull : List Patch → Contents → Type 0
 MergeIsFull repo b =
-    (rest : List Placed) × (new : List Placed) × (merged : List Placed) × Fits repo b rest new × Merge PlacedMerges rest new merged × IsFull repo merged
+    (rest : List Placed) × (new : List Placed) × (merged : List Placed) ×
+    Fits repo b rest new × Merge PlacedMerges rest new merged × IsFull repo merged
 
--- when each refusal comes; want of memory may come at any time
+-- when each refusal comes, in the order of the steps: the place or the pair is the first; want of memory may come at any time
 abbrev pub Refuses : List Patch → Contents → Refusal → Type 0
 Refuses repo b (MissingContext c) = First (LacksAt repo b.context) c
 Refuses repo b (MissingDependency n d) =
     KnowsContext repo b × (HasAll repo b → ⊥) × LacksFirst repo b n d
 Refuses repo b (ContextDepends h r) = IsLinked repo b × AtPlaces (SplitStops PlacedCommutes (IsCommon repo b) (placed repo)) h r
 Refuses repo b (HeldDepends h n) =
-    (front : List Placed) × (rest : List Placed) × IsParted repo b front rest × AtPlaces (SplitStops PlacedCommutes (IsHeld repo) (placed b.patches)) h n
+    (front : List Placed) × (rest : List Placed) × IsParted repo b front rest ×
+    AtPlaces (SplitStops PlacedCommutes (IsHeld repo) (placed b.patches)) h n
 Refuses repo b (DoesNotFit n) =
     (front : List Placed) × (rest : List Placed) × (new : List Placed) × Chooses repo b front rest new ×
     ((base : LawfulMap) × (x : Placed) × (n ≡ x.0) × Grows (patches front) base × FitStops base new x)

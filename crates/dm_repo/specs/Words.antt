@@ -1,7 +1,8 @@
 -- The printed words of the refusals.
 use Rattle.std.specs.Prelude.{ℕ, List, codes}
 use Rattle.dm_repo.specs.declared.refusal.Refusal.{Refusal}
-use Rattle.dm_repo.specs.declared.refusal.Refusal.TheVariants.{MissingContext, MissingDependency, ContextDepends, HeldDepends, DoesNotFit, Conflicts, Full, NoMemory}
+use Rattle.dm_repo.specs.declared.refusal.Refusal.TheVariants.{MissingContext, MissingDependency, ContextDepends, HeldDepends}
+use Rattle.dm_repo.specs.declared.refusal.Refusal.TheVariants.{DoesNotFit, Conflicts, Full, NoMemory}
 
 -- the printed word of a refusal
 abbrev pub refusal_word : Refusal → List ℕ

@@ -97,7 +97,7 @@ pub(crate) fn first_missing<A: Allocator, B: Allocator>(
         (HasDependencies repo.now.patches bundle.now)
         (λ places. LacksFirst repo.now.patches bundle.now places.0 places.1) }
 {
-    let _ = repo.len();
+    repo.lawful();
     let new = bundle.new_patches();
     for n in 0..new.len() {
         match missing_dependency(repo, bundle, marks, n) {

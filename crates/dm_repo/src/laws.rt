@@ -1,6 +1,7 @@
 //! Laws of the definitions alone. A call of them does nothing.
 
-ghost use Rattle.dm_repo.specs.Laws.{SplitFolds, FoldIsOne, MergeApplies, SplitIsOne, SplitStopsOnce, MergeIsOne, MergeStopsOnce, MergeIsRepo};
+ghost use Rattle.dm_repo.specs.Laws.{FoldIsOne, SplitFolds, SplitIsOne, SplitStopsOnce};
+ghost use Rattle.dm_repo.specs.Laws.{MergeApplies, MergeIsOne, MergeStopsOnce, MergeIsRepo};
 
 /// A list of patches makes one tree.
 pub fn fold()
@@ -14,7 +15,8 @@ pub fn split()
     ensures stops_once { SplitStopsOnce }
 {}
 
-/// What fits and is merged applies after the repository; two lists are merged in one way, or stopped by one pair; and a merged bundle leaves a repository.
+/// What fits and is merged applies after the repository, and leaves a repository; two lists are merged in one way, or stopped
+/// by one pair.
 pub fn merge()
     ensures applies { MergeApplies }
     ensures one { MergeIsOne }

@@ -63,7 +63,8 @@ fn closed_marks<A: Allocator, B: Allocator + Copy>(
     bundle: &Bundle<B>,
 ) -> Result<Vec<bool, B>, Refusal>
     ensures { MatchResult result
-        (λ marks. KnowsContext repo.now.patches bundle.now × MarksOf marks.items (infos_of repo.now.patches) (Closed repo.now.patches bundle.now.context))
+        (λ marks. KnowsContext repo.now.patches bundle.now ×
+        MarksOf marks.items (infos_of repo.now.patches) (Closed repo.now.patches bundle.now.context))
         (λ why. RefusesContext repo.now.patches bundle.now why) }
 {
     let mut marks = context_marks(alloc, repo, bundle)?;
@@ -88,7 +89,7 @@ pub(crate) fn common_marks<A: Allocator, B: Allocator + Copy>(
         (λ marks. AreMarked repo.now.patches bundle.now marks.common.items marks.held.items)
         (λ why. RefusesContext repo.now.patches bundle.now why) }
 {
-    let _ = repo.len();
+    repo.lawful();
     let mut common = closed_marks(alloc, repo, bundle)?;
     let mut held = Vec::new(alloc);
     for patch in bundle.new_patches() {

@@ -63,8 +63,8 @@ pub(crate) fn split_repo<A: Allocator, B: Allocator + Copy>(
 ) -> Result<Parted<B>, Blocked>
     requires { AreMarked repo.now.patches bundle.now marks.now.common.items marks.now.held.items }
     ensures { MatchResult result
-        (λ parted. Split PlacedCommutes (IsCommon repo.now.patches bundle.now) (placed repo.now.patches) parted.front.items parted.rest.items)
-        (λ blocked. BlockedBy blocked (AtPlaces (SplitStops PlacedCommutes (IsCommon repo.now.patches bundle.now) (placed repo.now.patches)))) }
+        (λ p. Split PlacedCommutes (IsCommon repo.now.patches bundle.now) (placed repo.now.patches) p.front.items p.rest.items)
+        (λ b. BlockedBy b (AtPlaces (SplitStops PlacedCommutes (IsCommon repo.now.patches bundle.now) (placed repo.now.patches)))) }
 {
     split_by(alloc, repo.patches(), &marks.common)
 }
@@ -78,8 +78,8 @@ pub(crate) fn split_new<A: Allocator, B: Allocator + Copy>(
 ) -> Result<Parted<B>, Blocked>
     requires { AreMarked repo.now.patches bundle.now marks.now.common.items marks.now.held.items }
     ensures { MatchResult result
-        (λ parted. Split PlacedCommutes (IsHeld repo.now.patches) (placed bundle.now.patches) parted.front.items parted.rest.items)
-        (λ blocked. BlockedBy blocked (AtPlaces (SplitStops PlacedCommutes (IsHeld repo.now.patches) (placed bundle.now.patches)))) }
+        (λ p. Split PlacedCommutes (IsHeld repo.now.patches) (placed bundle.now.patches) p.front.items p.rest.items)
+        (λ b. BlockedBy b (AtPlaces (SplitStops PlacedCommutes (IsHeld repo.now.patches) (placed bundle.now.patches)))) }
 {
     split_by(alloc, bundle.new_patches(), &marks.held)
 }
@@ -94,7 +94,8 @@ pub fn split<A: Allocator, B: Allocator + Copy>(
     bundle: &Bundle<B>,
 ) -> Result<Parted<B>, Refusal>
     ensures parts { IfOk result (λ parted. Parts repo.now.patches bundle.now parted.front.items parted.rest.items) }
-    ensures folds { IfOk result (λ parted. (t : LawfulMap) → Fold repo.now.patches t ↔ Fold (patches parted.front.items ++ patches parted.rest.items) t) }
+    ensures folds { IfOk result (λ parted. (t : LawfulMap) →
+        Fold repo.now.patches t ↔ Fold (patches parted.front.items ++ patches parted.rest.items) t) }
     ensures refusal { IfErr result (RefusesToSplit repo.now.patches bundle.now) }
 {
     let marks = match common_marks(alloc, repo, bundle) {

@@ -1,5 +1,5 @@
 //! A repository: its patches, oldest first.
-ghost use Rattle.std.specs.Prelude.{◌≡◌, ◌↔◌, ℕ, ◌+◌, ◌-◌, ◌<◌, ◌≤◌, List, [], ◌++◌, length, map, IfOk, IfSome, IsSome, slice_get, Some, MatchOption};
+ghost use Rattle.std.specs.Prelude.{◌≡◌, ◌<◌, ◌≤◌, [], ◌++◌, length, IfOk, slice_get, Some, MatchOption};
 ghost use Rattle.dm_bundle.specs.Patches.{infos_of};
 ghost use Rattle.dm_repo.specs.Repositories.{Holds, IsRepo, Makes};
 
@@ -63,7 +63,7 @@ impl<A: Allocator> Repo<A> {
         ensures value { result ≡ length self.now.patches }
         ensures good { IsRepo self.now.patches }
     {
-        self.patches.len()
+        self.patches().len()
     }
 
     /// The patch at a place.
@@ -72,6 +72,13 @@ impl<A: Allocator> Repo<A> {
         ensures { slice_get self.now.patches i ≡ Some result.now }
     {
         &self.patches[i]
+    }
+
+    /// That its patches are a repository; does nothing.
+    pub(crate) fn lawful(&self)
+        ensures { IsRepo self.now.patches }
+    {
+        let _ = &self.patches;
     }
 
     /// All patches, oldest first.
@@ -106,7 +113,9 @@ impl<A: Allocator> Repo<A> {
 
     /// The place of the patch of this name, if it is held.
     pub fn position<B: Allocator>(&self, info: &Info<B>) -> Option<usize>
-        ensures { MatchOption result (Holds self.now.patches info.now → ⊥) (λ i. slice_get (infos_of self.now.patches) i ≡ Some info.now) }
+        ensures { MatchOption result
+            (Holds self.now.patches info.now → ⊥)
+            (λ i. slice_get (infos_of self.now.patches) i ≡ Some info.now) }
     {
         for i in (0..self.patches.len()).rev() {
             if self.patches[i].info().same(info) {
@@ -127,6 +136,7 @@ impl<A: Allocator> Repo<A> {
     {
         let mut more = ready.patches;
         let count = more.len();
+        // There is room, so this can't fail.
         let _ = self.patches.append(&mut more);
         count
     }
@@ -155,7 +165,7 @@ fn copy_patches<A: Allocator, B: Allocator + Copy>(
 ) -> Result<Vec<Named<B>, B>, AllocError>
     ensures { IfOk result (λ copies. copies.items ≡ patches.now) }
 {
-    let mut copies = Vec::new(alloc);
+    let mut copies = Vec::with_capacity(alloc, patches.len())?;
     for patch in patches {
         copies.push(patch.copy_into(alloc)?)?;
     }

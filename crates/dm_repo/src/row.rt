@@ -21,9 +21,9 @@ pub(crate) fn pass<A: Allocator + Copy>(
         (λ stop. StopsAt stop (PassStops PlacedCommutes rest.old patch.old)) }
 {
     for k in (0..rest.len()).rev() {
-        let other = &mut rest[k];
-        if !commute_square(alloc, &mut other.1, &mut patch.1)? {
-            return Err(Stop::At(other.0));
+        let nearest = &mut rest[k];
+        if !commute_square(alloc, &mut nearest.1, &mut patch.1)? {
+            return Err(Stop::At(nearest.0));
         }
     }
     Ok(())
@@ -40,9 +40,9 @@ pub(crate) fn join<A: Allocator + Copy>(
         (λ stop. StopsAt stop (JoinStops PlacedMerges (map undone rest.old) patch.old)) }
 {
     for k in 0..rest.len() {
-        let other = &mut rest[k];
-        if !commute_prims(alloc, &mut other.1, &mut patch.1)? {
-            return Err(Stop::At(other.0));
+        let next = &mut rest[k];
+        if !commute_prims(alloc, &mut next.1, &mut patch.1)? {
+            return Err(Stop::At(next.0));
         }
     }
     Ok(())

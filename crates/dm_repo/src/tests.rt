@@ -149,7 +149,8 @@ fn chain(alloc: Global, count: usize, more: &str) -> Result<Bundle<Global>, Fail
     }
 }
 
-/// What a row shows, the length of the chain, what stands behind it, what is printed of these, a bundle that is taken after them, and what is printed of it.
+/// What a row shows, the length of the chain, what stands behind it, what is printed of these, a bundle that is taken after them,
+/// and what is printed of it.
 const DEEP: [(&str, usize, &str, &str, &str, &str); 3] = [
     (
         "too deep after the rest",

@@ -1,5 +1,6 @@
 //! Weighing a bundle against a repository: what taking it would append, or why it isn't taken.
 ghost use Rattle.std.specs.Prelude.{◌≡◌, ◌↔◌, ◌+◌, ◌<◌, ◌++◌, true, All, IfErr, IfOk, IsTrue, MatchOption, MatchResult};
+ghost use Rattle.dm_bundle.specs.Patches.{infos_of, Distinct};
 ghost use Rattle.dm_repo.specs.Squares.{patches};
 ghost use Rattle.dm_repo.specs.Repositories.{Makes};
 ghost use Rattle.dm_repo.specs.Marking.{AreMarked};
@@ -125,7 +126,7 @@ fn fits<A: Allocator, B: Allocator + Copy>(
     }
 }
 
-/// Whether so many patches more are too many.
+/// Whether a repository of so many patches is too full for so many more.
 fn is_too_many(held: usize, more: usize) -> bool
     ensures { IsTrue result ↔ (most_patches < held + more) }
 {
@@ -156,7 +157,8 @@ fn append<A: Allocator, B: Allocator + Copy>(
     merged: Vec<(usize, Named<B>), B>,
 ) -> Result<Merged<B>, Refusal>
     ensures { MatchResult result
-        (λ m. (m.patches.items ≡ patches merged.items) × Appends repo.now.patches m.patches.items × Makes (repo.now.patches ++ m.patches.items) m.tree)
+        (λ m. (m.patches.items ≡ patches merged.items) × Appends repo.now.patches m.patches.items ×
+        Makes (repo.now.patches ++ m.patches.items) m.tree)
         (λ why. FullFor why (IsFull repo.now.patches merged.items)) }
 {
     if is_too_many(repo.len(), merged.len()) {
@@ -193,6 +195,13 @@ fn merge<A: Allocator, B: Allocator + Copy>(
     }
 }
 
+/// That the new patches of a bundle have distinct names; does nothing.
+fn names_are_distinct<A: Allocator>(bundle: &Bundle<A>)
+    ensures { Distinct (infos_of bundle.now.patches) }
+{
+    let _ = bundle.new_patches();
+}
+
 /// What taking a bundle would append to a repository, or why it isn't taken; neither is changed.
 ///
 /// The bundle's context and dependencies are looked up; the repository is split into what the bundle was made from and the
@@ -212,8 +221,8 @@ pub fn weigh<A: Allocator, B: Allocator + Copy>(
     };
     let (parted, chosen) = choose(alloc, repo, bundle, &marks)?;
     fits(alloc, repo, bundle, &parted, &chosen.rest)?;
-    let _ = repo.len();
-    let _ = bundle.new_patches();
+    repo.lawful();
+    names_are_distinct(bundle);
     let merged = merge(alloc, repo, bundle, parted.rest, chosen.rest)?;
     Ok(Weighed::Merged(merged))
 }

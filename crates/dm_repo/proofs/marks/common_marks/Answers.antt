@@ -19,7 +19,7 @@ loop-patch-preserved g c = elim c.match-position.branch [
       (up_to_out c.args.repo.now.patches c.args.bundle.now.context c.new_patches-patch-items.result.now c.loop-patch.patch-index c.patch-item.result c.loop-patch-test.true c.patch-item.is
       (rw c.info.ensures at w.in-None.ensures) w.in_ok-push-in-None.ensures.items c.loop-patch.invariant)
   | in-Some+in_ok-push-in-Some w ↦ rw (w.common-is, w.held-is)
-      (up_to_in c.args.repo.now.patches c.args.bundle.now.context c.new_patches-patch-items.result.now c.loop-patch.patch-index w.in-Some.k c.patch-item.result c.len.ensures.good c.loop-patch-test.true c.patch-item.is
+      (up_to_in c.args.repo.now.patches c.args.bundle.now.context c.new_patches-patch-items.result.now c.loop-patch.patch-index w.in-Some.k c.patch-item.result c.lawful.ensures c.loop-patch-test.true c.patch-item.is
       (w.in-Some.ensures ∙ ap Some c.info.ensures) w.in_ok-push-in-Some.ensures.items c.loop-patch.invariant)
 ]
 

@@ -5,5 +5,5 @@ pub returns : goal.returns
 returns g c = record {
   weighed = c.in_ok-merged.ensures;
   refusal = tt;
-  leaves_repo = merge_is_repo c.args.repo.now.patches c.args.bundle.now c.in_ok-merged.merged.patches.items c.len.ensures.good c.new_patches.ensures.no_doubles.distinct c.in_ok-merged.ensures.0;
+  leaves_repo = merge_is_repo c.args.repo.now.patches c.args.bundle.now c.in_ok-merged.merged.patches.items c.lawful.ensures c.names_are_distinct.ensures c.in_ok-merged.ensures.0;
 }
