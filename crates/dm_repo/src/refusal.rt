@@ -1,6 +1,5 @@
 //! Why a bundle isn't taken.
 ghost use Rattle.std.specs.Prelude.{◌≡◌};
-ghost use Rattle.dm_repo.specs.Words.{refusal_word};
 ghost use Rattle.dm_repo.specs.declared.refusal.Refusal.TheVariants.{NoMemory};
 
 use std::alloc::{AllocError, AllocFailed};
@@ -27,36 +26,22 @@ pub enum Refusal {
     NoMemory,
 }
 
-impl Refusal {
-    /// The word that is printed, which its places follow.
-    pub fn word(self) -> &'static str
-        ensures { result.now ≡ refusal_word self }
-    {
-        match self {
-            Refusal::MissingContext(_) => "missing-context",
-            Refusal::MissingDependency(_, _) => "missing-dependency",
-            Refusal::ContextDepends(_, _) => "context-depends",
-            Refusal::HeldDepends(_, _) => "held-depends",
-            Refusal::DoesNotFit(_) => "does-not-fit",
-            Refusal::Conflicts(_, _) => "conflicts",
-            Refusal::Full => "full",
-            Refusal::NoMemory => "no-memory",
-        }
-    }
-}
-
 impl Display for Refusal {
+    ghost use Rattle.std.specs.Prelude.{Some};
+    ghost use Rattle.dm_repo.specs.Words.{refusal_text};
+
+    ghost output = { λ refusal. Some (refusal_text refusal) };
+
     fn fmt<W: Write>(&self, f: &mut Formatter<W>) -> Result<(), Error> {
-        let word = self.word();
         match self {
-            Refusal::MissingContext(place) => write!(f, "{word} {place}"),
-            Refusal::MissingDependency(first, second) => write!(f, "{word} {first} {second}"),
-            Refusal::ContextDepends(first, second) => write!(f, "{word} {first} {second}"),
-            Refusal::HeldDepends(first, second) => write!(f, "{word} {first} {second}"),
-            Refusal::DoesNotFit(place) => write!(f, "{word} {place}"),
-            Refusal::Conflicts(first, second) => write!(f, "{word} {first} {second}"),
-            Refusal::Full => f.write_str(word),
-            Refusal::NoMemory => f.write_str(word),
+            Refusal::MissingContext(c) => write!(f, "missing-context {c}"),
+            Refusal::MissingDependency(n, d) => write!(f, "missing-dependency {n} {d}"),
+            Refusal::ContextDepends(h, r) => write!(f, "context-depends {h} {r}"),
+            Refusal::HeldDepends(h, n) => write!(f, "held-depends {h} {n}"),
+            Refusal::DoesNotFit(n) => write!(f, "does-not-fit {n}"),
+            Refusal::Conflicts(n, h) => write!(f, "conflicts {n} {h}"),
+            Refusal::Full => f.write_str("full"),
+            Refusal::NoMemory => f.write_str("no-memory"),
         }
     }
 }

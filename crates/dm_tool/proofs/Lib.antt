@@ -1,3 +1,3 @@
 pub mod PrintLemmas
-pub mod FitLemmas
-pub mod TakeLemmas
+pub mod CheckLemmas
+pub mod AnswerLemmas

@@ -4,10 +4,11 @@ use Rattle.dm_named.specs.declared.fault.ReadFault.{ReadFault}
 use Rattle.dm_bundle.specs.Bundles.{Contents}
 use Rattle.dm_bundle.specs.Canonical.{bundle_text}
 use Rattle.dm_bundle.specs.Faults.{FaultAt}
-use Rattle.dm_tool.specs.declared.refusal.Refusal.TheVariants.{NoMemory}
-use Rattle.dm_tool.specs.declared.verdict.Verdict.TheVariants.{Malformed, Refused}
-use Rattle.dm_tool.specs.Printing.{line_of, verdict_text}
-use Rattle.dm_tool.specs.Taking.{Reads}
+use Rattle.dm_repo.specs.declared.refusal.Refusal.TheVariants.{NoMemory}
+use Rattle.dm_scratch.specs.declared.verdict.Verdict.TheVariants.{Malformed, Refused}
+use Rattle.dm_scratch.specs.Taking.{Reads}
+use Rattle.dm_scratch.specs.Words.{verdict_text}
+use Rattle.dm_tool.specs.Printing.{line_of}
 
 -- these bytes and this exit status: the canonical text of the bundle that the text stands for, the line of the text's fault, or that of want of memory
 pub data Checks (text printed : List ℕ) (status : ℕ) : Type 0 where

@@ -1,4 +1,4 @@
 pub mod Printing
-pub mod Taking
 pub mod Checking
+pub mod Applying
 pub mod Streams

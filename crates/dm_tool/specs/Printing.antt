@@ -9,23 +9,8 @@ use Rattle.dm_tree.specs.Listings.{kind_of}
 use Rattle.dm_tree.specs.declared.listing.Kind.{Kind}
 use Rattle.dm_tree.specs.declared.listing.Kind.TheVariants.{Dir, File}
 use Rattle.dm_named.specs.Canonical.{path_text}
-use Rattle.dm_named.specs.FaultWords.{fault_word}
-use Rattle.dm_tool.specs.declared.refusal.Refusal.{Refusal}
-use Rattle.dm_tool.specs.declared.refusal.Refusal.TheVariants.{DoesNotFit, NoMemory}
-use Rattle.dm_tool.specs.declared.verdict.Verdict.{Verdict}
-use Rattle.dm_tool.specs.declared.verdict.Verdict.TheVariants.{Taken, NothingNew, Malformed, Refused}
-
--- why a bundle is refused
-abbrev pub refusal_text : Refusal → List ℕ
-refusal_text (DoesNotFit place) = codes "does-not-fit " ++ decimal place
-refusal_text NoMemory = codes "no-memory"
-
--- the text of a verdict; a malformed text is told by the word of its fault and the fault's place
-abbrev pub verdict_text : Verdict → List ℕ
-verdict_text (Taken count) = codes "taken " ++ decimal count
-verdict_text NothingNew = codes "nothing new"
-verdict_text (Malformed fault) = codes "malformed " ++ (fault_word fault.kind ++ 32 ∷ decimal fault.at)
-verdict_text (Refused refusal) = codes "refused " ++ refusal_text refusal
+use Rattle.dm_scratch.specs.declared.verdict.Verdict.{Verdict}
+use Rattle.dm_scratch.specs.declared.verdict.Verdict.TheVariants.{Taken, NothingNew, Malformed, Refused}
 
 -- the exit status that tells a verdict
 abbrev pub status_of : Verdict → ℕ
@@ -46,7 +31,3 @@ entry_text p (File bytes) = codes "file " ++ (path_text p ++ 32 ∷ decimal byte
 -- a line for each entry of a tree but its root, a directory before what is inside it
 abbrev pub listing_text : Tree → List ℕ
 listing_text t = flat_map (λ row. line_of (entry_text row.0 (kind_of row.1))) (drop 1 (map.entries t))
-
--- what `dm apply` prints: the verdict, and the listing of the repository's tree
-abbrev pub printed : Verdict → Tree → List ℕ
-printed verdict t = line_of (verdict_text verdict) ++ listing_text t

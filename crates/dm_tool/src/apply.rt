@@ -1,23 +1,48 @@
 //! The command `dm apply`.
-ghost use Rattle.std.specs.Prelude.{◌≡◌, ◌≢◌, ◌⊎◌, ℕ, List, take, true, IfOk, IfErr, IsSome};
+ghost use Rattle.std.specs.Prelude.{◌≡◌, ◌≢◌, ℕ, List, [], take, IfOk, IfErr, MatchOption};
 ghost use Rattle.std.specs.Io.KnownBytes.{Appends, Keeps};
+ghost use Rattle.dm_named.specs.Patches.{Patch};
+ghost use Rattle.dm_scratch.specs.declared.verdict.Verdict.{Verdict};
 ghost use Rattle.dm_tool.specs.Streams.{Gives};
-ghost use Rattle.dm_tool.specs.Taking.{Answers, RestsOnMore};
+ghost use Rattle.dm_tool.specs.Applying.{Answers, IsBase, RefusesBase};
 
 use crate::fault::ToolFault;
+use crate::print::print_taken;
+use crate::status::status_of;
 use crate::streams::{read_text, write_text};
-use crate::take::{print_taken, take_alone};
+use bumpalo::Bump;
+use dm_repo::Repo;
+use dm_scratch::take;
 use std::alloc::Global;
 use std::io::{Read, Write};
 
-/// Reads a bundle, takes it into the repository that a base text makes, and writes the verdict
-/// with the listing of the tree, or as a bundle the whole repository. Answers the exit status: 0
-/// where the bundle was taken or brought nothing new, else 1.
+/// The repository that a base's text makes, or an empty one.
+fn repo_of(
+    alloc: Global,
+    arena: &mut Bump,
+    base: Option<&[u8]>,
+) -> Result<Repo<Global>, ToolFault>
+    ensures ok { IfOk result (λ repo. MatchOption base.entry (repo.patches ≡ []) (λ text. IsBase text.now repo.patches)) }
+    ensures err { IfErr result (λ e. MatchOption base.entry ⊥ (λ text. RefusesBase text.now e)) }
+{
+    let mut repo = Repo::new(alloc);
+    let Some(text) = base else {
+        return Ok(repo);
+    };
+    let verdict = take(&mut repo, arena, text);
+    if verdict.is_accepted() {
+        return Ok(repo);
+    }
+    Err(ToolFault::of_base(verdict))
+}
+
+/// Reads a bundle, takes it into the repository that a base's text makes, or into an empty one, and writes the verdict's
+/// line with the listing of the repository's tree, or `as_bundle` with the canonical bundle of all its patches. Answers the
+/// exit status: 0 where the bundle was taken or brought nothing new, else 1.
 ///
-/// Errors: [`ToolFault::NotYet`] with a base, with `as_bundle`, and for a bundle that has a context
-/// or a patch with a dependency; [`ToolFault::Read`]; [`ToolFault::NoMemory`] where the text or the
-/// output could not be kept; [`ToolFault::Write`]. Only after the last has anything been written,
-/// which is a prefix of the output.
+/// Errors: [`ToolFault::BadBase`] where the base isn't taken, before anything is read; [`ToolFault::Read`];
+/// [`ToolFault::NoMemory`] where the base was refused for memory, or where the text or the output could not be kept;
+/// [`ToolFault::Write`]. Only after the last has anything been written, which is a prefix of the output.
 pub fn apply_over<R: Read, W: Write>(
     alloc: Global,
     base: Option<&[u8]>,
@@ -25,22 +50,23 @@ pub fn apply_over<R: Read, W: Write>(
     reader: &mut R,
     writer: &mut W,
 ) -> Result<u8, ToolFault>
-    ensures ok { IfOk result (λ status. (text : List ℕ) × (out : List ℕ) × Gives (R.remaining reader.old) (R.remaining reader.new) text ×
-        Answers text out status × Appends (W.contents writer.old) (W.contents writer.new) out) }
-    ensures not_yet { IfErr result (λ e. (e ≡ ToolFault.NotYet) → IsSome base.entry ⊎ (as_bundle ≡ true) ⊎
-        ((text : List ℕ) × Gives (R.remaining reader.old) (R.remaining reader.new) text × RestsOnMore text)) }
-    ensures base { IsSome base.entry ⊎ (as_bundle ≡ true) → result ≡ Err ToolFault.NotYet }
-    ensures silent { IfErr result (λ e. (e ≢ ToolFault.Write) → Keeps (W.contents writer.old) (W.contents writer.new)) }
-    ensures prefix { IfErr result (λ e. (e ≡ ToolFault.Write) → (text : List ℕ) × (out : List ℕ) × (status : ℕ) × (count : ℕ) ×
+    ensures ok { IfOk result (λ status. (start : List Patch) × (text : List ℕ) × (out : List ℕ) ×
+        MatchOption base.entry (start ≡ []) (λ b. IsBase b.now start) ×
         Gives (R.remaining reader.old) (R.remaining reader.new) text ×
-        Answers text out status × Appends (W.contents writer.old) (W.contents writer.new) (take count out)) }
+        Answers start as_bundle text out status × Appends (W.contents writer.old) (W.contents writer.new) out) }
+    ensures bad_base { IfErr result (λ e. (v : Verdict) → (e ≡ ToolFault.BadBase v) → MatchOption base.entry ⊥ (λ b. RefusesBase b.now e)) }
+    ensures unread { IfErr result (λ e. (v : Verdict) → (e ≡ ToolFault.BadBase v) → R.remaining reader.new ≡ R.remaining reader.old) }
+    ensures silent { IfErr result (λ e. (e ≢ ToolFault.Write) → Keeps (W.contents writer.old) (W.contents writer.new)) }
+    ensures prefix { IfErr result (λ e. (e ≡ ToolFault.Write) → (start : List Patch) × (text : List ℕ) × (out : List ℕ) × (status : ℕ) × (count : ℕ) ×
+        MatchOption base.entry (start ≡ []) (λ b. IsBase b.now start) ×
+        Gives (R.remaining reader.old) (R.remaining reader.new) text ×
+        Answers start as_bundle text out status × Appends (W.contents writer.old) (W.contents writer.new) (take count out)) }
 {
-    if base.is_some() || as_bundle {
-        return Err(ToolFault::NotYet);
-    }
+    let mut arena = Bump::new(alloc);
+    let mut repo = repo_of(alloc, &mut arena, base)?;
     let bundle = read_text(alloc, reader)?;
-    let (verdict, tree) = take_alone(alloc, &bundle)?;
-    let text = print_taken(alloc, verdict, &tree)?;
+    let verdict = take(&mut repo, &mut arena, &bundle);
+    let text = print_taken(alloc, verdict, &repo, as_bundle)?;
     write_text(&text, writer)?;
-    Ok(verdict.status())
+    Ok(status_of(verdict))
 }

@@ -6,9 +6,10 @@ ghost use Rattle.dm_tool.specs.Checking.{Checks};
 
 use crate::fault::ToolFault;
 use crate::print::push_verdict;
+use crate::status::status_of;
 use crate::streams::{read_text, write_text};
-use crate::verdict::Verdict;
 use dm_bundle::{read_bundle, write_bundle};
+use dm_scratch::Verdict;
 use std::alloc::{AllocError, Global};
 use std::io::{Read, Write};
 
@@ -22,7 +23,7 @@ fn check_text(alloc: Global, text: &[u8]) -> Result<(Vec<u8>, u8), AllocError>
             let verdict = Verdict::unread(fault);
             let mut line = Vec::new(alloc);
             push_verdict(verdict, &mut line)?;
-            Ok((line, verdict.status()))
+            Ok((line, status_of(verdict)))
         }
     }
 }
@@ -45,7 +46,7 @@ pub fn check_over<R: Read, W: Write>(
     ensures prefix { IfErr result (λ e. (e ≡ ToolFault.Write) → (text : List ℕ) × (out : List ℕ) × (status : ℕ) × (count : ℕ) ×
         Gives (R.remaining reader.old) (R.remaining reader.new) text ×
         Checks text out status × Appends (W.contents writer.old) (W.contents writer.new) (take count out)) }
-    ensures ready { IfErr result (λ e. e ≢ ToolFault.NotYet) }
+    ensures no_base { IfErr result (λ e. (v : Verdict) → e ≢ ToolFault.BadBase v) }
 {
     let text = read_text(alloc, reader)?;
     let (out, status) = check_text(alloc, &text)?;

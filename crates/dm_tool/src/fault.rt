@@ -1,7 +1,9 @@
 //! Why a command gives no answer.
-ghost use Rattle.std.specs.Prelude.{◌≡◌};
+ghost use Rattle.std.specs.Prelude.{◌≡◌, ◌≢◌, ◌⊎◌};
 ghost use Rattle.dm_tool.specs.declared.fault.ToolFault.TheVariants.{NoMemory};
 
+use dm_repo::Refusal;
+use dm_scratch::Verdict;
 use std::alloc::{AllocError, AllocFailed};
 use thiserror::Error;
 
@@ -17,9 +19,22 @@ pub enum ToolFault {
     /// A growth was refused. Nothing was written.
     #[error("no memory")]
     NoMemory,
-    /// Such a bundle, or such an option, isn't taken yet. Nothing was written.
-    #[error("not yet")]
-    NotYet,
+    /// The base isn't taken into an empty repository: the text is malformed, or its bundle refused. Nothing was read or written.
+    #[error("base {0}")]
+    BadBase(Verdict),
+}
+
+impl ToolFault {
+    /// Why there is no answer after a base of this verdict, which isn't accepted.
+    pub fn of_base(verdict: Verdict) -> ToolFault
+        ensures { ((verdict ≡ Verdict.Refused Refusal.NoMemory) × (result ≡ ToolFault.NoMemory)) ⊎
+            ((verdict ≢ Verdict.Refused Refusal.NoMemory) × (result ≡ ToolFault.BadBase verdict)) }
+    {
+        if verdict == Verdict::Refused(Refusal::NoMemory) {
+            return ToolFault::NoMemory;
+        }
+        ToolFault::BadBase(verdict)
+    }
 }
 
 impl From<AllocError> for ToolFault {

@@ -1,29 +1,26 @@
 //! The program `dm`: Darcs patch bundles from the command line.
 //!
 //! `dm check` reads a bundle on standard input and prints its canonical text, or what is wrong with
-//! it and where. `dm apply` reads a bundle, takes it into an empty repository, and prints the verdict
-//! and the listing of the repository's tree; so far it answers "not yet" to a bundle that rests on
-//! other patches.
+//! it and where. `dm apply` reads a bundle, takes it into the repository that another bundle makes, or
+//! into an empty one, and prints the verdict with the listing of the repository's tree, or with all its
+//! patches as a bundle.
 //!
-//! The crate stands on `dm_bundle` and `dm_named` for the text of bundles, on `dm_prim` and `dm_tree`
-//! for what a primitive patch does to a tree, and on `clap` for the words of the command line. Its
-//! theorems are the contracts of [`check::check_over`] and [`apply::apply_over`]: over a reader and a
-//! writer that tell their bytes, what is written and the exit status are those of the bundle that the
-//! text stands for, or of the text's first fault.
+//! The crate stands on `dm_scratch` for taking a text into a repository, on `dm_bundle` and `dm_named`
+//! for the text of bundles, and on `clap` for the words of the command line. Its theorems are the
+//! contracts of [`check::check_over`] and [`apply::apply_over`]: over a reader and a writer that tell
+//! their bytes, what is written and the exit status are those of the bundle that the text stands for, or
+//! of the text's first fault, or those of taking it.
 #![tactic(auto)]
 
 mod apply;
 mod check;
 mod commands;
 mod fault;
-mod fit;
 mod print;
-mod refusal;
+mod status;
 mod streams;
-mod take;
 #[cfg(test)]
 mod tests;
-mod verdict;
 
 use std::process::ExitCode;
 

@@ -1,9 +1,13 @@
-//! What is printed: verdicts, and the listing of a tree.
-ghost use Rattle.std.specs.Prelude.{◌≡◌, ◌++◌, OnOk};
-ghost use Rattle.dm_tool.specs.Printing.{entry_text, line_of, listing_text, verdict_text};
+//! What is printed: verdicts, and what is shown of a repository.
+ghost use Rattle.std.specs.Prelude.{◌≡◌, ◌++◌, IfOk, OnOk};
+ghost use Rattle.dm_scratch.specs.Words.{verdict_text};
+ghost use Rattle.dm_tool.specs.Applying.{Prints};
+ghost use Rattle.dm_tool.specs.Printing.{entry_text, line_of, listing_text};
 
-use crate::verdict::Verdict;
+use dm_bundle::write_bundle;
 use dm_named::write_path;
+use dm_repo::Repo;
+use dm_scratch::Verdict;
 use dm_tree::{Kind, Listed, Tree};
 use std::alloc::{AllocError, Global};
 
@@ -45,4 +49,25 @@ pub fn push_listing(tree: &Tree<Global>, out: &mut Vec<u8>) -> Result<(), AllocE
         push_entry(entry, out)?;
     }
     Ok(())
+}
+
+/// What is printed for a verdict: its line; then the canonical bundle of the repository with an empty context, or the listing
+/// of its tree.
+pub fn print_taken(
+    alloc: Global,
+    verdict: Verdict,
+    repo: &Repo<Global>,
+    as_bundle: bool,
+) -> Result<Vec<u8>, AllocError>
+    ensures { IfOk result (λ text. Prints as_bundle verdict repo.now.patches text.items) }
+{
+    let mut text = Vec::new(alloc);
+    push_verdict(verdict, &mut text)?;
+    if as_bundle {
+        let bundle = write_bundle(alloc, &repo.to_bundle(alloc)?)?;
+        text.extend_from_slice(&bundle)?;
+        return Ok(text);
+    }
+    push_listing(&repo.tree_copy(alloc)?, &mut text)?;
+    Ok(text)
 }

@@ -1,6 +1,7 @@
 use Rattle.std.proofs.Common.{refl}
 use Rattle.dm_tool.specs.Checking.{canonical}
-use Rattle.dm_tool.proofs.TakeLemmas.{no_err, reads, unread_checks}
+use Rattle.dm_scratch.proofs.ReadLemmas.{no_err, reads}
+use Rattle.dm_tool.proofs.CheckLemmas.{unread_checks}
 use Rattle.dm_tool.proofs.check.check_text.Goals as goal
 
 pub returns-in_ok-write_bundle-in-Ok : goal.returns-in_ok-write_bundle-in-Ok
@@ -9,5 +10,5 @@ returns-in_ok-write_bundle-in-Ok c =
 
 pub returns-in_ok-push_verdict-in-Err : goal.returns-in_ok-push_verdict-in-Err
 returns-in_ok-push_verdict-in-Err c =
-    unread_checks c.args.text.now c.push_verdict.new.out.items c.in-Err.fault c.unread-verdict.result c.status.result c.in-Err.ensures.err c.unread-verdict.ensures
-    (rw c.new-line.ensures.items at c.in_ok-push_verdict-in-Err.ensures) c.status.ensures
+    unread_checks c.args.text.now c.push_verdict.new.out.items c.in-Err.fault c.unread-verdict.result c.status_of.result c.in-Err.ensures.err c.unread-verdict.ensures
+    (rw c.new-line.ensures.items at c.in_ok-push_verdict-in-Err.ensures) c.status_of.ensures

@@ -1,0 +1,23 @@
+-- What taking a text does, by what was read of it.
+use Rattle.std.proofs.Common.{◌≡◌, ◌≢◌, ◌<◌, ◌⊎◌, ℕ, List, length, inl, inr, arith, Ok}
+use Rattle.std.specs.Result.{IsErrOf}
+use Rattle.dm_named.specs.declared.fault.FaultKind.TheVariants as kind
+use Rattle.dm_named.specs.declared.fault.ReadFault.{ReadFault}
+use Rattle.dm_named.specs.Patches.{Patch}
+use Rattle.dm_bundle.specs.Patches.{AreFew}
+use Rattle.dm_bundle.specs.Bundles.{Contents, BundleText}
+use Rattle.dm_bundle.specs.Faults.{FaultAt}
+use Rattle.dm_scratch.specs.declared.verdict.Verdict.{Verdict}
+use Rattle.dm_scratch.specs.Taking.{Reads, Takes, malformed, no_memory, IsUnread}
+
+pub no_err : {T E : Type 0} (x : T) (e : E) → IsErrOf (Ok x) e → ⊥
+no_err x e is = cc
+
+-- a text that was read is not too large
+pub reads : (text : List ℕ) (b : Contents) → BundleText text b → AreFew b.patches → (4194304 < length text → ⊥) → Reads text b
+reads text b stands few small = record { stands = stands; small = omega (arith, small); few = few }
+
+pub unread_takes : (repo : List Patch) (text : List ℕ) (fault : ReadFault) (v : Verdict) (after : List Patch) → (fault.kind ≢ kind.NoMemory → FaultAt text fault.kind fault.at)
+    → IsUnread fault v → after ≡ repo → Takes repo text v after
+unread_takes repo text fault v after at (inl x) same = malformed fault (at x.0) x.1 same
+unread_takes repo text fault v after at (inr x) same = no_memory x.1 same

@@ -1,0 +1,55 @@
+-- What taking a text does to a repository (`darcs apply --no-allow-conflicts`).
+use Rattle.std.specs.Prelude.{◌≡◌, ◌≢◌, ◌≤◌, ◌⊎◌, ℕ, List, [], ◌∷◌, ◌++◌, length}
+use Rattle.dm_named.specs.declared.fault.FaultKind.TheVariants as kind
+use Rattle.dm_named.specs.declared.fault.ReadFault.{ReadFault}
+use Rattle.dm_named.specs.Patches.{Patch}
+use Rattle.dm_bundle.specs.Patches.{AreFew}
+use Rattle.dm_bundle.specs.Bundles.{Contents, BundleText}
+use Rattle.dm_bundle.specs.Faults.{FaultAt}
+use Rattle.dm_repo.specs.declared.refusal.Refusal.TheVariants.{NoMemory}
+use Rattle.dm_repo.specs.Weighing.{IsNothingNew, IsMergeOf, Refuses}
+use Rattle.dm_scratch.specs.declared.verdict.Verdict.{Verdict}
+use Rattle.dm_scratch.specs.declared.verdict.Verdict.TheVariants.{Taken, NothingNew, Malformed, Refused}
+
+-- the text stands for the bundle, and both are within the limits
+pub record Reads (text : List ℕ) (b : Contents) : Type 0 where
+  pub stands : BundleText text b
+  pub small : length text ≤ 4194304
+  pub few : AreFew b.patches
+
+-- the merged patches are appended
+pub record Appended (repo : List Patch) (b : Contents) (count : ℕ) (after : List Patch) : Type 0 where
+  pub merged : List Patch
+  pub is_merge : IsMergeOf repo b merged
+  pub counted : count ≡ length merged
+  pub appended : after ≡ repo ++ merged
+
+-- What taking a bundle does: its merged patches are appended; or nothing is new, or it is refused, and the repository stays as it was.
+abbrev pub TakesBundle : List Patch → Contents → Verdict → List Patch → Type 0
+TakesBundle repo b (Taken count) after = Appended repo b count after
+TakesBundle repo b NothingNew after = IsNothingNew repo b × (after ≡ repo)
+TakesBundle repo b (Refused why) after = Refuses repo b why × (after ≡ repo)
+TakesBundle repo b (Malformed fault) after = ⊥
+
+-- What taking a text does: its bundle is taken; or it has a fault, or memory is wanting, and the repository stays as it was.
+pub data Takes (repo : List Patch) (text : List ℕ) (verdict : Verdict) (after : List Patch) : Type 0 where
+  bundle : (b : Contents) → Reads text b → TakesBundle repo b verdict after → Takes repo text verdict after
+  malformed : (fault : ReadFault) → FaultAt text fault.kind fault.at → verdict ≡ Malformed fault → after ≡ repo → Takes repo text verdict after
+  no_memory : verdict ≡ Refused NoMemory → after ≡ repo → Takes repo text verdict after
+
+-- texts are taken one after the other, each into the repository that the one before it left
+abbrev pub TakesEach : List Patch → List (List ℕ) → List Verdict → List Patch → Type 0
+TakesEach repo [] [] after = after ≡ repo
+TakesEach repo (text ∷ texts) (verdict ∷ verdicts) after = (next : List Patch) × Takes repo text verdict next × TakesEach next texts verdicts after
+TakesEach repo texts verdicts after = ⊥
+
+-- the repository has the bundle's patches then
+abbrev pub IsAccepted : Verdict → Type 0
+IsAccepted (Taken count) = Unit {0}
+IsAccepted NothingNew = Unit {0}
+IsAccepted (Malformed fault) = ⊥
+IsAccepted (Refused why) = ⊥
+
+-- the verdict on a text that couldn't be read: its fault, but want of memory is a refusal
+abbrev pub IsUnread : ReadFault → Verdict → Type 0
+IsUnread fault verdict = ((fault.kind ≢ kind.NoMemory) × (verdict ≡ Malformed fault)) ⊎ ((fault.kind ≡ kind.NoMemory) × (verdict ≡ Refused NoMemory))

@@ -1,0 +1,18 @@
+//! Taking a bundle into a repository (`darcs apply --no-allow-conflicts`), from its bytes to the repository's tree.
+//!
+//! [`take`] reads a text in an arena, weighs its bundle against the repository there, and copies what is accepted out of
+//! the arena, once, before it commits it in one step that can't fail. A text that isn't taken has touched nothing but the
+//! arena. [`take_each`] takes texts in turn.
+//!
+//! The crate stands on dm_bundle for the text of bundles, on dm_repo for weighing and committing, and on `bumpalo` for the
+//! arena. Its theorem is the contract of [`take`].
+#![tactic(auto)]
+
+mod trial;
+mod verdict;
+
+pub use trial::{take, take_each};
+pub use verdict::Verdict;
+
+#[cfg(test)]
+mod tests;

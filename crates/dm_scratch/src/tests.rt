@@ -1,0 +1,143 @@
+use super::*;
+use bumpalo::Bump;
+use dm_bundle::write_bundle;
+use dm_named::{FaultKind, ReadFault};
+use dm_repo::{Refusal, Repo};
+use std::alloc::Global;
+use std::process::Abort;
+use std::test::Fail;
+
+/// A patch that adds a file of the lines 1 to 5, in a bundle with a second one, of a line before the second.
+const TWO: &[u8] = b"New patches:
+
+[a
+p**20240101000000] {
+addfile ./f
+hunk ./f 1
++1
++2
++3
++4
++5
+}
+[m
+p**20240101000000] hunk ./f 2
++z
+
+Context:
+
+";
+
+/// A patch that replaces the second line, made where the first patch of `TWO` was alone.
+const CONFLICTS: &[u8] = b"New patches:
+
+[n
+p**20240101000000] hunk ./f 2
+-2
++two
+
+Context:
+
+[a
+p**20240101000000] 
+";
+
+/// A patch that replaces the fifth line, made where the first patch of `TWO` was alone.
+const COMMUTES: &[u8] = b"New patches:
+
+[o
+p**20240101000000] hunk ./f 5
+-5
++five
+
+Context:
+
+[a
+p**20240101000000] 
+";
+
+/// The three patches that are held in the end.
+const HELD: &[u8] = b"New patches:
+
+[a
+p**20240101000000] {
+addfile ./f
+hunk ./f 1
++1
++2
++3
++4
++5
+}
+[m
+p**20240101000000] hunk ./f 2
++z
+[o
+p**20240101000000] hunk ./f 6
+-5
++five
+
+Context:
+
+";
+
+#[test]
+fn texts_taken_in_turn(rt: HostRuntime) -> Result<(), Fail> {
+    let alloc = rt.alloc();
+    let mut arena = Bump::new(alloc);
+    let mut repo = Repo::new(alloc);
+    assert_eq!(rt; take(&mut repo, &mut arena, TWO), Verdict::Taken(2), "both patches");
+    assert_eq!(rt;
+        take(&mut repo, &mut arena, CONFLICTS),
+        Verdict::Refused(Refusal::Conflicts(0, 1)),
+        "a patch that conflicts"
+    );
+    assert_eq!(rt;
+        take(&mut repo, &mut arena, b""),
+        Verdict::Malformed(ReadFault {
+            kind: FaultKind::NoNewPatches,
+            at: 0
+        }),
+        "an empty text"
+    );
+    assert_eq!(rt; take(&mut repo, &mut arena, COMMUTES), Verdict::Taken(1), "a patch that commutes");
+    assert_eq!(rt; take(&mut repo, &mut arena, COMMUTES), Verdict::NothingNew, "the same again");
+    let held = write_bundle(alloc, &repo.to_bundle(alloc)?)?;
+    assert!(rt; held.as_slice() == HELD, "the patches that are held");
+    let listing = repo.tree_copy(alloc)?.listing(alloc)?;
+    assert_eq!(rt; listing.len(), 1, "one entry");
+    for entry in &listing {
+        assert!(rt; matches!(entry.kind, dm_tree::Kind::File(15)), "a file of 15 bytes");
+    }
+    Ok(())
+}
+
+#[test]
+fn each_text_has_its_verdict(rt: HostRuntime) -> Result<(), Fail> {
+    let alloc = rt.alloc();
+    let mut arena = Bump::new(alloc);
+    let mut repo = Repo::new(alloc);
+    let mut verdicts = [Verdict::NothingNew; 3];
+    take_each(&mut repo, &mut arena, &[COMMUTES, TWO, COMMUTES], &mut verdicts);
+    assert_eq!(rt;
+        verdicts,
+        [Verdict::Refused(Refusal::MissingContext(0)), Verdict::Taken(2), Verdict::Taken(1)],
+        "too early, then in time"
+    );
+    Ok(())
+}
+
+#[test]
+fn a_verdict_is_printed(rt: HostRuntime) -> Result<(), Fail> {
+    for (verdict, text) in [
+        (Verdict::Taken(12), "taken 12"),
+        (Verdict::NothingNew, "nothing new"),
+        (Verdict::Malformed(ReadFault { kind: FaultKind::BadPath, at: 44 }), "malformed bad-path 44"),
+        (Verdict::Refused(Refusal::MissingDependency(3, 0)), "refused missing-dependency 3 0"),
+        (Verdict::Refused(Refusal::NoMemory), "refused no-memory"),
+    ] {
+        let found = format!(in rt.alloc(); "{verdict}")?;
+        assert_eq!(rt; found.as_str(), text);
+    }
+    Ok(())
+}

@@ -1,0 +1,60 @@
+//! What becomes of a bundle.
+ghost use Rattle.std.specs.Prelude.{◌↔◌, IsTrue};
+ghost use Rattle.dm_scratch.specs.Taking.{IsAccepted, IsUnread};
+
+use dm_named::{FaultKind, ReadFault};
+use dm_repo::Refusal;
+use std::fmt;
+
+/// What becomes of a text that is taken into a repository.
+#[derive(Clone, Copy, PartialEq, Eq, Debug)]
+pub enum Verdict {
+    /// So many patches were taken.
+    Taken(usize),
+    /// The repository has every new patch of the bundle already.
+    NothingNew,
+    /// The text is no bundle's: what is wrong, and at which byte. The repository is as it was.
+    Malformed(ReadFault),
+    /// The bundle isn't taken. The repository is as it was.
+    Refused(Refusal),
+}
+
+impl Verdict {
+    /// The verdict on a text that couldn't be read. Want of memory is a refusal.
+    pub fn unread(fault: ReadFault) -> Verdict
+        ensures { IsUnread fault result }
+    {
+        if fault.kind == FaultKind::NoMemory {
+            return Verdict::Refused(Refusal::NoMemory);
+        }
+        Verdict::Malformed(fault)
+    }
+
+    /// Whether the repository has the bundle's patches now.
+    pub fn is_accepted(&self) -> bool
+        ensures { IsTrue result ↔ IsAccepted self.now }
+    {
+        match self {
+            Verdict::Taken(_) => true,
+            Verdict::NothingNew => true,
+            Verdict::Malformed(_) => false,
+            Verdict::Refused(_) => false,
+        }
+    }
+}
+
+impl fmt::Display for Verdict {
+    ghost use Rattle.std.specs.Prelude.{Some};
+    ghost use Rattle.dm_scratch.specs.Words.{verdict_text};
+
+    ghost output = { λ verdict. Some (verdict_text verdict) };
+
+    fn fmt<W: fmt::Write>(&self, f: &mut fmt::Formatter<W>) -> fmt::Result {
+        match self {
+            Verdict::Taken(count) => write!(f, "taken {count}"),
+            Verdict::NothingNew => f.write_str("nothing new"),
+            Verdict::Malformed(fault) => write!(f, "malformed {} {}", fault.kind.word(), fault.at),
+            Verdict::Refused(refusal) => write!(f, "refused {refusal}"),
+        }
+    }
+}

@@ -1,0 +1,45 @@
+-- What `dm apply` answers.
+use Rattle.std.specs.Prelude.{◌≡◌, ◌≢◌, ℕ, Bool, true, false, List, [], ◌++◌}
+use Rattle.dm_tree.specs.Trees.{Tree}
+use Rattle.dm_named.specs.Patches.{Patch}
+use Rattle.dm_bundle.specs.Canonical.{bundle_text}
+use Rattle.dm_repo.specs.declared.refusal.Refusal.TheVariants as refusals
+use Rattle.dm_repo.specs.Repositories.{Makes}
+use Rattle.dm_scratch.specs.declared.verdict.Verdict.{Verdict}
+use Rattle.dm_scratch.specs.declared.verdict.Verdict.TheVariants.{Refused}
+use Rattle.dm_scratch.specs.Taking.{Takes, IsAccepted}
+use Rattle.dm_scratch.specs.Words.{verdict_text}
+use Rattle.dm_tool.specs.declared.fault.ToolFault.{ToolFault}
+use Rattle.dm_tool.specs.declared.fault.ToolFault.TheVariants.{NoMemory, BadBase}
+use Rattle.dm_tool.specs.Printing.{line_of, listing_text, status_of}
+
+-- the base's text is taken into an empty repository, which then holds these patches
+pub record IsBase (text : List ℕ) (repo : List Patch) : Type 0 where
+  pub verdict : Verdict
+  pub accepted : IsAccepted verdict
+  pub takes : Takes [] text verdict repo
+
+-- the base's text isn't taken: want of memory, or this verdict
+abbrev pub RefusesBase : List ℕ → ToolFault → Type 0
+RefusesBase text NoMemory = Unit {0}
+RefusesBase text (BadBase verdict) = (IsAccepted verdict → ⊥) × (verdict ≢ Refused refusals.NoMemory) × Takes [] text verdict []
+RefusesBase text other = ⊥
+
+-- what is shown of a repository: its canonical bundle with an empty context, or the listing of its tree
+abbrev pub Shows : Bool → List Patch → List ℕ → Type 0
+Shows true repo shown = shown ≡ bundle_text (record { patches = repo; context = [] })
+Shows false repo shown = (tree : Tree) × Makes repo tree × (shown ≡ listing_text tree)
+
+-- these bytes are the line of the verdict, and what is shown of the repository
+pub record Prints (as_bundle : Bool) (verdict : Verdict) (repo : List Patch) (out : List ℕ) : Type 0 where
+  pub shown : List ℕ
+  pub shows : Shows as_bundle repo shown
+  pub bytes : out ≡ line_of (verdict_text verdict) ++ shown
+
+-- a text that is taken into the repository of these patches is answered by these bytes and this exit status
+pub record Answers (repo : List Patch) (as_bundle : Bool) (text out : List ℕ) (status : ℕ) : Type 0 where
+  pub verdict : Verdict
+  pub after : List Patch
+  pub takes : Takes repo text verdict after
+  pub prints : Prints as_bundle verdict after out
+  pub exit : status ≡ status_of verdict

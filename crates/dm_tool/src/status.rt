@@ -1,0 +1,17 @@
+//! The exit status of an answer.
+ghost use Rattle.std.specs.Prelude.{◌≡◌};
+ghost use Rattle.dm_tool.specs.Printing.{status_of};
+
+use dm_scratch::Verdict;
+
+/// The exit status that tells a verdict: 0 where the bundle was taken or brought nothing new, else 1.
+pub fn status_of(verdict: Verdict) -> u8
+    ensures { result ≡ status_of verdict }
+{
+    match verdict {
+        Verdict::Taken(_) => 0,
+        Verdict::NothingNew => 0,
+        Verdict::Malformed(_) => 1,
+        Verdict::Refused(_) => 1,
+    }
+}
