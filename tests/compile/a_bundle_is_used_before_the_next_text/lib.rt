@@ -1,0 +1,28 @@
+//! A bundle that was read in the arena is used before the next text is taken, which resets the arena.
+#![tactic(auto)]
+
+use bumpalo::Bump;
+use dm_bundle::read_bundle;
+use dm_repo::Repo;
+use dm_scratch::take;
+use std::alloc::Global;
+
+/// How many patches the first text's bundle has, asked before the second text is taken.
+pub fn count(repo: &mut Repo<Global>, arena: &mut Bump, first: &[u8], second: &[u8]) -> usize {
+    let count = match read_bundle(&*arena, first) {
+        Ok(bundle) => bundle.new_patches().len(),
+        Err(_) => 0,
+    };
+    let _ = take(repo, arena, second);
+    count
+}
+
+#[cfg(test)]
+mod tests {
+    use std::test::Fail;
+
+    #[test]
+    fn compiles(_rt: HostRuntime) -> Result<(), Fail> {
+        Ok(())
+    }
+}
