@@ -1,10 +1,10 @@
 //! What is refused, and where.
 
 use super::*;
-use bumpalo::Bump;
 
-/// Patches, and the word and the place of the fault of each.
-fn patches<A: Allocator + Copy>(rt: &impl Abort, alloc: A) -> Result<(), Fail> {
+#[test]
+fn refuses_texts(rt: HostRuntime) -> Result<(), Fail> {
+    let alloc = rt.alloc();
     for (what, patch, word, place) in [
         ("no bracket", "x", "bad-info", 14),
         ("an empty text", "", "bad-info", 14),
@@ -190,7 +190,7 @@ fn patches<A: Allocator + Copy>(rt: &impl Abort, alloc: A) -> Result<(), Fail> {
         ),
     ] {
         let text = format!(in alloc; "New patches:\n\n{patch}")?;
-        refuses(rt, alloc, what, text.as_bytes(), word, place)?;
+        refuses(&rt, alloc, what, text.as_bytes(), word, place)?;
     }
     let fault = read_named(alloc, b"x", 99).err().ok_or("a fault")?;
     assert_eq!(rt; fault.kind, FaultKind::BadInfo, "a place past the end");
@@ -198,8 +198,9 @@ fn patches<A: Allocator + Copy>(rt: &impl Abort, alloc: A) -> Result<(), Fail> {
     Ok(())
 }
 
-/// Texts that are no paths.
-fn paths<A: Allocator + Copy>(rt: &impl Abort, alloc: A) -> Result<(), Fail> {
+#[test]
+fn refuses_paths(rt: HostRuntime) -> Result<(), Fail> {
+    let alloc = rt.alloc();
     let mut long = String::new(alloc);
     for _ in 0..256 {
         long.push('x')?;
@@ -216,7 +217,6 @@ fn paths<A: Allocator + Copy>(rt: &impl Abort, alloc: A) -> Result<(), Fail> {
         ("the directory of the store", "./_darcs/x"),
         ("the code 0", "./\\0\\x"),
         ("the code 128", "./\\128\\x"),
-        ("a byte 0", "./a\0"),
         ("a code that does not end", "./\\32"),
         ("a code of one digit that does not end", "./a\\3"),
         ("a code of no digits", "./\\\\"),
@@ -234,21 +234,9 @@ fn paths<A: Allocator + Copy>(rt: &impl Abort, alloc: A) -> Result<(), Fail> {
         let text = format!(in alloc;
             "New patches:\n\n[a\np**20240101000000] addfile {path}\n\nContext:\n\n"
         )?;
-        refuses(rt, alloc, what, text.as_bytes(), "bad-path", 44)?;
+        refuses(&rt, alloc, what, text.as_bytes(), "bad-path", 44)?;
     }
     Ok(())
-}
-
-#[test]
-fn refuses_texts(rt: HostRuntime) -> Result<(), Fail> {
-    patches(&rt, rt.alloc())?;
-    patches(&rt, &Bump::new(rt.alloc()))
-}
-
-#[test]
-fn refuses_paths(rt: HostRuntime) -> Result<(), Fail> {
-    paths(&rt, rt.alloc())?;
-    paths(&rt, &Bump::new(rt.alloc()))
 }
 
 #[test]

@@ -4,8 +4,10 @@ use super::*;
 use bumpalo::Bump;
 use dm_tree::Path;
 
-/// Texts, the places behind their patches, and the canonical texts of these.
-fn patches<A: Allocator + Copy>(rt: &impl Abort, alloc: A) -> Result<(), Fail> {
+#[test]
+fn reads_and_writes(rt: HostRuntime) -> Result<(), Fail> {
+    let alloc = rt.alloc();
+    let bump = Bump::new(alloc);
     for (what, text, place, written) in [
         (
             "a hunk alone",
@@ -122,13 +124,15 @@ fn patches<A: Allocator + Copy>(rt: &impl Abort, alloc: A) -> Result<(), Fail> {
             "[a\np**20240101000000] adddir ./d\n",
         ),
     ] {
-        reads(rt, alloc, what, text.as_bytes(), place, written.as_bytes())?;
+        reads(&rt, alloc, what, text.as_bytes(), place, written.as_bytes())?;
+        reads(&rt, &bump, what, text.as_bytes(), place, written.as_bytes())?;
     }
     Ok(())
 }
 
-/// Paths, and their canonical texts.
-fn escapes<A: Allocator + Copy>(rt: &impl Abort, alloc: A) -> Result<(), Fail> {
+#[test]
+fn reads_escapes(rt: HostRuntime) -> Result<(), Fail> {
+    let alloc = rt.alloc();
     for (what, path, written) in [
         ("a space", "./a\\32\\b", "./a\\32\\b"),
         (
@@ -155,7 +159,7 @@ fn escapes<A: Allocator + Copy>(rt: &impl Abort, alloc: A) -> Result<(), Fail> {
         let text = format!(in alloc; "[a\np**d] addfile {path}\n")?;
         let canon = format!(in alloc; "[a\np**d] addfile {written}\n")?;
         let place = text.len().saturating_sub(1);
-        reads(rt, alloc, what, text.as_bytes(), place, canon.as_bytes())?;
+        reads(&rt, alloc, what, text.as_bytes(), place, canon.as_bytes())?;
     }
     let mut long = Vec::from_slice(alloc, b"[a\np**d] addfile ./")?;
     for _ in 0..255 {
@@ -163,12 +167,13 @@ fn escapes<A: Allocator + Copy>(rt: &impl Abort, alloc: A) -> Result<(), Fail> {
     }
     let mut written = Vec::from_slice(alloc, &long)?;
     written.push(b'\n')?;
-    reads(rt, alloc, "a name of 255 bytes", &long, 274, &written)?;
+    reads(&rt, alloc, "a name of 255 bytes", &long, 274, &written)?;
     Ok(())
 }
 
-/// Names, and the canonical text of the path of each.
-fn names<A: Allocator + Copy>(rt: &impl Abort, alloc: A) -> Result<(), Fail> {
+#[test]
+fn writes_paths(rt: HostRuntime) -> Result<(), Fail> {
+    let alloc = rt.alloc();
     for (what, name, written) in [
         ("a space", b"a b".as_slice(), b">./a\\32\\b".as_slice()),
         (
@@ -188,22 +193,4 @@ fn names<A: Allocator + Copy>(rt: &impl Abort, alloc: A) -> Result<(), Fail> {
         assert_eq!(rt; out.as_slice(), written, "{what}");
     }
     Ok(())
-}
-
-#[test]
-fn reads_and_writes(rt: HostRuntime) -> Result<(), Fail> {
-    patches(&rt, rt.alloc())?;
-    patches(&rt, &Bump::new(rt.alloc()))
-}
-
-#[test]
-fn reads_escapes(rt: HostRuntime) -> Result<(), Fail> {
-    escapes(&rt, rt.alloc())?;
-    escapes(&rt, &Bump::new(rt.alloc()))
-}
-
-#[test]
-fn writes_paths(rt: HostRuntime) -> Result<(), Fail> {
-    names(&rt, rt.alloc())?;
-    names(&rt, &Bump::new(rt.alloc()))
 }

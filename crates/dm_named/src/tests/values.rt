@@ -3,8 +3,9 @@
 use super::*;
 use bumpalo::Bump;
 
-/// Two patches, and those that they commute to: the second, then the first.
-fn pairs<A: Allocator + Copy>(rt: &impl Abort, alloc: A) -> Result<(), Fail> {
+#[test]
+fn commutes(rt: HostRuntime) -> Result<(), Fail> {
+    let alloc = rt.alloc();
     for (what, first, second, answer) in [
         (
             "two directories",
@@ -62,42 +63,27 @@ fn pairs<A: Allocator + Copy>(rt: &impl Abort, alloc: A) -> Result<(), Fail> {
     Ok(())
 }
 
-/// A copy in another allocator, whose primitives are then replaced.
-fn copies<A: Allocator + Copy, B: Allocator + Copy>(
-    rt: &impl Abort,
-    from: A,
-    into: B,
-) -> Result<(), Fail> {
+#[test]
+fn copies_and_replaces(rt: HostRuntime) -> Result<(), Fail> {
+    let alloc = rt.alloc();
     let text =
         "[a\np**d\n log\n] <\n[b\np**d] \n[c\np**d] \n> {\nadddir ./d\nhunk ./f 2\n-x\n+y\n}\n";
-    let patch = read(from, text)?;
-    let mut copy = patch.copy_into(into)?;
+    let patch = read(alloc, text)?;
+    let bump = Bump::new(alloc);
+    let mut copy = patch.copy_into(&bump)?;
     assert_eq!(rt;
-        canonical(from, &copy)?.as_slice(),
+        canonical(alloc, &copy)?.as_slice(),
         text.as_bytes(),
         "a copy"
     );
     assert!(rt;
-        copy.names(read(from, "[b\np**d]")?.info()),
+        copy.names(read(alloc, "[b\np**d]")?.info()),
         "a dependency is named"
     );
     assert!(rt; !copy.names(patch.info()), "its own information is not");
-    let taken = copy.replace_prims(Vec::new(into));
+    let taken = copy.replace_prims(Vec::new(&bump));
     assert_eq!(rt; taken.len(), 2, "the primitives that were taken out");
     assert_eq!(rt; copy.prims().len(), 0, "the primitives in their place");
     assert_eq!(rt; copy.deps().len(), 2, "the dependencies stay");
     Ok(())
-}
-
-#[test]
-fn commutes(rt: HostRuntime) -> Result<(), Fail> {
-    pairs(&rt, rt.alloc())?;
-    pairs(&rt, &Bump::new(rt.alloc()))
-}
-
-#[test]
-fn copies_and_replaces(rt: HostRuntime) -> Result<(), Fail> {
-    let bump = Bump::new(rt.alloc());
-    copies(&rt, rt.alloc(), &bump)?;
-    copies(&rt, &bump, rt.alloc())
 }
