@@ -91,7 +91,7 @@ pub(crate) fn common_marks<A: Allocator, B: Allocator + Copy>(
 {
     repo.lawful();
     let mut common = closed_marks(alloc, repo, bundle)?;
-    let mut held = Vec::new(alloc);
+    let mut held = Vec::with_capacity(alloc, bundle.new_patches().len())?;
     for patch in bundle.new_patches() {
         match repo.position(patch.info()) {
             None => held.push(false)?,

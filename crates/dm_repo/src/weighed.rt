@@ -143,7 +143,7 @@ fn without_places<A: Allocator + Copy>(
 ) -> Result<Vec<Named<A>, A>, AllocError>
     ensures { IfOk result (λ list. list.items ≡ patches placed.items) }
 {
-    let mut list = Vec::new(alloc);
+    let mut list = Vec::with_capacity(alloc, placed.len())?;
     for (_, patch) in placed {
         list.push(patch)?;
     }

@@ -6,7 +6,7 @@ use Rattle.dm_repo.proofs.marks.common_marks.Goals as goal
 use Rattle.dm_repo.proofs.marks.common_marks.Goals.{in-None+in_ok-push-in-None, in-Some+in_ok-push-in-Some}
 
 pub loop-patch-init : goal.loop-patch-init
-loop-patch-init g c = up_to_none c.args.repo.now.patches c.args.bundle.now.context c.in_ok-common.ensures.1 c.new-held.ensures.items
+loop-patch-init g c = up_to_none c.args.repo.now.patches c.args.bundle.now.context c.in_ok-common.ensures.1 c.in_ok-held.ensures.items
 
 pub index_mut-requires : goal.index_mut-requires
 index_mut-requires g c =
