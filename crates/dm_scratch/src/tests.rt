@@ -86,7 +86,11 @@ fn texts_taken_in_turn(rt: HostRuntime) -> Result<(), Fail> {
     let alloc = rt.alloc();
     let mut arena = Bump::new(alloc);
     let mut repo = Repo::new(alloc);
-    assert_eq!(rt; take(&mut repo, &mut arena, TWO), Verdict::Taken(2), "both patches");
+    assert_eq!(rt;
+        take(&mut repo, &mut arena, TWO),
+        Verdict::Taken(2),
+        "both patches"
+    );
     assert_eq!(rt;
         take(&mut repo, &mut arena, CONFLICTS),
         Verdict::Refused(Refusal::Conflicts(0, 1)),
@@ -100,14 +104,25 @@ fn texts_taken_in_turn(rt: HostRuntime) -> Result<(), Fail> {
         }),
         "an empty text"
     );
-    assert_eq!(rt; take(&mut repo, &mut arena, COMMUTES), Verdict::Taken(1), "a patch that commutes");
-    assert_eq!(rt; take(&mut repo, &mut arena, COMMUTES), Verdict::NothingNew, "the same again");
+    assert_eq!(rt;
+        take(&mut repo, &mut arena, COMMUTES),
+        Verdict::Taken(1),
+        "a patch that commutes"
+    );
+    assert_eq!(rt;
+        take(&mut repo, &mut arena, COMMUTES),
+        Verdict::NothingNew,
+        "the same again"
+    );
     let held = write_bundle(alloc, &repo.to_bundle(alloc)?)?;
     assert!(rt; held.as_slice() == HELD, "the patches that are held");
     let listing = repo.tree_copy(alloc)?.listing(alloc)?;
     assert_eq!(rt; listing.len(), 1, "one entry");
     for entry in &listing {
-        assert!(rt; matches!(entry.kind, dm_tree::Kind::File(15)), "a file of 15 bytes");
+        assert!(rt;
+            matches!(entry.kind, dm_tree::Kind::File(15)),
+            "a file of 15 bytes"
+        );
     }
     Ok(())
 }
@@ -118,10 +133,19 @@ fn each_text_has_its_verdict(rt: HostRuntime) -> Result<(), Fail> {
     let mut arena = Bump::new(alloc);
     let mut repo = Repo::new(alloc);
     let mut verdicts = [Verdict::NothingNew; 3];
-    take_each(&mut repo, &mut arena, &[COMMUTES, TWO, COMMUTES], &mut verdicts);
+    take_each(
+        &mut repo,
+        &mut arena,
+        &[COMMUTES, TWO, COMMUTES],
+        &mut verdicts,
+    );
     assert_eq!(rt;
         verdicts,
-        [Verdict::Refused(Refusal::MissingContext(0)), Verdict::Taken(2), Verdict::Taken(1)],
+        [
+            Verdict::Refused(Refusal::MissingContext(0)),
+            Verdict::Taken(2),
+            Verdict::Taken(1)
+        ],
         "too early, then in time"
     );
     Ok(())
@@ -132,8 +156,17 @@ fn a_verdict_is_printed(rt: HostRuntime) -> Result<(), Fail> {
     for (verdict, text) in [
         (Verdict::Taken(12), "taken 12"),
         (Verdict::NothingNew, "nothing new"),
-        (Verdict::Malformed(ReadFault { kind: FaultKind::BadPath, at: 44 }), "malformed bad-path 44"),
-        (Verdict::Refused(Refusal::MissingDependency(3, 0)), "refused missing-dependency 3 0"),
+        (
+            Verdict::Malformed(ReadFault {
+                kind: FaultKind::BadPath,
+                at: 44,
+            }),
+            "malformed bad-path 44",
+        ),
+        (
+            Verdict::Refused(Refusal::MissingDependency(3, 0)),
+            "refused missing-dependency 3 0",
+        ),
         (Verdict::Refused(Refusal::NoMemory), "refused no-memory"),
     ] {
         let found = format!(in rt.alloc(); "{verdict}")?;

@@ -17,11 +17,7 @@ use std::alloc::Global;
 use std::io::{Read, Write};
 
 /// The repository that a base's text makes, or an empty one.
-fn repo_of(
-    alloc: Global,
-    arena: &mut Bump,
-    base: Option<&[u8]>,
-) -> Result<Repo<Global>, ToolFault>
+fn repo_of(alloc: Global, arena: &mut Bump, base: Option<&[u8]>) -> Result<Repo<Global>, ToolFault>
     ensures ok { IfOk result (λ repo. MatchOption base.entry (repo.patches ≡ []) (λ text. IsBase text.now repo.patches)) }
     ensures err { IfErr result (λ e. MatchOption base.entry ⊥ (λ text. RefusesBase text.now e)) }
 {
