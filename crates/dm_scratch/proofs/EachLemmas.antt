@@ -1,5 +1,5 @@
 -- Texts that are taken in turn, and one more.
-use Rattle.std.proofs.Common.{◌≡◌, ◌+◌, ◌<◌, ℕ, List, [], ◌∷◌, ◌++◌, length, map, take, slice_index_or, slice_set, refl}
+use Rattle.std.proofs.Common.{◌+◌, ◌<◌, ℕ, List, [], ◌∷◌, ◌++◌, length, map, take, slice_index_or, slice_set, refl}
 use Rattle.std.proofs.lemmas.List.{map_more, take_more_set}
 use Rattle.dm_named.specs.Patches.{Patch}
 use Rattle.dm_scratch.specs.declared.verdict.Verdict.{Verdict}

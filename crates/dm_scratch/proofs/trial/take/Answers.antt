@@ -1,5 +1,4 @@
 use Rattle.std.proofs.Common.{refl}
-use Rattle.dm_scratch.specs.declared.verdict.Verdict.TheVariants.{Refused}
 use Rattle.dm_scratch.specs.Taking.{bundle}
 use Rattle.dm_scratch.proofs.ReadLemmas.{no_err, reads, unread_takes}
 use Rattle.dm_scratch.proofs.trial.take.Goals as goal
