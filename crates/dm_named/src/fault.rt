@@ -66,6 +66,10 @@ impl FaultKind {
 }
 
 impl Display for FaultKind {
+    ghost use Rattle.std.specs.Prelude.{Some};
+
+    ghost output = { λ kind. Some (fault_word kind) };
+
     fn fmt<W: Write>(&self, f: &mut Formatter<W>) -> Result<(), Error> {
         f.write_str(self.word())
     }

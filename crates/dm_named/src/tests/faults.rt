@@ -153,12 +153,6 @@ fn refuses_texts(rt: HostRuntime) -> Result<(), Fail> {
             45,
         ),
         (
-            "a line in the place of a number",
-            "[a\np**20240101000000] hunk ./a\n+x\n",
-            "bad-number",
-            45,
-        ),
-        (
             "no lines in a hunk",
             "[a\np**20240101000000] hunk ./a 1\n\nContext:\n\n",
             "empty-hunk",
@@ -173,12 +167,6 @@ fn refuses_texts(rt: HostRuntime) -> Result<(), Fail> {
         (
             "the end behind a move's first path",
             "[a\np**20240101000000] move ./a \n",
-            "bad-path",
-            46,
-        ),
-        (
-            "a move's second path that is none",
-            "[a\np**20240101000000] move ./a  b\n",
             "bad-path",
             46,
         ),

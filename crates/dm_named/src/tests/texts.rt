@@ -1,13 +1,11 @@
 //! What is read and written.
 
 use super::*;
-use bumpalo::Bump;
 use dm_tree::Path;
 
 #[test]
 fn reads_and_writes(rt: HostRuntime) -> Result<(), Fail> {
     let alloc = rt.alloc();
-    let bump = Bump::new(alloc);
     for (what, text, place, written) in [
         (
             "a hunk alone",
@@ -105,27 +103,8 @@ fn reads_and_writes(rt: HostRuntime) -> Result<(), Fail> {
             35,
             "[a\np**20240101000000] move ./a ./b{\n",
         ),
-        (
-            "a brace where a run goes on",
-            "[a\np**20240101000000] adddir ./d\n{ }",
-            32,
-            "[a\np**20240101000000] adddir ./d\n",
-        ),
-        (
-            "a word that goes on where a primitive's ends",
-            "[a\np**20240101000000] adddir ./d\nrmdirs ./d",
-            32,
-            "[a\np**20240101000000] adddir ./d\n",
-        ),
-        (
-            "the word of the context behind a run",
-            "[a\np**20240101000000] adddir ./d\n\nContext:\n",
-            32,
-            "[a\np**20240101000000] adddir ./d\n",
-        ),
     ] {
         reads(&rt, alloc, what, text.as_bytes(), place, written.as_bytes())?;
-        reads(&rt, &bump, what, text.as_bytes(), place, written.as_bytes())?;
     }
     Ok(())
 }
@@ -174,23 +153,28 @@ fn reads_escapes(rt: HostRuntime) -> Result<(), Fail> {
 #[test]
 fn writes_paths(rt: HostRuntime) -> Result<(), Fail> {
     let alloc = rt.alloc();
-    for (what, name, written) in [
-        ("a space", b"a b".as_slice(), b">./a\\32\\b".as_slice()),
+    for (what, names, written) in [
+        (
+            "a space",
+            [b"a b".as_slice(), b"c".as_slice()],
+            b"./a\\32\\b/c".as_slice(),
+        ),
         (
             "white space and a backslash",
-            b"\t\n\x0b\x0c\r\\".as_slice(),
-            b">./\\9\\\\10\\\\11\\\\12\\\\13\\\\92\\".as_slice(),
+            [b"\t\n\x0b\x0c\r".as_slice(), b"\\".as_slice()],
+            b"./\\9\\\\10\\\\11\\\\12\\\\13\\/\\92\\".as_slice(),
         ),
         (
             "other bytes",
-            b"\x01\x7f\xc3\xa9.".as_slice(),
-            b">./\x01\x7f\xc3\xa9.".as_slice(),
+            [b"\x01\x7f".as_slice(), b"\xc3\xa9.".as_slice()],
+            b"./\x01\x7f/\xc3\xa9.".as_slice(),
         ),
     ] {
-        let path = Path::from_parts(alloc, &[name])?;
+        let path = Path::from_parts(alloc, &names)?;
         let mut out = Vec::from_slice(alloc, b">")?;
         write_path(&path, &mut out)?;
-        assert_eq!(rt; out.as_slice(), written, "{what}");
+        let end = out.get(1..).ok_or("a path")?;
+        assert_eq!(rt; end, written, "{what}");
     }
     Ok(())
 }

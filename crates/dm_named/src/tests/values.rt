@@ -1,7 +1,6 @@
 //! Named patches commuted, copied and changed.
 
 use super::*;
-use bumpalo::Bump;
 
 #[test]
 fn commutes(rt: HostRuntime) -> Result<(), Fail> {
@@ -69,8 +68,7 @@ fn copies_and_replaces(rt: HostRuntime) -> Result<(), Fail> {
     let text =
         "[a\np**d\n log\n] <\n[b\np**d] \n[c\np**d] \n> {\nadddir ./d\nhunk ./f 2\n-x\n+y\n}\n";
     let patch = read(alloc, text)?;
-    let bump = Bump::new(alloc);
-    let mut copy = patch.copy_into(&bump)?;
+    let mut copy = patch.copy_into(alloc)?;
     assert_eq!(rt;
         canonical(alloc, &copy)?.as_slice(),
         text.as_bytes(),
@@ -81,7 +79,7 @@ fn copies_and_replaces(rt: HostRuntime) -> Result<(), Fail> {
         "a dependency is named"
     );
     assert!(rt; !copy.names(patch.info()), "its own information is not");
-    let taken = copy.replace_prims(Vec::new(&bump));
+    let taken = copy.replace_prims(Vec::new(alloc));
     assert_eq!(rt; taken.len(), 2, "the primitives that were taken out");
     assert_eq!(rt; copy.prims().len(), 0, "the primitives in their place");
     assert_eq!(rt; copy.deps().len(), 2, "the dependencies stay");
