@@ -3,20 +3,21 @@
 ghost use Rattle.dm_repo.specs.Laws.{FoldIsOne, SplitFolds, SplitIsOne, SplitStopsOnce};
 ghost use Rattle.dm_repo.specs.Laws.{MergeApplies, MergeIsOne, MergeStopsOnce, MergeIsRepo};
 
-/// A list of patches makes one tree.
+/// A list of patches makes at most one tree.
 pub fn fold()
     ensures one { FoldIsOne }
 {}
 
-/// The front then the rest make the repository's tree; a repository is split in one way, or stopped by one pair.
+/// The front then the rest make the repository's tree; a repository is split in at most one way, and a pair that stops the split
+/// is the only one, and excludes it.
 pub fn split()
     ensures folds { SplitFolds }
     ensures one { SplitIsOne }
     ensures stops_once { SplitStopsOnce }
 {}
 
-/// What fits and is merged applies after the repository, and leaves a repository; two lists are merged in one way, or stopped
-/// by one pair.
+/// What fits and is merged applies after the repository, and leaves a repository; two lists are merged in at most one way, and a
+/// pair that stops the merge is the only one, and excludes it.
 pub fn merge()
     ensures applies { MergeApplies }
     ensures one { MergeIsOne }
