@@ -1,6 +1,7 @@
 //! Worked examples of named patches.
 
 mod faults;
+mod rows;
 mod texts;
 mod values;
 
