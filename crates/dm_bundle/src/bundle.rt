@@ -65,6 +65,14 @@ impl<A: Allocator> Bundle<A> {
         self.patches.as_slice()
     }
 
+    /// The new patches themselves, oldest first; the context is given up.
+    pub fn into_new_patches(self) -> Vec<Named<A>, A>
+        ensures { result.items ≡ self.patches }
+    {
+        let Bundle { patches, .. } = self;
+        patches
+    }
+
     /// The informations of the context.
     pub fn context(&self) -> &[Info<A>]
         ensures { result.now ≡ self.now.context }

@@ -16,3 +16,4 @@ pub mod DependencyLemmas
 pub mod Making
 pub mod Firsts
 pub mod FoldLemmas
+pub mod Following

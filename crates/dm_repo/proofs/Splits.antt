@@ -1,6 +1,6 @@
 -- One more patch of a list that is split by marks.
-use Rattle.std.proofs.Common.{◌≡◌, ℕ, zero, suc, ◌+◌, ◌<◌, List, [], ◌∷◌, ◌++◌, length, take, drop, get_or, slice_get, Some, Bool, true, false, refl, sym, ap, ◌∙◌, arith, add-zero}
-use Rattle.std.proofs.lemmas.List.{take_more, length-take-le, take-append-le, take_all}
+use Rattle.std.proofs.Common.{◌≡◌, ℕ, zero, suc, ◌+◌, ◌<◌, List, [], ◌∷◌, ◌++◌, length, take, get_or, slice_get, Some, Bool, true, false, refl, sym, ap, ◌∙◌, arith, add-zero, append_assoc, length-append}
+use Rattle.std.proofs.lemmas.List.{take-append-le, take_all}
 use Rattle.dm_named.specs.Patches.{Patch}
 use Rattle.dm_repo.specs.Staircases.{Passes, Split, PassStops, SplitStops}
 use Rattle.dm_repo.specs.Squares.{Placed, placed, placed_from, PlacedCommutes}
@@ -8,7 +8,6 @@ use Rattle.dm_repo.specs.Rows.{AtPlaces, StopsAt, BlockedBy, blocked_at, IsMarke
 use Rattle.dm_repo.specs.declared.stop.Stop.{Stop}
 use Rattle.dm_repo.specs.declared.stop.Stop.TheVariants.{At, NoMemory}
 use Rattle.dm_repo.proofs.Staircases.{split_in, split_out}
-use Rattle.dm_repo.proofs.Rows.{around}
 
 -- what a slice of a whole vector was changed to is all that the vector holds
 pub whole : {X : Type 0} (xs ys : List X) (n : ℕ) → n ≡ length xs → take n (xs ++ ys) ≡ xs
@@ -20,18 +19,9 @@ placed_from-append n (x ∷ xs) ys =
     let e : (n + 1) + length xs ≡ n + length (x ∷ xs) = omega arith in
     ap (λ l. (n, x) ∷ l) (placed_from-append (n + 1) xs ys ∙ ap (λ k. placed_from (n + 1) xs ++ placed_from k ys) e)
 
--- the places of a list up to a place, and from it on
-placed_take : (xs ys : List Patch) (k : ℕ) → k < length xs → placed (take k xs ++ ys) ≡ placed (take k xs) ++ placed_from k ys
-placed_take xs ys k l =
-    let n : length (take k xs) ≡ k = length-take-le k xs (omega (arith, l)) in
-    let e : 0 + length (take k xs) ≡ k = omega (arith, n) in
-    placed_from-append 0 (take k xs) ys ∙ ap (λ n. placed (take k xs) ++ placed_from n ys) e
-
-pub placed_more : (xs : List Patch) (k : ℕ) (x : Patch) → k < length xs → x ≡ get_or xs k x → placed (take (k + 1) xs) ≡ placed (take k xs) ++ (k, x) ∷ []
-placed_more xs k x l e = ap placed (take_more xs k x l ∙ ap (λ z. take k xs ++ z ∷ []) (sym e)) ∙ placed_take xs (x ∷ []) k l
-
-pub placed_around : (xs : List Patch) (k : ℕ) (x : Patch) → k < length xs → x ≡ get_or xs k x → placed xs ≡ placed (take k xs) ++ (k, x) ∷ placed_from (k + 1) (drop (k + 1) xs)
-placed_around xs k x l e = ap placed (around xs k x l e) ∙ placed_take xs (x ∷ drop (k + 1) xs) k l
+length-placed_from : (n : ℕ) (xs : List Patch) → length (placed_from n xs) ≡ length xs
+length-placed_from n [] = refl
+length-placed_from n (x ∷ xs) = ap suc (length-placed_from (n + 1) xs)
 
 -- a mark that was read
 pub mark_at : (marks : List Bool) (k : ℕ) (b d : Bool) → k < length marks → get_or marks k d ≡ b → slice_get marks k ≡ Some b
@@ -44,26 +34,38 @@ pub blocks_at : (x : Placed) (Q : Placed → Type 0) (S : Placed → Placed → 
 blocks_at x Q S (At k) f (r, e, q) = (x, r, refl, e, f r q)
 blocks_at x Q S NoMemory f s = tt
 
-module _ (marks : List Bool) (xs : List Patch) (k : ℕ) (x copy : Patch) {front rest : List Placed} (l : k < length xs) (m : length marks ≡ length xs) (e : x ≡ get_or xs k x) (c : copy ≡ x)
-    (so_far : Split PlacedCommutes (IsMarked marks) (placed (take k xs)) front rest) (d : Bool) where
-  pub split_more_in : {h : Placed} {front' rest' : List Placed} → get_or marks k d ≡ true → Passes PlacedCommutes rest (k, copy) h rest' → front' ≡ front ++ h ∷ [] →
-      Split PlacedCommutes (IsMarked marks) (placed (take (k + 1) xs)) front' rest'
-  split_more_in marked p f = rw (f, placed_more xs k x l e) (split_in Placed PlacedCommutes (IsMarked marks) so_far (mark_at marks k true d (rw m l) marked) (rw c at p))
+-- of the patches xs those before the place k were taken, and x is the next
+module _ (xs : List Patch) (taken : List Placed) (k : ℕ) (x : Patch) (left : List Patch) (whole : placed xs ≡ taken ++ placed_from k (x ∷ left)) where
+  pub one_taken : placed xs ≡ (taken ++ (k, x) ∷ []) ++ placed_from (k + 1) left
+  one_taken = whole ∙ sym (append_assoc taken ((k, x) ∷ []) (placed_from (k + 1) left))
 
-  pub split_more_out : {rest' : List Placed} → get_or marks k d ≡ false → rest' ≡ rest ++ (k, copy) ∷ [] → Split PlacedCommutes (IsMarked marks) (placed (take (k + 1) xs)) front rest'
-  split_more_out marked r = rw (r, c, placed_more xs k x l e) (split_out Placed PlacedCommutes (IsMarked marks) so_far (λ h. not_both (mark_at marks k false d (rw m l) marked) h))
-    where
-      not_both : slice_get marks k ≡ Some false → slice_get marks k ≡ Some true → ⊥
-      not_both f t = let b : false ≡ true = cc in absurd (cc)
+  pub one_counted : length taken ≡ k → length (taken ++ (k, x) ∷ []) ≡ k + 1
+  one_counted e = omega (arith, e, length-append taken ((k, x) ∷ []))
 
-  pub split_stop : {r : Placed} → get_or marks k d ≡ true → PassStops PlacedCommutes rest (k, copy) r → SplitStops PlacedCommutes (IsMarked marks) (placed xs) (k, x) r
-  split_stop marked s = record {
-    before = placed (take k xs);
-    after = placed_from (k + 1) (drop (k + 1) xs);
-    front = front;
-    rest = rest;
-    at = placed_around xs k x l e;
-    so_far = so_far;
-    in_set = mark_at marks k true d (rw m l) marked;
-    stops = rw c at s;
-  }
+  pub is_below : length taken ≡ k → k < length xs
+  is_below e =
+      let a : length xs ≡ length (taken ++ placed_from k (x ∷ left)) = sym (length-placed_from 0 xs) ∙ ap length whole in
+      omega (arith, a, e, length-append taken (placed_from k (x ∷ left)))
+
+  module _ (marks : List Bool) {front rest : List Placed} (m : length marks ≡ length xs) (e : length taken ≡ k) (so_far : Split PlacedCommutes (IsMarked marks) taken front rest) (d : Bool) where
+    pub split_more_in : {h : Placed} {front' rest' : List Placed} → get_or marks k d ≡ true → Passes PlacedCommutes rest (k, x) h rest' → front' ≡ front ++ h ∷ [] →
+        Split PlacedCommutes (IsMarked marks) (taken ++ (k, x) ∷ []) front' rest'
+    split_more_in marked p f = rw f (split_in Placed PlacedCommutes (IsMarked marks) so_far (mark_at marks k true d (rw m (is_below e)) marked) p)
+
+    pub split_more_out : {rest' : List Placed} → get_or marks k d ≡ false → rest' ≡ rest ++ (k, x) ∷ [] → Split PlacedCommutes (IsMarked marks) (taken ++ (k, x) ∷ []) front rest'
+    split_more_out marked r = rw r (split_out Placed PlacedCommutes (IsMarked marks) so_far (λ h. not_both (mark_at marks k false d (rw m (is_below e)) marked) h))
+      where
+        not_both : slice_get marks k ≡ Some false → slice_get marks k ≡ Some true → ⊥
+        not_both f t = let b : false ≡ true = cc in absurd (cc)
+
+    pub split_stop : {r : Placed} → get_or marks k d ≡ true → PassStops PlacedCommutes rest (k, x) r → SplitStops PlacedCommutes (IsMarked marks) (placed xs) (k, x) r
+    split_stop marked s = record {
+      before = taken;
+      after = placed_from (k + 1) left;
+      front = front;
+      rest = rest;
+      at = whole;
+      so_far = so_far;
+      in_set = mark_at marks k true d (rw m (is_below e)) marked;
+      stops = s;
+    }

@@ -1,6 +1,6 @@
 -- From marks, stops and blocks to what weighing answers.
 use Rattle.std.proofs.Common.{◌≡◌, ◌↔◌, ℕ, zero, suc, ◌+◌, ◌<◌, Bool, true, false, List, [], ◌∷◌, ◌++◌, length, map, get_or, slice_get, Some, Result, Ok, Err, MatchResult, ◌⊎◌, inl, inr, refl, sym, ap, ap₂, subst, ◌∙◌, arith, add-zero}
-use Rattle.std.specs.List.{All}
+use Rattle.std.specs.List.{All, Contains}
 use Rattle.dm_info.specs.Parts.{Parts}
 use Rattle.dm_named.specs.Patches.{Patch}
 use Rattle.dm_bundle.specs.Patches.{infos_of}
@@ -106,11 +106,11 @@ pub blocked_map : {S S' : Placed → Placed → Type 0} (blocked : Blocked) → 
 blocked_map (blocks.By j k) f (x, y, e, g, s) = (x, y, e, g, f x y s)
 blocked_map blocks.NoMemory f s = tt
 
--- all marks are set exactly where all is held
-pub all_held : (repo new : List Patch) (held : List Bool) → Marks held (infos_of new) (Holds repo) → All (λ mark. mark ≡ true) held → HoldsAll repo (infos_of new)
-all_held repo new held m a i (k, l, e) =
-    let n : k < length held = omega (arith, l, m.length_is) in
-    (m.at k i (at_place (infos_of new) k i l (sym e))).0 (mark_at held k true false n (a k false n))
+-- where all marks are set, Q holds of all
+pub all_marked : (infos : List Parts) (Q : Parts → Type 0) (marks : List Bool) → Marks marks infos Q → All (λ mark. mark ≡ true) marks → (i : Parts) → Contains infos i → Q i
+all_marked infos Q marks m a i (k, l, e) =
+    let n : k < length marks = omega (arith, l, m.length_is) in
+    (m.at k i (at_place infos k i l (sym e))).0 (mark_at marks k true false n (a k false n))
 
 pub not_all_held : (repo new : List Patch) (held : List Bool) → Marks held (infos_of new) (Holds repo) → HoldsAll repo (infos_of new) → All (λ mark. mark ≡ true) held
 not_all_held repo new held m h k d l =

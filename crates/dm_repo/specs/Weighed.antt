@@ -1,5 +1,5 @@
 -- What weighing answers, over what the code holds.
-use Rattle.std.specs.Prelude.{List, ◌++◌}
+use Rattle.std.specs.Prelude.{Bool, List, ◌++◌}
 use Rattle.dm_named.specs.Patches.{Patch}
 use Rattle.dm_bundle.specs.Bundles.{Contents}
 use Rattle.dm_repo.specs.declared.refusal.Refusal.{Refusal}
@@ -7,7 +7,13 @@ use Rattle.dm_repo.specs.declared.refusal.Refusal.TheVariants as refusals
 use Rattle.dm_repo.specs.declared.weighed.Weighed.{Weighed}
 use Rattle.dm_repo.specs.declared.weighed.Weighed.TheVariants.{NothingNew, Merged}
 use Rattle.dm_repo.specs.Repositories.{IsRepo, Makes}
-use Rattle.dm_repo.specs.Weighing.{IsNothingNew, IsMergeOf}
+use Rattle.dm_repo.specs.Marking.{AreMarked}
+use Rattle.dm_repo.specs.Weighing.{IsLinked, IsNothingNew, IsMergeOf}
+
+-- the bundle's names were looked up, and the marks say what was found
+pub record IsLookedUp (repo : List Patch) (b : Contents) (common held : List Bool) : Type 0 where
+  pub linked : IsLinked repo b
+  pub marked : AreMarked repo b common held
 
 -- nothing is new, or these are the merged patches and the tree after them
 abbrev pub Weighs : {Z : Type 0} → List Patch → Contents → Weighed Z → Type 0

@@ -26,7 +26,7 @@ mod weighed;
 pub use parted::{Parted, split};
 pub use refusal::Refusal;
 pub use repo::{Ready, Repo};
-pub use weighed::{Merged, Weighed, weigh};
+pub use weighed::{Merged, Weighed, weigh, weigh_owned};
 
 #[cfg(test)]
 mod tests;

@@ -1,17 +1,22 @@
 //! Splitting a list of patches: the marked ones go to the front, past the others.
-ghost use Rattle.std.specs.Prelude.{◌≡◌, ◌↔◌, ◌++◌, length, IfOk, IfErr, MatchResult};
+ghost use Rattle.std.specs.Prelude.{◌≡◌, ◌↔◌, ◌++◌, List, length, IfOk, IfErr, MatchResult};
 ghost use Rattle.dm_prim.specs.Primitives.{LawfulMap};
+ghost use Rattle.dm_named.specs.Patches.{Patch};
+ghost use Rattle.dm_bundle.specs.Patches.{infos_of};
+ghost use Rattle.dm_bundle.specs.Bundles.{Contents};
 ghost use Rattle.dm_repo.specs.Staircases.{Split, SplitStops};
 ghost use Rattle.dm_repo.specs.Squares.{patches, placed, PlacedCommutes};
 ghost use Rattle.dm_repo.specs.Folds.{Fold};
-ghost use Rattle.dm_repo.specs.Marking.{AreMarked};
+ghost use Rattle.dm_repo.specs.Repositories.{Holds};
+ghost use Rattle.dm_repo.specs.CommonSets.{Common};
+ghost use Rattle.dm_repo.specs.Marks.{Marks as MarksOf};
 ghost use Rattle.dm_repo.specs.Weighing.{IsCommon, IsHeld};
 ghost use Rattle.dm_repo.specs.Splitting.{Parts, RefusesToSplit};
 ghost use Rattle.dm_repo.specs.Rows.{AtPlaces, BlockedBy, IsMarked};
 
-use crate::marks::{Marks, common_marks};
+use crate::marks::common_marks;
 use crate::refusal::Refusal;
-use crate::repo::Repo;
+use crate::repo::{Repo, copy_patches};
 use crate::row::pass;
 use crate::stop::Blocked;
 use dm_bundle::Bundle;
@@ -27,61 +32,61 @@ pub struct Parted<A: Allocator> {
     pub rest: Vec<(usize, Named<A>), A>,
 }
 
-/// Copies of the patches, the marked ones in front.
-pub(crate) fn split_by<A: Allocator, B: Allocator + Copy>(
-    alloc: B,
-    patches: &[Named<A>],
+/// Splits the patches: the marked ones in front.
+fn split_by<A: Allocator + Copy>(
+    alloc: A,
+    patches: Vec<Named<A>, A>,
     marks: &[bool],
-) -> Result<Parted<B>, Blocked>
-    requires { length marks.now ≡ length patches.now }
+) -> Result<Parted<A>, Blocked>
+    requires { length marks.now ≡ length patches.items }
     ensures { MatchResult result
-        (λ parted. Split PlacedCommutes (IsMarked marks.now) (placed patches.now) parted.front.items parted.rest.items)
-        (λ blocked. BlockedBy blocked (AtPlaces (SplitStops PlacedCommutes (IsMarked marks.now) (placed patches.now)))) }
+        (λ parted. Split PlacedCommutes (IsMarked marks.now) (placed patches.items) parted.front.items parted.rest.items)
+        (λ blocked. BlockedBy blocked (AtPlaces (SplitStops PlacedCommutes (IsMarked marks.now) (placed patches.items)))) }
 {
     let mut front = Vec::new(alloc);
     let mut rest = Vec::new(alloc);
-    for k in 0..patches.len() {
-        let mut patch = (k, patches[k].copy_into(alloc)?);
-        if marks[k] {
-            match pass(alloc, rest.as_mut_slice(), &mut patch) {
-                Ok(()) => front.push(patch)?,
-                Err(stop) => return Err(stop.blocked(k)),
-            }
-        } else {
-            rest.push(patch)?;
+    for (k, patch) in patches.into_iter().enumerate() {
+        let mut placed = (k, patch);
+        if !marks[k] {
+            rest.push(placed)?;
+            continue;
         }
+        match pass(alloc, rest.as_mut_slice(), &mut placed) {
+            Ok(()) => {}
+            Err(stop) => return Err(stop.blocked(k)),
+        }
+        front.push(placed)?;
     }
     Ok(Parted { front, rest })
 }
 
-/// Splits the repository: the common patches in front.
+/// Splits the repository, whose patches are copied: the common ones in front.
 pub(crate) fn split_repo<A: Allocator, B: Allocator + Copy>(
     alloc: B,
     repo: &Repo<A>,
-    bundle: &Bundle<B>,
-    marks: &Marks<B>,
+    common: &[bool],
 ) -> Result<Parted<B>, Blocked>
-    requires { AreMarked repo.now.patches bundle.now marks.now.common.items marks.now.held.items }
-    ensures { MatchResult result
-        (λ p. Split PlacedCommutes (IsCommon repo.now.patches bundle.now) (placed repo.now.patches) p.front.items p.rest.items)
-        (λ b. BlockedBy b (AtPlaces (SplitStops PlacedCommutes (IsCommon repo.now.patches bundle.now) (placed repo.now.patches)))) }
+    requires { length common.now ≡ length repo.now.patches }
+    ensures { (b : Contents) → MarksOf common.now (infos_of repo.now.patches) (Common repo.now.patches b) → MatchResult result
+        (λ p. Split PlacedCommutes (IsCommon repo.now.patches b) (placed repo.now.patches) p.front.items p.rest.items)
+        (λ w. BlockedBy w (AtPlaces (SplitStops PlacedCommutes (IsCommon repo.now.patches b) (placed repo.now.patches)))) }
 {
-    split_by(alloc, repo.patches(), &marks.common)
+    let patches = copy_patches(alloc, repo.patches())?;
+    split_by(alloc, patches, common)
 }
 
-/// Splits a bundle: the new patches that are held in front.
-pub(crate) fn split_new<A: Allocator, B: Allocator + Copy>(
-    alloc: B,
-    repo: &Repo<A>,
-    bundle: &Bundle<B>,
-    marks: &Marks<B>,
-) -> Result<Parted<B>, Blocked>
-    requires { AreMarked repo.now.patches bundle.now marks.now.common.items marks.now.held.items }
-    ensures { MatchResult result
-        (λ p. Split PlacedCommutes (IsHeld repo.now.patches) (placed bundle.now.patches) p.front.items p.rest.items)
-        (λ b. BlockedBy b (AtPlaces (SplitStops PlacedCommutes (IsHeld repo.now.patches) (placed bundle.now.patches)))) }
+/// Splits the new patches of a bundle: those that are held in front.
+pub(crate) fn split_new<A: Allocator + Copy>(
+    alloc: A,
+    new: Vec<Named<A>, A>,
+    held: &[bool],
+) -> Result<Parted<A>, Blocked>
+    requires { length held.now ≡ length new.items }
+    ensures { (repo : List Patch) → MarksOf held.now (infos_of new.items) (Holds repo) → MatchResult result
+        (λ p. Split PlacedCommutes (IsHeld repo) (placed new.items) p.front.items p.rest.items)
+        (λ w. BlockedBy w (AtPlaces (SplitStops PlacedCommutes (IsHeld repo) (placed new.items)))) }
 {
-    split_by(alloc, bundle.new_patches(), &marks.held)
+    split_by(alloc, new, held)
 }
 
 /// Splits a repository by a bundle: the common patches, moved to the front, and the rest.
@@ -102,7 +107,7 @@ pub fn split<A: Allocator, B: Allocator + Copy>(
         Ok(marks) => marks,
         Err(why) => return Err(why),
     };
-    match split_repo(alloc, repo, bundle, &marks) {
+    match split_repo(alloc, repo, &marks.common) {
         Ok(parted) => Ok(parted),
         Err(blocked) => Err(blocked.context_depends()),
     }

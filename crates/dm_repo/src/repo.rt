@@ -159,7 +159,7 @@ impl<A: Allocator + Copy> Repo<A> {
 }
 
 /// Copies of patches, under another allocator.
-fn copy_patches<A: Allocator, B: Allocator + Copy>(
+pub(crate) fn copy_patches<A: Allocator, B: Allocator + Copy>(
     alloc: B,
     patches: &[Named<A>],
 ) -> Result<Vec<Named<B>, B>, AllocError>

@@ -52,13 +52,26 @@ fn bundle_of<A: Allocator + Copy>(alloc: A, row: &str) -> Result<Bundle<A>, Fail
     }
 }
 
-/// Takes a bundle by a trial under another allocator: what is printed of it.
+/// How many patches weighing would append.
+fn count_of<A: Allocator>(weighed: &Result<Weighed<A>, Refusal>) -> Result<usize, Refusal> {
+    match weighed {
+        Ok(Weighed::NothingNew) => Ok(0),
+        Ok(Weighed::Merged(merged)) => Ok(merged.patches.len()),
+        Err(why) => Err(*why),
+    }
+}
+
+/// Takes a bundle by a trial under another allocator: what is printed of it. Weighed as it is lent it answers alike.
 fn taken<A: Allocator + Copy, B: Allocator + Copy>(
+    rt: &impl Abort,
     alloc: B,
     repo: &mut Repo<A>,
-    bundle: &Bundle<B>,
+    bundle: Bundle<B>,
 ) -> Result<String<B>, Fail> {
-    let line = match weigh(alloc, repo, bundle) {
+    let lent = count_of(&weigh(alloc, repo, &bundle));
+    let weighed = weigh_owned(alloc, repo, bundle);
+    assert_eq!(rt; count_of(&weighed), lent, "lent and given up");
+    let line = match weighed {
         Ok(Weighed::NothingNew) => format!(in alloc; "nothing new")?,
         Ok(Weighed::Merged(merged)) => {
             let ready = repo.prepare(&merged)?;
@@ -108,8 +121,8 @@ fn answers<A: Allocator + Copy, B: Allocator + Copy>(
         let (text, answer) = row.split_once(" => ").ok_or("a bundle")?;
         let (answer, after) = answer.split_once(" => ").unwrap_or((answer, base));
         let mut repo = Repo::new(alloc);
-        let _ = taken(trial, &mut repo, &bundle_of(trial, base)?)?;
-        let line = taken(trial, &mut repo, &bundle_of(trial, text)?)?;
+        let _ = taken(rt, trial, &mut repo, bundle_of(trial, base)?)?;
+        let line = taken(rt, trial, &mut repo, bundle_of(trial, text)?)?;
         assert_eq!(rt; line.as_str(), answer, "{what}");
         let held = write_bundle(trial, &repo.to_bundle(trial)?)?;
         let wanted = text_of(trial, after)?;
@@ -183,9 +196,9 @@ fn paths_that_are_too_deep(rt: HostRuntime) -> Result<(), Fail> {
     let alloc = rt.alloc();
     for (what, count, more, base, row, answer) in DEEP {
         let mut repo = Repo::new(alloc);
-        let line = taken(alloc, &mut repo, &chain(alloc, count, more)?)?;
+        let line = taken(&rt, alloc, &mut repo, chain(alloc, count, more)?)?;
         assert_eq!(rt; line.as_str(), base, "{what}: the base");
-        let line = taken(alloc, &mut repo, &bundle_of(alloc, row)?)?;
+        let line = taken(&rt, alloc, &mut repo, bundle_of(alloc, row)?)?;
         assert_eq!(rt; line.as_str(), answer, "{what}");
     }
     Ok(())
@@ -200,7 +213,7 @@ const MORE: &str = "%N(n)hunk ./f 5|-5|+five|%C(a)|";
 fn a_repository_in_two_parts(rt: HostRuntime) -> Result<(), Fail> {
     let alloc = rt.alloc();
     let mut repo = Repo::new(alloc);
-    let _ = taken(alloc, &mut repo, &bundle_of(alloc, BASE)?)?;
+    let _ = taken(&rt, alloc, &mut repo, bundle_of(alloc, BASE)?)?;
     let Ok(parted) = split(alloc, &repo, &bundle_of(alloc, MORE)?) else {
         return Err("a repository that can't be split".into());
     };
@@ -240,7 +253,7 @@ fn places<A: Allocator + Copy>(
 fn one_bundle_step_by_step(rt: HostRuntime) -> Result<(), Fail> {
     let alloc = rt.alloc();
     let mut repo = Repo::new(alloc);
-    let _ = taken(alloc, &mut repo, &bundle_of(alloc, BASE)?)?;
+    let _ = taken(&rt, alloc, &mut repo, bundle_of(alloc, BASE)?)?;
     let Ok(Weighed::Merged(merged)) = weigh(alloc, &repo, &bundle_of(alloc, MORE)?) else {
         return Err("a bundle that isn't merged".into());
     };

@@ -1,11 +1,12 @@
 //! Weighing a bundle against a repository: what taking it would append, or why it isn't taken.
-ghost use Rattle.std.specs.Prelude.{◌≡◌, ◌↔◌, ◌+◌, ◌<◌, ◌++◌, true, All, IfErr, IfOk, IsTrue, MatchOption, MatchResult};
+ghost use Rattle.std.specs.Prelude.{◌≡◌, ◌↔◌, ◌+◌, ◌<◌, ◌++◌, true, List, [], length, All, IfErr, IfOk, IsTrue, MatchOption, MatchResult};
+ghost use Rattle.dm_named.specs.Patches.{Patch};
+ghost use Rattle.dm_bundle.specs.Bundles.{Contents};
 ghost use Rattle.dm_bundle.specs.Patches.{infos_of, Distinct};
-ghost use Rattle.dm_repo.specs.Squares.{patches};
+ghost use Rattle.dm_repo.specs.Squares.{Placed, patches, placed};
 ghost use Rattle.dm_repo.specs.Repositories.{Makes};
-ghost use Rattle.dm_repo.specs.Marking.{AreMarked};
-ghost use Rattle.dm_repo.specs.Weighing.{Appends, Chooses, Fits, IsFull, IsLinked, IsMergeOf, IsNothingNew, Refuses, most_patches};
-ghost use Rattle.dm_repo.specs.Weighed.{FullFor, LeavesRepo, Weighs};
+ghost use Rattle.dm_repo.specs.Weighing.{Appends, Chooses, Fits, IsFull, IsMergeOf, IsNothingNew, IsParted, Refuses, most_patches};
+ghost use Rattle.dm_repo.specs.Weighed.{FullFor, IsLookedUp, LeavesRepo, Weighs};
 
 use crate::dependencies::first_missing;
 use crate::fit::fit;
@@ -13,7 +14,7 @@ use crate::marks::{Marks, common_marks};
 use crate::merge::{merge_all, undo_all};
 use crate::parted::{Parted, split_new, split_repo};
 use crate::refusal::Refusal;
-use crate::repo::Repo;
+use crate::repo::{Repo, copy_patches};
 use dm_bundle::Bundle;
 use dm_named::Named;
 use dm_tree::Tree;
@@ -62,7 +63,7 @@ fn linked<A: Allocator, B: Allocator + Copy>(
     ensures { MatchResult result
         (λ found. MatchOption found
         (IsNothingNew repo.now.patches bundle.now)
-        (λ marks. IsLinked repo.now.patches bundle.now × AreMarked repo.now.patches bundle.now marks.common.items marks.held.items))
+        (λ marks. IsLookedUp repo.now.patches bundle.now marks.common.items marks.held.items))
         (λ why. Refuses repo.now.patches bundle.now why) }
 {
     let marks = match common_marks(alloc, repo, bundle) {
@@ -78,45 +79,54 @@ fn linked<A: Allocator, B: Allocator + Copy>(
     }
 }
 
-/// Splits the repository, then the bundle: the repository's parts, and the new patches to merge.
-fn choose<A: Allocator, B: Allocator + Copy>(
+/// Splits the repository: the common patches in front.
+fn part<A: Allocator, B: Allocator + Copy>(
     alloc: B,
     repo: &Repo<A>,
-    bundle: &Bundle<B>,
     marks: &Marks<B>,
-) -> Result<(Parted<B>, Parted<B>), Refusal>
-    requires linked { IsLinked repo.now.patches bundle.now }
-    requires marks { AreMarked repo.now.patches bundle.now marks.now.common.items marks.now.held.items }
-    ensures { MatchResult result
-        (λ parts. Chooses repo.now.patches bundle.now parts.0.front.items parts.0.rest.items parts.1.rest.items)
-        (λ why. Refuses repo.now.patches bundle.now why) }
+) -> Result<Parted<B>, Refusal>
+    requires { length marks.now.common.items ≡ length repo.now.patches }
+    ensures { (b : Contents) → IsLookedUp repo.now.patches b marks.now.common.items marks.now.held.items → MatchResult result
+        (λ parted. IsParted repo.now.patches b parted.front.items parted.rest.items)
+        (λ why. Refuses repo.now.patches b why) }
 {
-    let parted = match split_repo(alloc, repo, bundle, marks) {
-        Ok(parted) => parted,
-        Err(blocked) => return Err(blocked.context_depends()),
-    };
-    match split_new(alloc, repo, bundle, marks) {
-        Ok(chosen) => Ok((parted, chosen)),
+    match split_repo(alloc, repo, &marks.common) {
+        Ok(parted) => Ok(parted),
+        Err(blocked) => Err(blocked.context_depends()),
+    }
+}
+
+/// Splits the new patches: those to merge.
+fn choose<A: Allocator + Copy>(
+    alloc: A,
+    new: Vec<Named<A>, A>,
+    marks: &Marks<A>,
+) -> Result<Vec<(usize, Named<A>), A>, Refusal>
+    requires { length marks.now.held.items ≡ length new.items }
+    ensures { (repo : List Patch) (b : Contents) (front rest : List Placed) → b.patches ≡ new.items →
+        IsLookedUp repo b marks.now.common.items marks.now.held.items → IsParted repo b front rest → MatchResult result
+        (λ chosen. Chooses repo b front rest chosen.items)
+        (λ why. Refuses repo b why) }
+{
+    match split_new(alloc, new, &marks.held) {
+        Ok(parted) => Ok(parted.rest),
         Err(blocked) => Err(blocked.held_depends()),
     }
 }
 
 /// Applies the front, and the patches to merge after it.
-fn fits<A: Allocator, B: Allocator + Copy>(
-    alloc: B,
-    repo: &Repo<A>,
-    bundle: &Bundle<B>,
-    parted: &Parted<B>,
-    new: &[(usize, Named<B>)],
+fn fits<A: Allocator + Copy>(
+    alloc: A,
+    front: &[(usize, Named<A>)],
+    new: &[(usize, Named<A>)],
 ) -> Result<(), Refusal>
-    requires { Chooses repo.now.patches bundle.now parted.now.front.items parted.now.rest.items new.now }
-    ensures { MatchResult result
-        (λ _. Fits repo.now.patches bundle.now parted.now.rest.items new.now)
-        (λ why. Refuses repo.now.patches bundle.now why) }
+    ensures { (repo : List Patch) (b : Contents) (rest : List Placed) → Chooses repo b front.now rest new.now → MatchResult result
+        (λ _. Fits repo b rest new.now)
+        (λ why. Refuses repo b why) }
 {
     let mut tree = Tree::new(alloc);
     tree_is_lawful(&tree);
-    match fit(&parted.front, &mut tree) {
+    match fit(front, &mut tree) {
         Ok(()) => {}
         Err(stop) => return Err(stop.full()),
     }
@@ -177,14 +187,12 @@ fn append<A: Allocator, B: Allocator + Copy>(
 fn merge<A: Allocator, B: Allocator + Copy>(
     alloc: B,
     repo: &Repo<A>,
-    bundle: &Bundle<B>,
     rest: Vec<(usize, Named<B>), B>,
     new: Vec<(usize, Named<B>), B>,
 ) -> Result<Merged<B>, Refusal>
-    requires { Fits repo.now.patches bundle.now rest.items new.items }
-    ensures { MatchResult result
-        (λ m. IsMergeOf repo.now.patches bundle.now m.patches.items × Makes (repo.now.patches ++ m.patches.items) m.tree)
-        (λ why. Refuses repo.now.patches bundle.now why) }
+    ensures { (b : Contents) → Fits repo.now.patches b rest.items new.items → MatchResult result
+        (λ m. IsMergeOf repo.now.patches b m.patches.items × Makes (repo.now.patches ++ m.patches.items) m.tree)
+        (λ why. Refuses repo.now.patches b why) }
 {
     let mut rest = rest;
     let mut new = new;
@@ -193,6 +201,52 @@ fn merge<A: Allocator, B: Allocator + Copy>(
         Ok(()) => append(alloc, repo, new),
         Err(blocked) => Err(blocked.conflicts()),
     }
+}
+
+/// Applies the patches to merge to the tree of a repository that is common as a whole: nothing stands in their way.
+fn follow<A: Allocator, B: Allocator + Copy>(
+    alloc: B,
+    repo: &Repo<A>,
+    new: Vec<(usize, Named<B>), B>,
+) -> Result<Merged<B>, Refusal>
+    ensures { (b : Contents) → Chooses repo.now.patches b (placed repo.now.patches) [] new.items → MatchResult result
+        (λ m. IsMergeOf repo.now.patches b m.patches.items × Makes (repo.now.patches ++ m.patches.items) m.tree)
+        (λ why. Refuses repo.now.patches b why) }
+{
+    let mut tree = repo.tree_copy(alloc)?;
+    match fit(&new, &mut tree) {
+        Ok(()) => {}
+        Err(stop) => return Err(stop.does_not_fit()),
+    }
+    if is_too_many(repo.len(), new.len()) {
+        return Err(Refusal::Full);
+    }
+    let patches = without_places(alloc, new)?;
+    Ok(Merged { patches, tree })
+}
+
+/// Merges new patches whose names were looked up.
+fn weigh_new<A: Allocator, B: Allocator + Copy>(
+    alloc: B,
+    repo: &Repo<A>,
+    new: Vec<Named<B>, B>,
+    marks: &Marks<B>,
+) -> Result<Merged<B>, Refusal>
+    requires common { length marks.now.common.items ≡ length repo.now.patches }
+    requires held { length marks.now.held.items ≡ length new.items }
+    ensures { (b : Contents) → b.patches ≡ new.items → IsLookedUp repo.now.patches b marks.now.common.items marks.now.held.items →
+        MatchResult result
+        (λ m. IsMergeOf repo.now.patches b m.patches.items × Makes (repo.now.patches ++ m.patches.items) m.tree)
+        (λ why. Refuses repo.now.patches b why) }
+{
+    if are_set(&marks.common) {
+        let chosen = choose(alloc, new, marks)?;
+        return follow(alloc, repo, chosen);
+    }
+    let parted = part(alloc, repo, marks)?;
+    let chosen = choose(alloc, new, marks)?;
+    fits(alloc, &parted.front, &chosen)?;
+    merge(alloc, repo, parted.rest, chosen)
 }
 
 /// That the new patches of a bundle have distinct names; does nothing.
@@ -206,7 +260,7 @@ fn names_are_distinct<A: Allocator>(bundle: &Bundle<A>)
 ///
 /// The bundle's context and dependencies are looked up; the repository is split into what the bundle was made from and the
 /// rest; the new patches are applied after the first part, and merged with the second (`darcs apply --no-allow-conflicts`).
-/// The first step that refuses decides.
+/// The first step that refuses decides. The new patches are copied; [`weigh_owned`] moves them.
 pub fn weigh<A: Allocator, B: Allocator + Copy>(
     alloc: B,
     repo: &Repo<A>,
@@ -219,10 +273,28 @@ pub fn weigh<A: Allocator, B: Allocator + Copy>(
     let Some(marks) = linked(alloc, repo, bundle)? else {
         return Ok(Weighed::NothingNew);
     };
-    let (parted, chosen) = choose(alloc, repo, bundle, &marks)?;
-    fits(alloc, repo, bundle, &parted, &chosen.rest)?;
     repo.lawful();
     names_are_distinct(bundle);
-    let merged = merge(alloc, repo, bundle, parted.rest, chosen.rest)?;
+    let new = copy_patches(alloc, bundle.new_patches())?;
+    let merged = weigh_new(alloc, repo, new, &marks)?;
+    Ok(Weighed::Merged(merged))
+}
+
+/// The same as [`weigh`] of a bundle that is given up: its new patches are moved into what is merged.
+pub fn weigh_owned<A: Allocator, B: Allocator + Copy>(
+    alloc: B,
+    repo: &Repo<A>,
+    bundle: Bundle<B>,
+) -> Result<Weighed<B>, Refusal>
+    ensures weighed { IfOk result (Weighs repo.now.patches bundle) }
+    ensures refusal { IfErr result (Refuses repo.now.patches bundle) }
+    ensures leaves_repo { IfOk result (LeavesRepo repo.now.patches) }
+{
+    let Some(marks) = linked(alloc, repo, &bundle)? else {
+        return Ok(Weighed::NothingNew);
+    };
+    repo.lawful();
+    names_are_distinct(&bundle);
+    let merged = weigh_new(alloc, repo, bundle.into_new_patches(), &marks)?;
     Ok(Weighed::Merged(merged))
 }

@@ -5,19 +5,19 @@ ghost use Rattle.dm_scratch.specs.Taking.{Takes, TakesBundle, TakesEach};
 use crate::verdict::Verdict;
 use bumpalo::Bump;
 use dm_bundle::{Bundle, read_bundle};
-use dm_repo::{Refusal, Repo, Weighed, weigh};
+use dm_repo::{Refusal, Repo, Weighed, weigh_owned};
 use std::alloc::Allocator;
 
 /// Takes a bundle that was read in the trial's allocator.
 fn take_bundle<A: Allocator + Copy, B: Allocator + Copy>(
     repo: &mut Repo<A>,
     trial: B,
-    bundle: &Bundle<B>,
+    bundle: Bundle<B>,
 ) -> Result<Verdict, Refusal>
-    ensures ok { IfOk result (λ verdict. TakesBundle repo.old.patches bundle.now verdict repo.new.patches) }
-    ensures err { IfErr result (λ why. TakesBundle repo.old.patches bundle.now (Verdict.Refused why) repo.new.patches) }
+    ensures ok { IfOk result (λ verdict. TakesBundle repo.old.patches bundle verdict repo.new.patches) }
+    ensures err { IfErr result (λ why. TakesBundle repo.old.patches bundle (Verdict.Refused why) repo.new.patches) }
 {
-    match weigh(trial, repo, bundle)? {
+    match weigh_owned(trial, repo, bundle)? {
         Weighed::NothingNew => Ok(Verdict::NothingNew),
         Weighed::Merged(merged) => {
             let ready = repo.prepare(&merged)?;
@@ -46,7 +46,7 @@ pub fn take<A: Allocator + Copy, P: Allocator>(
         Ok(bundle) => bundle,
         Err(fault) => return Verdict::unread(fault),
     };
-    match take_bundle(repo, trial, &bundle) {
+    match take_bundle(repo, trial, bundle) {
         Ok(verdict) => verdict,
         Err(why) => Verdict::Refused(why),
     }

@@ -12,7 +12,7 @@ pub returns-in-Err : goal.returns-in-Err
 returns-in-Err g c = record { parts = tt; folds = tt; refusal = context_to_split c.args.repo.now.patches c.args.bundle.now c.in-Err.why c.in-Err.ensures }
 
 pub returns-in-Ok-split_repo-clause-folds : goal.returns-in-Ok-split_repo-clause-folds
-returns-in-Ok-split_repo-clause-folds g c = λ t. split_folds c.args.repo.now.patches c.args.bundle.now _ _ c.in-Ok-split_repo.ensures t
+returns-in-Ok-split_repo-clause-folds g c = λ t. split_folds c.args.repo.now.patches c.args.bundle.now _ _ (c.in-Ok-split_repo.ensures c.args.bundle.now (rw c.deref.ensures.value c.in-Ok.ensures.common_is)) t
 
 pub returns : goal.returns
 returns g c =
@@ -22,5 +22,5 @@ returns g c =
       parts = tt;
       folds = tt;
       refusal = rw c.context_depends.ensures
-          (between_places (RefusesToSplit repo b) ContextDepends (AtPlaces (SplitStops PlacedCommutes (IsCommon repo b) (placed repo))) c.in-Err-split_repo.blocked tt (λ j k s. (c.in-Ok.ensures.knows, s)) c.in-Err-split_repo.ensures);
+          (between_places (RefusesToSplit repo b) ContextDepends (AtPlaces (SplitStops PlacedCommutes (IsCommon repo b) (placed repo))) c.in-Err-split_repo.blocked tt (λ j k s. (c.in-Ok.ensures.knows, s)) (c.in-Err-split_repo.ensures b (rw c.deref.ensures.value c.in-Ok.ensures.common_is)));
     }

@@ -1,28 +1,64 @@
-use Rattle.std.proofs.Common.{rules, false, drop, length}
+use Rattle.std.proofs.Common.{rules, ◌∙◌, refl, sym, drop, false, length}
 use Rattle.dm_repo.specs.Staircases.{nothing, PassStops, SplitStops}
 use Rattle.dm_repo.specs.Squares.{placed, PlacedCommutes}
 use Rattle.dm_repo.specs.Rows.{IsMarked}
-use Rattle.dm_repo.proofs.Splits.{whole, split_more_in, split_more_out, split_stop, blocks_at}
+use Rattle.dm_repo.proofs.Splits.{whole, one_taken, one_counted, is_below, split_more_in, split_more_out, split_stop, blocks_at}
 use Rattle.dm_repo.proofs.parted.split_by.Goals as goal
-use Rattle.dm_repo.proofs.parted.split_by.Goals.{then-marks-k+in-Ok+in_ok-push-in-Ok, else-marks-k+in_ok-push}
 
 pub loop-k-init : goal.loop-k-init
-loop-k-init g c = rw (c.new-front.ensures.items, c.new-rest.ensures.items) nothing
+loop-k-init g c = record {
+  can_next = search rules;
+  is_finite = tt;
+  whole = rw (c.into_iter-k-iterator.ensures.into_iter_gives, c.enumerate-k-items.ensures.source, c.enumerate-k-items.ensures.count, c.into_iter.ensures.rest) refl;
+  counted = search rules;
+  split = rw (c.new-front.ensures.items, c.new-rest.ensures.items) nothing;
+}
+
+pub bounds-marks-k : goal.bounds-marks-k
+bounds-marks-k g c =
+    let s = c.in-Some.ensures.steps in
+    let w = rw (s.0.0, ← s.1) at c.loop-k.invariant.whole in
+    rw c.requires (is_below c.args.patches.items c.loop-k.yielded c.in-Some.k c.in-Some.patch c.next.new.self.iter.rest.items w (c.loop-k.invariant.counted ∙ sym s.1))
+
+pub loop-k-preserved-then-not-marks-k : goal.loop-k-preserved-then-not-marks-k
+loop-k-preserved-then-not-marks-k g c =
+    let xs = c.args.patches.items in
+    let k = c.in-Some.k in
+    let left = c.next.new.self.iter.rest.items in
+    let s = c.in-Some.ensures.steps in
+    let w = rw (s.0.0, ← s.1) at c.loop-k.invariant.whole in
+    record {
+      can_next = search rules;
+      is_finite = tt;
+      whole = rw (s.2, ← s.1) (one_taken xs c.loop-k.yielded k c.in-Some.patch left w);
+      counted = rw (s.2, ← s.1) (one_counted xs c.loop-k.yielded k c.in-Some.patch left w (c.loop-k.invariant.counted ∙ sym s.1));
+      split = rw c.in_ok-push.ensures.items (split_more_out xs c.loop-k.yielded k c.in-Some.patch left w c.args.marks.now c.requires (c.loop-k.invariant.counted ∙ sym s.1) c.loop-k.invariant.split false c.if-not-marks-k.true refl);
+    }
 
 pub returns-in-Err : goal.returns-in-Err
 returns-in-Err g c =
+    let xs = c.args.patches.items in
+    let k = c.in-Some.k in
+    let s = c.in-Some.ensures.steps in
+    let w = rw (s.0.0, ← s.1) at c.loop-k.invariant.whole in
     rw c.blocked.ensures
-    (blocks_at (c.loop-k.k, c.index-patches-k.result) (PassStops PlacedCommutes c.as_mut_slice.result.now (c.loop-k.k, c.in_ok-copy_into.field-0)) (SplitStops PlacedCommutes (IsMarked c.args.marks.now) (placed c.args.patches.now)) c.in-Err.stop
-    (λ r s. split_stop c.args.marks.now c.args.patches.now c.loop-k.k c.index-patches-k.result c.in_ok-copy_into.field-0 c.loop-k-test.true c.requires c.index-patches-k.is c.in_ok-copy_into.ensures c.loop-k.invariant false c.if-marks-k.true
-    (rw c.as_mut_slice.ensures.value at s)) c.in-Err.ensures)
+    (blocks_at (k, c.in-Some.patch) (PassStops PlacedCommutes c.as_mut_slice.result.now (k, c.in-Some.patch)) (SplitStops PlacedCommutes (IsMarked c.args.marks.now) (placed xs)) c.in-Err.stop
+    (λ r p. split_stop xs c.loop-k.yielded k c.in-Some.patch c.next.new.self.iter.rest.items w c.args.marks.now c.requires (c.loop-k.invariant.counted ∙ sym s.1) c.loop-k.invariant.split false c.if-not-marks-k.false
+    (rw c.as_mut_slice.ensures.value at p)) c.in-Err.ensures)
 
 pub loop-k-preserved : goal.loop-k-preserved
-loop-k-preserved g c = elim c.if-marks-k.branch [
-  | then-marks-k+in-Ok+in_ok-push-in-Ok w ↦
-      let kept = whole w.pass.new.rest (drop (length w.pass.new.rest) c.loop-k.rest.items) c.loop-k.rest.len (search rules) in
-      rw (w.front-is, w.rest-is, kept)
-      (split_more_in c.args.marks.now c.args.patches.now c.loop-k.k c.index-patches-k.result c.in_ok-copy_into.field-0 c.loop-k-test.true c.requires c.index-patches-k.is c.in_ok-copy_into.ensures c.loop-k.invariant false w.if-marks-k.true
-      (rw w.as_mut_slice.ensures.value at w.in-Ok.ensures) w.in_ok-push-in-Ok.ensures.items)
-  | else-marks-k+in_ok-push w ↦ rw (w.front-is, w.rest-is)
-      (split_more_out c.args.marks.now c.args.patches.now c.loop-k.k c.index-patches-k.result c.in_ok-copy_into.field-0 c.loop-k-test.true c.requires c.index-patches-k.is c.in_ok-copy_into.ensures c.loop-k.invariant false w.if-marks-k.false w.in_ok-push.ensures.items)
-]
+loop-k-preserved g c =
+    let xs = c.args.patches.items in
+    let k = c.in-Some.k in
+    let left = c.next.new.self.iter.rest.items in
+    let s = c.in-Some.ensures.steps in
+    let w = rw (s.0.0, ← s.1) at c.loop-k.invariant.whole in
+    let kept = whole c.pass.new.rest (drop (length c.pass.new.rest) c.loop-k.rest.items) c.loop-k.rest.len (search rules) in
+    record {
+      can_next = search rules;
+      is_finite = tt;
+      whole = rw (s.2, ← s.1) (one_taken xs c.loop-k.yielded k c.in-Some.patch left w);
+      counted = rw (s.2, ← s.1) (one_counted xs c.loop-k.yielded k c.in-Some.patch left w (c.loop-k.invariant.counted ∙ sym s.1));
+      split = rw (c.in_ok-push-2.ensures.items, kept) (split_more_in xs c.loop-k.yielded k c.in-Some.patch left w c.args.marks.now c.requires (c.loop-k.invariant.counted ∙ sym s.1) c.loop-k.invariant.split false c.if-not-marks-k.false
+          (rw c.as_mut_slice.ensures.value at c.in-Ok.ensures) refl);
+    }

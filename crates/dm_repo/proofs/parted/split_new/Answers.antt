@@ -1,5 +1,3 @@
-use Rattle.std.proofs.Common.{◌∙◌}
-use Rattle.std.proofs.lemmas.List.{length-map}
 use Rattle.dm_repo.specs.Squares.{PlacedCommutes}
 use Rattle.dm_repo.specs.Rows.{IsMarked}
 use Rattle.dm_repo.specs.Repositories.{Holds}
@@ -8,15 +6,10 @@ use Rattle.dm_repo.proofs.Alike.{split_alike}
 use Rattle.dm_repo.proofs.Steps.{match_map, alike_placed, stops_alike, blocked_map}
 use Rattle.dm_repo.proofs.parted.split_new.Goals as goal
 
-pub split_by-requires : goal.split_by-requires
-split_by-requires g c = rw (c.deref.ensures.value, c.new_patches.ensures.value) (c.requires.held_is.length_is ∙ length-map c.args.bundle.now.patches (λ p. p.info))
-
 pub returns : goal.returns
-returns g c =
-    let repo = c.args.repo.now.patches in
-    let b = c.args.bundle.now in
-    let marks = c.args.marks.now.held.items in
-    let a = alike_placed marks (Holds repo) b.patches c.requires.held_is in
-    match_map c.split_by.result (rw (c.new_patches.ensures.value, c.deref.ensures.value) at c.split_by.ensures)
+returns g c = λ repo m.
+    let marks = c.args.held.now in
+    let a = alike_placed marks (Holds repo) c.args.new.items m in
+    match_map c.split_by.result c.split_by.ensures
     (λ parted s. split_alike PlacedCommutes (IsMarked marks) (IsHeld repo) a s)
     (λ blocked s. blocked_map blocked (λ h r q. stops_alike PlacedCommutes a q) s)

@@ -1,5 +1,3 @@
-use Rattle.std.proofs.Common.{◌∙◌}
-use Rattle.std.proofs.lemmas.List.{length-map}
 use Rattle.dm_repo.specs.Squares.{PlacedCommutes}
 use Rattle.dm_repo.specs.Rows.{IsMarked}
 use Rattle.dm_repo.specs.CommonSets.{Common}
@@ -9,14 +7,13 @@ use Rattle.dm_repo.proofs.Steps.{match_map, alike_placed, stops_alike, blocked_m
 use Rattle.dm_repo.proofs.parted.split_repo.Goals as goal
 
 pub split_by-requires : goal.split_by-requires
-split_by-requires g c = rw (c.deref.ensures.value, c.patches.ensures.value) (c.requires.common_is.length_is ∙ length-map c.args.repo.now.patches (λ p. p.info))
+split_by-requires g c = rw (c.in_ok-patches.ensures, c.patches.ensures.value) c.requires
 
 pub returns : goal.returns
-returns g c =
+returns g c = λ b m.
     let repo = c.args.repo.now.patches in
-    let b = c.args.bundle.now in
-    let marks = c.args.marks.now.common.items in
-    let a = alike_placed marks (Common repo b) repo c.requires.common_is in
-    match_map c.split_by.result (rw (c.patches.ensures.value, c.deref.ensures.value) at c.split_by.ensures)
+    let marks = c.args.common.now in
+    let a = alike_placed marks (Common repo b) repo m in
+    match_map c.split_by.result (rw (c.in_ok-patches.ensures, c.patches.ensures.value) at c.split_by.ensures)
     (λ parted s. split_alike PlacedCommutes (IsMarked marks) (IsCommon repo b) a s)
     (λ blocked s. blocked_map blocked (λ h r q. stops_alike PlacedCommutes a q) s)

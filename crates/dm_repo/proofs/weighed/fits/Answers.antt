@@ -6,23 +6,21 @@ use Rattle.dm_repo.proofs.Making.{new_root, front_stops}
 use Rattle.dm_repo.proofs.weighed.fits.Goals as goal
 
 pub returns-in-Err : goal.returns-in-Err
-returns-in-Err g c =
-    let repo = c.args.repo.now.patches in
-    let b = c.args.bundle.now in
-    let front = c.args.parted.now.front.items in
+returns-in-Err g c = λ repo b rest chooses.
+    let front = c.args.front.now in
     let r = new_root c.new-tree.result c.new-tree.ensures c.tree_is_lawful.ensures.lawful in
     rw c.full.ensures
-    (of_place (Refuses repo b) (λ k. Full) (FitStops r.0 front) c.in-Err.stop tt (λ x q. inl (front, c.args.parted.now.rest.items, c.args.new.now, c.requires, λ t h. front_stops r.2 q h))
-    (rw c.deref.ensures.value at (c.in-Err.ensures r.0 r.1)))
+    (of_place (Refuses repo b) (λ k. Full) (FitStops r.0 front) c.in-Err.stop tt (λ x q. inl (front, rest, c.args.new.now, chooses, λ t h. front_stops r.2 q h))
+    (c.in-Err.ensures r.0 r.1))
 
 pub returns-in-Ok-fit : goal.returns-in-Ok-fit
-returns-in-Ok-fit g c =
+returns-in-Ok-fit g c = λ repo b rest chooses.
     let r = new_root c.new-tree.result c.new-tree.ensures c.tree_is_lawful.ensures.lawful in
-    let base = rw c.deref.ensures.value at (c.in-Ok.ensures r.0 r.1) in
+    let base = c.in-Ok.ensures r.0 r.1 in
     let last = c.in-Ok-fit.ensures base.0 base.1 in
     record {
-      front = c.args.parted.now.front.items;
-      chooses = c.requires;
+      front = c.args.front.now;
+      chooses = chooses;
       base = base.0;
       grows = record { start = r.0; is_root = r.2; runs = base.2 };
       fitted = last.0;
@@ -30,14 +28,12 @@ returns-in-Ok-fit g c =
     }
 
 pub returns : goal.returns
-returns g c =
-    let repo = c.args.repo.now.patches in
-    let b = c.args.bundle.now in
-    let front = c.args.parted.now.front.items in
+returns g c = λ repo b rest chooses.
+    let front = c.args.front.now in
     let new = c.args.new.now in
     let r = new_root c.new-tree.result c.new-tree.ensures c.tree_is_lawful.ensures.lawful in
-    let base = rw c.deref.ensures.value at (c.in-Ok.ensures r.0 r.1) in
+    let base = c.in-Ok.ensures r.0 r.1 in
     rw c.does_not_fit.ensures
     (of_place (Refuses repo b) DoesNotFit (FitStops base.0 new) c.in-Err-fit.stop tt
-    (λ x q. (front, c.args.parted.now.rest.items, new, c.requires, (base.0, x, refl, record { start = r.0; is_root = r.2; runs = base.2 }, q)))
+    (λ x q. (front, rest, new, chooses, (base.0, x, refl, record { start = r.0; is_root = r.2; runs = base.2 }, q)))
     (c.in-Err-fit.ensures base.0 base.1))

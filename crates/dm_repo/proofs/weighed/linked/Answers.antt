@@ -1,6 +1,8 @@
 use Rattle.std.proofs.Common.{refl}
 use Rattle.std.proofs.lemmas.Bool.{false≢true}
-use Rattle.dm_repo.proofs.Steps.{context_to_weigh, all_held, not_all_held}
+use Rattle.dm_bundle.specs.Patches.{infos_of}
+use Rattle.dm_repo.specs.Repositories.{Holds}
+use Rattle.dm_repo.proofs.Steps.{context_to_weigh, all_marked, not_all_held}
 use Rattle.dm_repo.proofs.weighed.linked.Goals as goal
 
 pub returns-in-Err : goal.returns-in-Err
@@ -8,20 +10,20 @@ returns-in-Err g c = context_to_weigh c.args.repo.now.patches c.args.bundle.now 
 
 pub returns-then-are_set : goal.returns-then-are_set
 returns-then-are_set g c =
-    record { knows = c.in-Ok.ensures.knows; all_held = all_held c.args.repo.now.patches c.args.bundle.now.patches c.in-Ok.marks.held.items c.in-Ok.ensures.held_is (rw c.deref.ensures.value at (c.if-are_set.ensures.0 refl)) }
+    record { knows = c.in-Ok.ensures.knows; all_held = all_marked (infos_of c.args.bundle.now.patches) (Holds c.args.repo.now.patches) c.in-Ok.marks.held.items c.in-Ok.ensures.held_is (rw c.deref.ensures.value at (c.if-are_set.ensures.0 refl)) }
 
 pub first_missing-requires : goal.first_missing-requires
 first_missing-requires g c = c.in-Ok.ensures
 
 pub returns-in-None : goal.returns-in-None
-returns-in-None g c = (
-  record {
+returns-in-None g c = record {
+  linked = record {
     knows = c.in-Ok.ensures.knows;
     is_new = λ h. false≢true (c.if-are_set.ensures.1 (rw c.deref.ensures.value (not_all_held c.args.repo.now.patches c.args.bundle.now.patches c.in-Ok.marks.held.items c.in-Ok.ensures.held_is h)));
     has_dependencies = c.in-None.ensures;
-  },
-  c.in-Ok.ensures,
-)
+  };
+  marked = c.in-Ok.ensures;
+}
 
 pub returns-in-Some : goal.returns-in-Some
 returns-in-Some g c = (c.in-Ok.ensures.knows, (λ h. false≢true (c.if-are_set.ensures.1 (rw c.deref.ensures.value (not_all_held c.args.repo.now.patches c.args.bundle.now.patches c.in-Ok.marks.held.items c.in-Ok.ensures.held_is h)))), c.in-Some.ensures)

@@ -11,7 +11,7 @@ returns-in-Ok-take_bundle g c =
     let b = c.in-Ok.bundle in
     bundle b (reads c.args.text.now b c.in-Ok.ensures.ok c.in-Ok.ensures.few (λ large. no_err b _ (c.in-Ok.ensures.too_large large))) c.in-Ok-take_bundle.ensures.ok
 
-pub returns : goal.returns
-returns g c =
+pub returns-in-Err-take_bundle : goal.returns-in-Err-take_bundle
+returns-in-Err-take_bundle g c =
     let b = c.in-Ok.bundle in
     bundle b (reads c.args.text.now b c.in-Ok.ensures.ok c.in-Ok.ensures.few (λ large. no_err b _ (c.in-Ok.ensures.too_large large))) c.in-Err-take_bundle.ensures.err

@@ -1,0 +1,39 @@
+use Rattle.std.proofs.Common.{refl, []}
+use Rattle.std.proofs.lemmas.Result.{err_from_is_err_and}
+use Rattle.dm_repo.specs.Squares.{placed}
+use Rattle.dm_repo.proofs.Following.{parted_whole}
+use Rattle.dm_repo.proofs.weighed.weigh_new.Goals as goal
+
+pub returns-in_err-chosen : goal.returns-in_err-chosen
+returns-in_err-chosen g c = λ b e found.
+    let repo = c.args.repo.now.patches in
+    let parted = parted_whole repo b (rw c.deref.ensures.value at (c.if-are_set.ensures.0 refl)) found in
+    let p = err_from_is_err_and c.from_residual.result c.from_residual.ensures.1 in rw (p.1, p.2) (c.in_err-chosen.ensures repo b (placed repo) [] e found parted)
+
+pub returns-then-are_set : goal.returns-then-are_set
+returns-then-are_set g c = λ b e found.
+    let repo = c.args.repo.now.patches in
+    let parted = parted_whole repo b (rw c.deref.ensures.value at (c.if-are_set.ensures.0 refl)) found in
+    c.follow.ensures b (c.in_ok-chosen.ensures repo b (placed repo) [] e found parted)
+
+pub returns-in_err-parted : goal.returns-in_err-parted
+returns-in_err-parted g c = λ b e found. let p = err_from_is_err_and c.from_residual-in_err-parted.result c.from_residual-in_err-parted.ensures.1 in rw (p.1, p.2) (c.in_err-parted.ensures b found)
+
+pub returns-in_err-chosen-2 : goal.returns-in_err-chosen-2
+returns-in_err-chosen-2 g c = λ b e found.
+    let p = err_from_is_err_and c.from_residual-in_err-chosen-2.result c.from_residual-in_err-chosen-2.ensures.1 in rw (p.1, p.2)
+    (c.in_err-chosen-2.ensures c.args.repo.now.patches b c.in_ok-parted.parted.front.items c.in_ok-parted.parted.rest.items e found (c.in_ok-parted.ensures b found))
+
+pub returns-in_err-fits : goal.returns-in_err-fits
+returns-in_err-fits g c = λ b e found.
+    let repo = c.args.repo.now.patches in
+    let rest = c.in_ok-parted.parted.rest.items in
+    let chosen = c.in_ok-chosen-2.ensures repo b c.in_ok-parted.parted.front.items rest e found (c.in_ok-parted.ensures b found) in
+    let p = err_from_is_err_and c.from_residual-in_err-fits.result c.from_residual-in_err-fits.ensures.1 in rw (p.1, p.2) (c.in_err-fits.ensures repo b rest (rw (c.deref-2.ensures.value, c.deref-3.ensures.value) chosen))
+
+pub returns : goal.returns
+returns g c = λ b e found.
+    let repo = c.args.repo.now.patches in
+    let rest = c.in_ok-parted.parted.rest.items in
+    let chosen = c.in_ok-chosen-2.ensures repo b c.in_ok-parted.parted.front.items rest e found (c.in_ok-parted.ensures b found) in
+    c.merge.ensures b (rw c.deref-3.ensures.value at (c.in_ok-fits.ensures repo b rest (rw (c.deref-2.ensures.value, c.deref-3.ensures.value) chosen)))
