@@ -10,6 +10,24 @@ use std::alloc::Allocator;
 use std::process::Abort;
 use std::test::Fail;
 
+/// The bytes of a row, with a newline for each `|`.
+fn bytes_of<A: Allocator + Copy>(alloc: A, row: &str) -> Result<Vec<u8, A>, Fail> {
+    let mut text = Vec::new(alloc);
+    for byte in row.bytes() {
+        text.push(if byte == b'|' { b'\n' } else { byte })?;
+    }
+    Ok(text)
+}
+
+/// A text, and the place that `^` marks in it.
+fn marked<A: Allocator + Copy>(alloc: A, row: &str) -> Result<(Vec<u8, A>, usize), Fail> {
+    let (front, rest) = row.split_once("^").ok_or("a place")?;
+    let mut text = bytes_of(alloc, front)?;
+    let place = text.len();
+    text.extend_from_slice(&bytes_of(alloc, rest)?)?;
+    Ok((text, place))
+}
+
 /// The canonical text of a named patch.
 fn canonical<A: Allocator, B: Allocator + Copy>(
     alloc: B,
@@ -21,8 +39,8 @@ fn canonical<A: Allocator, B: Allocator + Copy>(
 }
 
 /// The named patch at the front of a text.
-fn read<A: Allocator + Copy>(alloc: A, text: &str) -> Result<Named<A>, Fail> {
-    let (patch, _) = read_named(alloc, text.as_bytes(), 0)?;
+fn read<A: Allocator + Copy>(alloc: A, text: &[u8]) -> Result<Named<A>, Fail> {
+    let (patch, _) = read_named(alloc, text, 0)?;
     Ok(patch)
 }
 
@@ -42,6 +60,18 @@ fn reads<A: Allocator + Copy>(
         written,
         "the text of {what}"
     );
+    Ok(())
+}
+
+/// Reads each row: what it shows; a patch, `^`, and what stands behind it; its canonical text.
+fn reads_rows<A: Allocator + Copy>(rt: &impl Abort, alloc: A, rows: &str) -> Result<(), Fail> {
+    for line in rows.lines() {
+        let (what, row) = line.split_once(": ").ok_or("what the row shows")?;
+        let (row, written) = row.split_once(" => ").ok_or("a text")?;
+        let (text, place) = marked(alloc, row)?;
+        let written = bytes_of(alloc, written)?;
+        reads(rt, alloc, what, &text, place, &written)?;
+    }
     Ok(())
 }
 

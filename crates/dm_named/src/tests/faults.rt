@@ -2,183 +2,70 @@
 
 use super::*;
 
+/// What the row shows; what stands before the fault, `^`, and the rest; the fault's word. `|` is a newline.
+const TEXTS: &str = r"no bracket: ^x => bad-info
+an empty text: ^ => bad-info
+an inverted information: ^[a|p*-20240101000000] adddir ./d| => inverted
+dependencies of words: [t|p**20240101000000] <|^x> {|}| => bad-depends
+dependencies that do not end: [t|p**20240101000000] < [a|p**d] ^ => bad-depends
+a dependency that is none: [t|p**20240101000000] < ^[a> => bad-info
+an inverted dependency: [t|p**20240101000000] < ^[a|p*-d]> => inverted
+a word in braces that is none: [a|p**20240101000000] {|^foo ./a|}| => bad-patch
+a bracket in braces: [a|p**20240101000000] {^[ => bad-patch
+braces in braces: [a|p**20240101000000] { ^{ => unsupported
+a parenthesis in braces: [a|p**20240101000000] {adddir ./d ^( => unsupported
+a parenthesis for a body: [a|p**20240101000000] ^( ) => unsupported
+a parenthesis where a run goes on: [a|p**20240101000000] adddir ./d|^( => unsupported
+a replace: [a|p**20240101000000] ^replace ./a [A] x y| => unsupported
+a binary: [a|p**20240101000000] ^binary ./a => unsupported
+a changepref: [a|p**20240101000000] ^changepref x => unsupported
+a merger: [a|p**20240101000000] ^merger 0.0 => unsupported
+an undone merger: [a|p**20240101000000] ^regrem 0.0 => unsupported
+a conflictor: [a|p**20240101000000] {^conflictor x => unsupported
+an inverse conflictor: [a|p**20240101000000] ^rotcilfnoc => unsupported
+a duplicate behind a primitive: [a|p**20240101000000] adddir ./d|^duplicate => unsupported
+an inverse duplicate: [a|p**20240101000000] ^etacilpud => unsupported
+no line 0: [a|p**20240101000000] hunk ./a ^0|+x| => bad-number
+a line past the last: [a|p**20240101000000] hunk ./a ^4294967296|+x| => bad-number
+a word behind a number: [a|p**20240101000000] hunk ./a ^1 x|+x| => bad-number
+a number with a letter: [a|p**20240101000000] hunk ./a ^1x| => bad-number
+no lines in a hunk: [a|p**20240101000000] ^hunk ./a 1||Context:|| => empty-hunk
+lines for people alone: [a|p**20240101000000] {^hunk ./a 1| x|} => empty-hunk
+the end behind a move's first path: [a|p**20240101000000] move ./a |^ => bad-path
+the end in braces: [a|p**20240101000000] {adddir ./d |^ => unclosed
+";
+
+/// What the row shows, and a text that is no path.
+const PATHS: &str = r"no name: ./
+no dot: a
+no slash: .
+an empty name: ./a//b
+a slash behind the last name: ./a/
+a dot: ./a/.
+two dots: ./../x
+the directory of the store: ./_darcs/x
+the code 0: ./\0\x
+the code 128: ./\128\x
+a code that does not end: ./\32
+a code of one digit that does not end: ./a\3
+a code of no digits: ./\\
+a code of four digits: ./\0032\
+a code of letters: ./\a\
+an escaped slash: ./a\47\b
+an escaped dot: ./\46\
+an escaped underscore: ./\95\darcs
+33 names: ./s/s/s/s/s/s/s/s/s/s/s/s/s/s/s/s/s/s/s/s/s/s/s/s/s/s/s/s/s/s/s/s/s
+";
+
 #[test]
 fn refuses_texts(rt: HostRuntime) -> Result<(), Fail> {
     let alloc = rt.alloc();
-    for (what, patch, word, place) in [
-        ("no bracket", "x", "bad-info", 14),
-        ("an empty text", "", "bad-info", 14),
-        (
-            "an inverted information",
-            "[a\np*-20240101000000] adddir ./d\n",
-            "inverted",
-            14,
-        ),
-        (
-            "dependencies of words",
-            "[t\np**20240101000000] <\nx> {\n}\n",
-            "bad-depends",
-            38,
-        ),
-        (
-            "dependencies that do not end",
-            "[t\np**20240101000000] < [a\np**d] ",
-            "bad-depends",
-            47,
-        ),
-        (
-            "a dependency that is none",
-            "[t\np**20240101000000] < [a>",
-            "bad-info",
-            38,
-        ),
-        (
-            "an inverted dependency",
-            "[t\np**20240101000000] < [a\np*-d]>",
-            "inverted",
-            38,
-        ),
-        (
-            "a word in braces that is none",
-            "[a\np**20240101000000] {\nfoo ./a\n}\n",
-            "bad-patch",
-            38,
-        ),
-        (
-            "a bracket in braces",
-            "[a\np**20240101000000] {[",
-            "bad-patch",
-            37,
-        ),
-        (
-            "braces in braces",
-            "[a\np**20240101000000] { {",
-            "unsupported",
-            38,
-        ),
-        (
-            "a parenthesis in braces",
-            "[a\np**20240101000000] {adddir ./d (",
-            "unsupported",
-            48,
-        ),
-        (
-            "a parenthesis for a body",
-            "[a\np**20240101000000] ( )",
-            "unsupported",
-            36,
-        ),
-        (
-            "a parenthesis where a run goes on",
-            "[a\np**20240101000000] adddir ./d\n(",
-            "unsupported",
-            47,
-        ),
-        (
-            "a replace",
-            "[a\np**20240101000000] replace ./a [A] x y\n",
-            "unsupported",
-            36,
-        ),
-        (
-            "a binary",
-            "[a\np**20240101000000] binary ./a",
-            "unsupported",
-            36,
-        ),
-        (
-            "a changepref",
-            "[a\np**20240101000000] changepref x",
-            "unsupported",
-            36,
-        ),
-        (
-            "a merger",
-            "[a\np**20240101000000] merger 0.0",
-            "unsupported",
-            36,
-        ),
-        (
-            "an undone merger",
-            "[a\np**20240101000000] regrem 0.0",
-            "unsupported",
-            36,
-        ),
-        (
-            "a conflictor",
-            "[a\np**20240101000000] {conflictor x",
-            "unsupported",
-            37,
-        ),
-        (
-            "an inverse conflictor",
-            "[a\np**20240101000000] rotcilfnoc",
-            "unsupported",
-            36,
-        ),
-        (
-            "a duplicate behind a primitive",
-            "[a\np**20240101000000] adddir ./d\nduplicate",
-            "unsupported",
-            47,
-        ),
-        (
-            "an inverse duplicate",
-            "[a\np**20240101000000] etacilpud",
-            "unsupported",
-            36,
-        ),
-        (
-            "no line 0",
-            "[a\np**20240101000000] hunk ./a 0\n+x\n",
-            "bad-number",
-            45,
-        ),
-        (
-            "a line past the last",
-            "[a\np**20240101000000] hunk ./a 4294967296\n+x\n",
-            "bad-number",
-            45,
-        ),
-        (
-            "a word behind a number",
-            "[a\np**20240101000000] hunk ./a 1 x\n+x\n",
-            "bad-number",
-            45,
-        ),
-        (
-            "a number with a letter",
-            "[a\np**20240101000000] hunk ./a 1x\n",
-            "bad-number",
-            45,
-        ),
-        (
-            "no lines in a hunk",
-            "[a\np**20240101000000] hunk ./a 1\n\nContext:\n\n",
-            "empty-hunk",
-            36,
-        ),
-        (
-            "lines for people alone",
-            "[a\np**20240101000000] {hunk ./a 1\n x\n}",
-            "empty-hunk",
-            37,
-        ),
-        (
-            "the end behind a move's first path",
-            "[a\np**20240101000000] move ./a \n",
-            "bad-path",
-            46,
-        ),
-        (
-            "the end in braces",
-            "[a\np**20240101000000] {adddir ./d \n",
-            "unclosed",
-            49,
-        ),
-    ] {
-        let text = format!(in alloc; "New patches:\n\n{patch}")?;
-        refuses(&rt, alloc, what, text.as_bytes(), word, place)?;
+    for line in TEXTS.lines() {
+        let (what, row) = line.split_once(": ").ok_or("what the row shows")?;
+        let (row, word) = row.split_once(" => ").ok_or("a text")?;
+        let row = format!(in alloc; "New patches:||{row}")?;
+        let (text, place) = marked(alloc, &row)?;
+        refuses(&rt, alloc, what, &text, word, place)?;
     }
     let fault = read_named(alloc, b"x", 99).err().ok_or("a fault")?;
     assert_eq!(rt; fault.kind, FaultKind::BadInfo, "a place past the end");
@@ -186,45 +73,31 @@ fn refuses_texts(rt: HostRuntime) -> Result<(), Fail> {
     Ok(())
 }
 
+/// Compares the fault of a patch that adds a file at what is no path.
+fn refuses_path<A: Allocator + Copy>(
+    rt: &impl Abort,
+    alloc: A,
+    what: &str,
+    path: &str,
+) -> Result<(), Fail> {
+    let text = format!(in alloc;
+        "New patches:\n\n[a\np**20240101000000] addfile {path}\n\nContext:\n\n"
+    )?;
+    refuses(rt, alloc, what, text.as_bytes(), "bad-path", 44)
+}
+
 #[test]
 fn refuses_paths(rt: HostRuntime) -> Result<(), Fail> {
     let alloc = rt.alloc();
-    let mut long = String::new(alloc);
+    for line in PATHS.lines() {
+        let (what, path) = line.split_once(": ").ok_or("what the row shows")?;
+        refuses_path(&rt, alloc, what, path)?;
+    }
+    let mut long = String::from_str(alloc, "./")?;
     for _ in 0..256 {
         long.push('x')?;
     }
-    let long = format!(in alloc; "./{long}")?;
-    for (what, path) in [
-        ("no name", "./"),
-        ("no dot", "a"),
-        ("no slash", "."),
-        ("an empty name", "./a//b"),
-        ("a slash behind the last name", "./a/"),
-        ("a dot", "./a/."),
-        ("two dots", "./../x"),
-        ("the directory of the store", "./_darcs/x"),
-        ("the code 0", "./\\0\\x"),
-        ("the code 128", "./\\128\\x"),
-        ("a code that does not end", "./\\32"),
-        ("a code of one digit that does not end", "./a\\3"),
-        ("a code of no digits", "./\\\\"),
-        ("a code of four digits", "./\\0032\\"),
-        ("a code of letters", "./\\a\\"),
-        ("an escaped slash", "./a\\47\\b"),
-        ("an escaped dot", "./\\46\\"),
-        ("an escaped underscore", "./\\95\\darcs"),
-        (
-            "33 names",
-            "./s/s/s/s/s/s/s/s/s/s/s/s/s/s/s/s/s/s/s/s/s/s/s/s/s/s/s/s/s/s/s/s/s",
-        ),
-        ("a name of 256 bytes", long.as_str()),
-    ] {
-        let text = format!(in alloc;
-            "New patches:\n\n[a\np**20240101000000] addfile {path}\n\nContext:\n\n"
-        )?;
-        refuses(&rt, alloc, what, text.as_bytes(), "bad-path", 44)?;
-    }
-    Ok(())
+    refuses_path(&rt, alloc, "a name of 256 bytes", &long)
 }
 
 #[test]

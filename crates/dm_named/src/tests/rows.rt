@@ -34,35 +34,6 @@ a backslash: a\b => ./a\92\b
 a name like any other: a => ./a
 ";
 
-/// The bytes of a row, with newlines.
-fn bytes_of<A: Allocator + Copy>(alloc: A, row: &str) -> Result<Vec<u8, A>, Fail> {
-    let mut text = Vec::new(alloc);
-    for byte in row.bytes() {
-        text.push(if byte == b'|' { b'\n' } else { byte })?;
-    }
-    Ok(text)
-}
-
-/// A text, and the place that `^` marks in it.
-fn marked<A: Allocator + Copy>(alloc: A, row: &str) -> Result<(Vec<u8, A>, usize), Fail> {
-    let (front, rest) = row.split_once("^").ok_or("a place")?;
-    let mut text = bytes_of(alloc, front)?;
-    let place = text.len();
-    text.extend_from_slice(&bytes_of(alloc, rest)?)?;
-    Ok((text, place))
-}
-
-fn ends<A: Allocator + Copy>(rt: &impl Abort, alloc: A) -> Result<(), Fail> {
-    for line in ENDS.lines() {
-        let (what, row) = line.split_once(": ").ok_or("what the row shows")?;
-        let (row, written) = row.split_once(" => ").ok_or("a text")?;
-        let (text, place) = marked(alloc, row)?;
-        let written = bytes_of(alloc, written)?;
-        reads(rt, alloc, what, &text, place, &written)?;
-    }
-    Ok(())
-}
-
 fn faults<A: Allocator + Copy>(rt: &impl Abort, alloc: A) -> Result<(), Fail> {
     for line in FAULTS.lines() {
         let (what, row) = line.split_once(": ").ok_or("what the row shows")?;
@@ -89,8 +60,8 @@ fn names<A: Allocator + Copy>(rt: &impl Abort, alloc: A) -> Result<(), Fail> {
 
 #[test]
 fn ends_of_bodies(rt: HostRuntime) -> Result<(), Fail> {
-    ends(&rt, rt.alloc())?;
-    ends(&rt, &Bump::new(rt.alloc()))
+    reads_rows(&rt, rt.alloc(), ENDS)?;
+    reads_rows(&rt, &Bump::new(rt.alloc()), ENDS)
 }
 
 #[test]

@@ -3,151 +3,82 @@
 use super::*;
 use dm_tree::Path;
 
+/// What the row shows; a patch, `^`, and what stands behind it; its canonical text. `|` is a newline.
+const TEXTS: &str =
+    r"a hunk alone: [n|p**20240101000000] hunk ./f 1|-1|+one|^ => [n|p**20240101000000] hunk ./f 1|-1|+one|
+a dependency and no primitive: [t|p**20240101000000] <|[a|p**20240101000000] |> {|}^| => [t|p**20240101000000] <|[a|p**20240101000000] |> {|}|
+several primitives without braces, before the next patch: [a|p**20240101000000] |addfile  ./a|adddir ./d^|[b|p**20240101000000] rmdir ./d| => [a|p**20240101000000] {|addfile ./a|adddir ./d|}|
+braces around white space: [c|p**20240101000000] |{ }^| => [c|p**20240101000000] {|}|
+braces without white space: [c|p**20240101000000]{}^ => [c|p**20240101000000] {|}|
+a run of no primitives before the context: [a|p**20240101000000]^ |Context:| => [a|p**20240101000000] {|}|
+a run of no primitives behind dependencies: [a|p**20240101000000]<[b|p**d] [b|p**d]>^[c|p**d] => [a|p**20240101000000] <|[b|p**d] |[b|p**d] |> {|}|
+lines for people round a hunk's lines: [a|p**20240101000000] hunk ./a 2| above|-old|+new| below|^ => [a|p**20240101000000] hunk ./a 2|-old|+new|
+an old line that is empty: [a|p**20240101000000] {|addfile ./a|hunk ./a 1|-|+x|}^| => [a|p**20240101000000] {|addfile ./a|hunk ./a 1|-|+x|}|
+a last line without its newline: [m|p**20240101000000] hunk ./f 1|+x|+y^ => [m|p**20240101000000] hunk ./f 1|+x|+y|
+a number on a line of its own: [a|p**20240101000000] hunk ./a||4294967295|+x|^ => [a|p**20240101000000] hunk ./a 4294967295|+x|
+a hunk of several lines: [n|p**20240101000000] hunk ./f 5|-5|+five|^other => [n|p**20240101000000] hunk ./f 5|-5|+five|
+all that is done to directories and files: [a|p**20240101000000] {adddir ./d addfile ./d/f move ./d ./e rmfile ./e/f rmdir ./e }^ => [a|p**20240101000000] {|adddir ./d|addfile ./d/f|move ./d ./e|rmfile ./e/f|rmdir ./e|}|
+a brace in a path: [a|p**20240101000000] move ./a ./b{^ x => [a|p**20240101000000] move ./a ./b{|
+";
+
+/// What the row shows, the text of a path, and the canonical text of that path.
+const PATHS: &str = r"a space: ./a\32\b => ./a\32\b
+a tab to a carriage return: ./\9\\10\\11\\12\\13\ => ./\9\\10\\11\\12\\13\
+a backslash: ./\92\ => ./\92\
+a letter: ./\97\/\098\ => ./a/b
+bytes above 127: ./é => ./é
+a dot behind a dot: ./.a/..b => ./.a/..b
+32 names: ./s/s/s/s/s/s/s/s/s/s/s/s/s/s/s/s/s/s/s/s/s/s/s/s/s/s/s/s/s/s/s/s => ./s/s/s/s/s/s/s/s/s/s/s/s/s/s/s/s/s/s/s/s/s/s/s/s/s/s/s/s/s/s/s/s
+";
+
 #[test]
 fn reads_and_writes(rt: HostRuntime) -> Result<(), Fail> {
     let alloc = rt.alloc();
-    for (what, text, place, written) in [
-        (
-            "a hunk alone",
-            "[n\np**20240101000000] hunk ./f 1\n-1\n+one\n",
-            41,
-            "[n\np**20240101000000] hunk ./f 1\n-1\n+one\n",
-        ),
-        (
-            "a dependency and no primitive",
-            "[t\np**20240101000000] <\n[a\np**20240101000000] \n> {\n}\n",
-            52,
-            "[t\np**20240101000000] <\n[a\np**20240101000000] \n> {\n}\n",
-        ),
-        (
-            "several primitives without braces, before the next patch",
-            "[a\np**20240101000000] \naddfile  ./a\nadddir ./d\n[b\np**20240101000000] rmdir ./d\n",
-            46,
-            "[a\np**20240101000000] {\naddfile ./a\nadddir ./d\n}\n",
-        ),
-        (
-            "braces around white space",
-            "[c\np**20240101000000] \n{ }\n",
-            26,
-            "[c\np**20240101000000] {\n}\n",
-        ),
-        (
-            "braces without white space",
-            "[c\np**20240101000000]{}",
-            23,
-            "[c\np**20240101000000] {\n}\n",
-        ),
-        (
-            "a run of no primitives before the context",
-            "[a\np**20240101000000] \nContext:\n",
-            21,
-            "[a\np**20240101000000] {\n}\n",
-        ),
-        (
-            "a run of no primitives behind dependencies",
-            "[a\np**20240101000000]<[b\np**d] [b\np**d]>[c\np**d]",
-            40,
-            "[a\np**20240101000000] <\n[b\np**d] \n[b\np**d] \n> {\n}\n",
-        ),
-        (
-            "lines for people round a hunk's lines",
-            "[a\np**20240101000000] hunk ./a 2\n above\n-old\n+new\n below\n",
-            57,
-            "[a\np**20240101000000] hunk ./a 2\n-old\n+new\n",
-        ),
-        (
-            "an old line that is empty",
-            "[a\np**20240101000000] {\naddfile ./a\nhunk ./a 1\n-\n+x\n}\n",
-            53,
-            "[a\np**20240101000000] {\naddfile ./a\nhunk ./a 1\n-\n+x\n}\n",
-        ),
-        (
-            "a last line without its newline",
-            "[m\np**20240101000000] hunk ./f 1\n+x\n+y",
-            38,
-            "[m\np**20240101000000] hunk ./f 1\n+x\n+y\n",
-        ),
-        (
-            "a line that ends in a carriage return",
-            "[m\np**20240101000000] hunk ./f 1\r\n+x\r\n",
-            38,
-            "[m\np**20240101000000] hunk ./f 1\n+x\r\n",
-        ),
-        (
-            "leading zeros, and white space behind the number",
-            "[a\np**20240101000000] hunk ./a 007 \t\n+x\n",
-            40,
-            "[a\np**20240101000000] hunk ./a 7\n+x\n",
-        ),
-        (
-            "a number on a line of its own",
-            "[a\np**20240101000000] hunk ./a\n\n4294967295\n+x\n",
-            46,
-            "[a\np**20240101000000] hunk ./a 4294967295\n+x\n",
-        ),
-        (
-            "a hunk of several lines",
-            "[n\np**20240101000000] hunk ./f 5\n-5\n+five\nother",
-            42,
-            "[n\np**20240101000000] hunk ./f 5\n-5\n+five\n",
-        ),
-        (
-            "all that is done to directories and files",
-            "[a\np**20240101000000] {adddir ./d addfile ./d/f move ./d ./e rmfile ./e/f rmdir ./e }",
-            85,
-            "[a\np**20240101000000] {\nadddir ./d\naddfile ./d/f\nmove ./d ./e\nrmfile ./e/f\nrmdir ./e\n}\n",
-        ),
-        (
-            "a brace in a path",
-            "[a\np**20240101000000] move ./a ./b{ x",
-            35,
-            "[a\np**20240101000000] move ./a ./b{\n",
-        ),
-    ] {
-        reads(&rt, alloc, what, text.as_bytes(), place, written.as_bytes())?;
-    }
-    Ok(())
+    reads_rows(&rt, alloc, TEXTS)?;
+    // (a carriage return and a tab, which would not show in the table)
+    let what = "a line that ends in a carriage return";
+    let text = b"[m\np**20240101000000] hunk ./f 1\r\n+x\r\n";
+    let written = b"[m\np**20240101000000] hunk ./f 1\n+x\r\n";
+    reads(&rt, alloc, what, text, 38, written)?;
+    let what = "leading zeros, and white space behind the number";
+    let text = b"[a\np**20240101000000] hunk ./a 007 \t\n+x\n";
+    let written = b"[a\np**20240101000000] hunk ./a 7\n+x\n";
+    reads(&rt, alloc, what, text, 40, written)
+}
+
+/// Reads a patch that adds a file, and compares its canonical text.
+fn reads_path<A: Allocator + Copy>(
+    rt: &impl Abort,
+    alloc: A,
+    what: &str,
+    path: &str,
+    written: &str,
+) -> Result<(), Fail> {
+    let text = format!(in alloc; "[a\np**d] addfile {path}\n")?;
+    let canon = format!(in alloc; "[a\np**d] addfile {written}\n")?;
+    let place = text.len().saturating_sub(1);
+    reads(rt, alloc, what, text.as_bytes(), place, canon.as_bytes())
 }
 
 #[test]
 fn reads_escapes(rt: HostRuntime) -> Result<(), Fail> {
     let alloc = rt.alloc();
-    for (what, path, written) in [
-        ("a space", "./a\\32\\b", "./a\\32\\b"),
-        (
-            "a tab to a carriage return",
-            "./\\9\\\\10\\\\11\\\\12\\\\13\\",
-            "./\\9\\\\10\\\\11\\\\12\\\\13\\",
-        ),
-        ("a backslash", "./\\92\\", "./\\92\\"),
-        ("a letter", "./\\97\\/\\098\\", "./a/b"),
-        (
-            "the lowest and the highest code",
-            "./\\1\\\\127\\",
-            "./\u{1}\u{7f}",
-        ),
-        ("leading zeros", "./\\001\\", "./\u{1}"),
-        ("bytes above 127", "./é", "./é"),
-        ("a dot behind a dot", "./.a/..b", "./.a/..b"),
-        (
-            "32 names",
-            "./s/s/s/s/s/s/s/s/s/s/s/s/s/s/s/s/s/s/s/s/s/s/s/s/s/s/s/s/s/s/s/s",
-            "./s/s/s/s/s/s/s/s/s/s/s/s/s/s/s/s/s/s/s/s/s/s/s/s/s/s/s/s/s/s/s/s",
-        ),
-    ] {
-        let text = format!(in alloc; "[a\np**d] addfile {path}\n")?;
-        let canon = format!(in alloc; "[a\np**d] addfile {written}\n")?;
-        let place = text.len().saturating_sub(1);
-        reads(&rt, alloc, what, text.as_bytes(), place, canon.as_bytes())?;
+    for line in PATHS.lines() {
+        let (what, row) = line.split_once(": ").ok_or("what the row shows")?;
+        let (path, written) = row.split_once(" => ").ok_or("a path")?;
+        reads_path(&rt, alloc, what, path, written)?;
     }
+    // (control bytes, which would not show in the table)
+    let what = "the lowest and the highest code";
+    reads_path(&rt, alloc, what, "./\\1\\\\127\\", "./\u{1}\u{7f}")?;
+    reads_path(&rt, alloc, "leading zeros", "./\\001\\", "./\u{1}")?;
     let mut long = Vec::from_slice(alloc, b"[a\np**d] addfile ./")?;
     for _ in 0..255 {
         long.push(b'x')?;
     }
     let mut written = Vec::from_slice(alloc, &long)?;
     written.push(b'\n')?;
-    reads(&rt, alloc, "a name of 255 bytes", &long, 274, &written)?;
-    Ok(())
+    reads(&rt, alloc, "a name of 255 bytes", &long, 274, &written)
 }
 
 #[test]

@@ -2,86 +2,82 @@
 
 use super::*;
 
+/// What the row shows; two patches; the same two after commuting, or `none`. `|` is a newline.
+const PAIRS: &str =
+    r"two directories: [a|p**d] adddir ./d| & [b|p**d] adddir ./e| => [b|p**d] adddir ./e|[a|p**d] adddir ./d|
+a patch that names the first: [a|p**d] adddir ./d| & [t|p**d] <|[a|p**d] |> {|}| => none
+a patch that names the second: [t|p**d] <|[z|p**d] |[a|p**d] |> {|}| & [a|p**d] adddir ./d| => none
+patches with other dependencies: [a|p**d] <|[z|p**d] |> {|}| & [b|p**d] <|[b|p**d] |> adddir ./e| => [b|p**d] <|[b|p**d] |> adddir ./e|[a|p**d] <|[z|p**d] |> {|}|
+a hunk above a hunk: [m|p**d] hunk ./f 1|+x|+y| & [n|p**d] hunk ./f 7|-5|+five| => [n|p**d] hunk ./f 5|-5|+five|[m|p**d] hunk ./f 1|+x|+y|
+a move, and what is done where it leads: [m|p**d] move ./a ./b| & [n|p**d] hunk ./b 1|+x| => [n|p**d] hunk ./a 1|+x|[m|p**d] move ./a ./b|
+a directory and its removal: [a|p**d] adddir ./d| & [b|p**d] rmdir ./d| => none
+";
+
+/// The patch of a row.
+fn read_row<A: Allocator + Copy>(alloc: A, row: &str) -> Result<Named<A>, Fail> {
+    let text = bytes_of(alloc, row)?;
+    read(alloc, &text)
+}
+
+/// The canonical texts of two patches after commuting, or `none`.
+fn commuted<A: Allocator + Copy>(
+    alloc: A,
+    first: &Named<A>,
+    second: &Named<A>,
+) -> Result<Vec<u8, A>, Fail> {
+    let Some((second, first)) = commute_named(alloc, first, second)? else {
+        return bytes_of(alloc, "none");
+    };
+    let mut texts = canonical(alloc, &second)?;
+    texts.extend_from_slice(&canonical(alloc, &first)?)?;
+    Ok(texts)
+}
+
+/// What `commuted` finds for the two patches of a row.
+fn commuted_row<A: Allocator + Copy>(alloc: A, row: &str) -> Result<Vec<u8, A>, Fail> {
+    let (first, second) = row.split_once(" & ").ok_or("two patches")?;
+    let first = read_row(alloc, first)?;
+    let second = read_row(alloc, second)?;
+    commuted(alloc, &first, &second)
+}
+
 #[test]
 fn commutes(rt: HostRuntime) -> Result<(), Fail> {
     let alloc = rt.alloc();
-    for (what, first, second, answer) in [
-        (
-            "two directories",
-            "[a\np**d] adddir ./d\n",
-            "[b\np**d] adddir ./e\n",
-            "[b\np**d] adddir ./e\n[a\np**d] adddir ./d\n",
-        ),
-        (
-            "a patch that names the first",
-            "[a\np**d] adddir ./d\n",
-            "[t\np**d] <\n[a\np**d] \n> {\n}\n",
-            "",
-        ),
-        (
-            "a patch that names the second",
-            "[t\np**d] <\n[z\np**d] \n[a\np**d] \n> {\n}\n",
-            "[a\np**d] adddir ./d\n",
-            "",
-        ),
-        (
-            "patches with other dependencies",
-            "[a\np**d] <\n[z\np**d] \n> {\n}\n",
-            "[b\np**d] <\n[b\np**d] \n> adddir ./e\n",
-            "[b\np**d] <\n[b\np**d] \n> adddir ./e\n[a\np**d] <\n[z\np**d] \n> {\n}\n",
-        ),
-        (
-            "a hunk above a hunk",
-            "[m\np**d] hunk ./f 1\n+x\n+y\n",
-            "[n\np**d] hunk ./f 7\n-5\n+five\n",
-            "[n\np**d] hunk ./f 5\n-5\n+five\n[m\np**d] hunk ./f 1\n+x\n+y\n",
-        ),
-        (
-            "a move, and what is done where it leads",
-            "[m\np**d] move ./a ./b\n",
-            "[n\np**d] hunk ./b 1\n+x\n",
-            "[n\np**d] hunk ./a 1\n+x\n[m\np**d] move ./a ./b\n",
-        ),
-        (
-            "a directory and its removal",
-            "[a\np**d] adddir ./d\n",
-            "[b\np**d] rmdir ./d\n",
-            "",
-        ),
-    ] {
-        let found = match commute_named(alloc, &read(alloc, first)?, &read(alloc, second)?)? {
-            None => Vec::new(alloc),
-            Some((y, x)) => {
-                let mut both = canonical(alloc, &y)?;
-                both.extend_from_slice(&canonical(alloc, &x)?)?;
-                both
-            }
-        };
-        assert_eq!(rt; found.as_slice(), answer.as_bytes(), "{what}");
+    for line in PAIRS.lines() {
+        let (what, row) = line.split_once(": ").ok_or("what the row shows")?;
+        let (row, answer) = row.split_once(" => ").ok_or("an answer")?;
+        let found = commuted_row(alloc, row)?;
+        let answer = bytes_of(alloc, answer)?;
+        assert_eq!(rt; found.as_slice(), answer.as_slice(), "{what}");
     }
     Ok(())
 }
 
+/// The canonical text of a patch with all parts.
+const WHOLE: &str =
+    "[a\np**d\n log\n] <\n[b\np**d] \n[c\np**d] \n> {\nadddir ./d\nhunk ./f 2\n-x\n+y\n}\n";
+
 #[test]
-fn copies_and_replaces(rt: HostRuntime) -> Result<(), Fail> {
+fn copies(rt: HostRuntime) -> Result<(), Fail> {
     let alloc = rt.alloc();
-    let text =
-        "[a\np**d\n log\n] <\n[b\np**d] \n[c\np**d] \n> {\nadddir ./d\nhunk ./f 2\n-x\n+y\n}\n";
-    let patch = read(alloc, text)?;
-    let mut copy = patch.copy_into(alloc)?;
-    assert_eq!(rt;
-        canonical(alloc, &copy)?.as_slice(),
-        text.as_bytes(),
-        "a copy"
-    );
-    assert!(rt;
-        copy.names(read(alloc, "[b\np**d]")?.info()),
-        "a dependency is named"
-    );
+    let patch = read(alloc, WHOLE.as_bytes())?;
+    let copy = patch.copy_into(alloc)?;
+    let text = canonical(alloc, &copy)?;
+    assert_eq!(rt; text.as_slice(), WHOLE.as_bytes(), "a copy");
+    let named = read(alloc, b"[b\np**d]")?;
+    assert!(rt; copy.names(named.info()), "a dependency is named");
     assert!(rt; !copy.names(patch.info()), "its own information is not");
-    let taken = copy.replace_prims(Vec::new(alloc));
+    Ok(())
+}
+
+#[test]
+fn replaces(rt: HostRuntime) -> Result<(), Fail> {
+    let alloc = rt.alloc();
+    let mut patch = read(alloc, WHOLE.as_bytes())?;
+    let taken = patch.replace_prims(Vec::new(alloc));
     assert_eq!(rt; taken.len(), 2, "the primitives that were taken out");
-    assert_eq!(rt; copy.prims().len(), 0, "the primitives in their place");
-    assert_eq!(rt; copy.deps().len(), 2, "the dependencies stay");
+    assert_eq!(rt; patch.prims().len(), 0, "the primitives in their place");
+    assert_eq!(rt; patch.deps().len(), 2, "the dependencies stay");
     Ok(())
 }
