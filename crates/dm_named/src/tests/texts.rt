@@ -35,7 +35,7 @@ a dot behind a dot: ./.a/..b => ./.a/..b
 fn reads_and_writes(rt: HostRuntime) -> Result<(), Fail> {
     let alloc = rt.alloc();
     reads_rows(&rt, alloc, TEXTS)?;
-    // (a carriage return and a tab, which would not show in the table)
+    // A carriage return and a tab would not show in the table.
     let what = "a line that ends in a carriage return";
     let text = b"[m\np**20240101000000] hunk ./f 1\r\n+x\r\n";
     let written = b"[m\np**20240101000000] hunk ./f 1\n+x\r\n";
@@ -68,7 +68,7 @@ fn reads_escapes(rt: HostRuntime) -> Result<(), Fail> {
         let (path, written) = row.split_once(" => ").ok_or("a path")?;
         reads_path(&rt, alloc, what, path, written)?;
     }
-    // (control bytes, which would not show in the table)
+    // Control bytes would not show in the table.
     let what = "the lowest and the highest code";
     reads_path(&rt, alloc, what, "./\\1\\\\127\\", "./\u{1}\u{7f}")?;
     reads_path(&rt, alloc, "leading zeros", "./\\001\\", "./\u{1}")?;
