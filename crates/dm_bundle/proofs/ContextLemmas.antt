@@ -1,7 +1,7 @@
 -- The context, information by information.
 use Rattle.std.proofs.Common.{◌≡◌, ◌≢◌, ℕ, List, [], ◌∷◌, ◌++◌, subst}
 use Rattle.std.specs.Prelude.{Contains}
-use Rattle.dm_info.specs.Parts.{Parts}
+use Rattle.dm_info.specs.PatchInfo.{PatchInfo}
 use Rattle.dm_info.specs.Spelling.{Stands}
 use Rattle.dm_named.specs.Many.{Many}
 use Rattle.dm_named.specs.Words.{skipped, Word}
@@ -10,18 +10,18 @@ use Rattle.dm_named.specs.declared.fault.FaultKind.{FaultKind}
 use Rattle.dm_named.proofs.WordLemmas.{one_word}
 use Rattle.dm_named.proofs.ManyLemmas.{many_more}
 use Rattle.dm_bundle.specs.Patches.{SameMembers}
-use Rattle.dm_bundle.specs.Context.{context_word, ContextWord, Apart, Context}
-use Rattle.dm_bundle.specs.Faults.{KnownFault, doubled, in_info, ContextFault}
+use Rattle.dm_bundle.specs.Context.{context_word, ContextWord, AreDisjoint, Context}
+use Rattle.dm_bundle.specs.Faults.{ContextInfoFaultAt, doubled, in_info, ContextFaultAt}
 use Rattle.dm_bundle.proofs.Members.{apart_more}
 
 -- informations of which none is known account for the text up to the place, with the white space before it
-pub record ReadSoFar (known : List Parts) (text : List ℕ) (infos : List Parts) (here : List ℕ) : Type 0 where
+pub record ReadSoFar (known : List PatchInfo) (text : List ℕ) (infos : List PatchInfo) (here : List ℕ) : Type 0 where
   pub mid : List ℕ
   pub read : Many NextInfo text infos mid
-  pub apart : Apart known infos
+  pub apart : AreDisjoint known infos
   pub place : here ≡ skipped mid
 
-pub one_more : (known : List Parts) (text : List ℕ) (infos : List Parts) (here : List ℕ) (i : Parts) (after next : List ℕ) → ReadSoFar known text infos here → Stands here i after → (Contains known i → ⊥) → next ≡ skipped after → ReadSoFar known text (infos ++ i ∷ []) next
+pub one_more : (known : List PatchInfo) (text : List ℕ) (infos : List PatchInfo) (here : List ℕ) (i : PatchInfo) (after next : List ℕ) → ReadSoFar known text infos here → Stands here i after → (Contains known i → ⊥) → next ≡ skipped after → ReadSoFar known text (infos ++ i ∷ []) next
 one_more known text infos here i after next r s none e =
     record {
       mid = after;
@@ -32,14 +32,14 @@ one_more known text infos here i after next r s none e =
 
 -- ---- the set stands for the new patches
 
-pub same_context : (known new : List Parts) (text : List ℕ) (context : List Parts) → SameMembers known new → Context known text context → Context new text context
+pub same_context : (known new : List PatchInfo) (text : List ℕ) (context : List PatchInfo) → SameMembers known new → Context known text context → Context new text context
 same_context known new text context same c = record { rest = c.rest; read = c.read; ends = c.ends; apart = λ i h k. c.apart i ((same i).1 h) k }
 
-same_wrong : (kind : FaultKind) (known new : List Parts) (text here : List ℕ) → SameMembers known new → KnownFault kind known text here → KnownFault kind new text here
+same_wrong : (kind : FaultKind) (known new : List PatchInfo) (text here : List ℕ) → SameMembers known new → ContextInfoFaultAt kind known text here → ContextInfoFaultAt kind new text here
 same_wrong kind known new text here same (doubled k e d) = doubled k e (record { info = d.info; rest = d.rest; stands = d.stands; is_known = (same d.info).0 d.is_known })
 same_wrong kind known new text here same (in_info b f) = in_info b f
 
-pub same_fault : (kind : FaultKind) (known new : List Parts) (text here : List ℕ) → SameMembers known new → ContextFault kind known text here → ContextFault kind new text here
+pub same_fault : (kind : FaultKind) (known new : List PatchInfo) (text here : List ℕ) → SameMembers known new → ContextFaultAt kind known text here → ContextFaultAt kind new text here
 same_fault kind known new text here same f = record { infos = f.infos; mid = f.mid; read = f.read; apart = λ i h k. f.apart i ((same i).1 h) k; wrong = same_wrong kind known new (skipped f.mid) here same f.wrong }
 
 -- another word is not that of the context

@@ -3,26 +3,26 @@ use Rattle.std.proofs.Common.{ℕ, List, [], ◌∷◌, ◌++◌, drop, refl, sy
 use Rattle.std.specs.Prelude.{Contains}
 use Rattle.std.proofs.lemmas.List.{map-append}
 use Rattle.std.proofs.lemmas.List.Elements.{Contains-append_right}
-use Rattle.dm_info.specs.Parts.{Parts}
+use Rattle.dm_info.specs.PatchInfo.{PatchInfo}
 use Rattle.dm_info.specs.Spelling.{Stands}
 use Rattle.dm_info.proofs.SpellingLemmas.{one_info, stands_opens}
 use Rattle.dm_named.specs.Words.{skipped, Word, Begins}
 use Rattle.dm_named.specs.Many.{Many}
 use Rattle.dm_named.specs.Patches.{Patch, PatchText, NextInfo}
-use Rattle.dm_named.specs.Faults.{SaysNone}
+use Rattle.dm_named.specs.Faults.{ExcludesPatch}
 use Rattle.dm_named.specs.declared.fault.FaultKind.{FaultKind}
 use Rattle.dm_named.proofs.WordLemmas.{one_word}
 use Rattle.dm_named.proofs.ManyLemmas.{many_follows}
 use Rattle.dm_named.proofs.NoPatch.{no_info, no_patch}
 use Rattle.dm_bundle.specs.Patches.{infos_of, Distinct, NextPatch}
-use Rattle.dm_bundle.specs.Context.{context_word, ContextWord, Apart, Context}
+use Rattle.dm_bundle.specs.Context.{context_word, ContextWord, AreDisjoint, Context}
 use Rattle.dm_bundle.specs.Bundles.{Contents, Sections, BundleText}
-use Rattle.dm_bundle.specs.Faults.{DueFault, no_context, too_many, doubled, in_patch, no_memory, NewFault, KnownFault, in_info, ContextFault, BehindHeading, in_new, in_context, FaultAt, too_large, no_new_patches, behind_heading, Excludes}
+use Rattle.dm_bundle.specs.Faults.{DueFaultAt, no_context, too_many, doubled, in_patch, no_memory, NewPatchesFaultAt, ContextInfoFaultAt, in_info, ContextFaultAt, AfterHeadingFaultAt, in_new, in_context, FaultAt, too_large, no_new_patches, after_heading, ExcludesBundle}
 use Rattle.dm_bundle.proofs.Members.{here, distinct_at}
 use Rattle.dm_bundle.proofs.OneBundle.{one_heading, word_opens, patches_follow, one_patches}
 
 -- what is at fault is neither a further patch nor the word of the context
-no_due : (kind : FaultKind) (ps : List Patch) (text here : List ℕ) → SaysNone kind → DueFault kind (infos_of ps) text here
+no_due : (kind : FaultKind) (ps : List Patch) (text here : List ℕ) → ExcludesPatch kind → DueFaultAt kind (infos_of ps) text here
     → ((rest : List ℕ) → Word text context_word rest → ⊥) × ((p : Patch) (after : List ℕ) → PatchText text p after → (Contains (infos_of ps) p.info → ⊥) → ⊥)
 no_due kind ps text here k (no_context e h info word) = (word, λ p after t none. info (stands_opens text p.info t.after t.info))
 no_due kind ps text here k (too_many e h b n) = absurd (k.count e)
@@ -36,42 +36,42 @@ no_due kind ps text here k (in_patch b room none f) = (
 )
 no_due kind ps text here k (no_memory e) = absurd (k.memory e)
 
-no_further : (kind : FaultKind) (ps more : List Patch) (mid rest behind here : List ℕ) → SaysNone kind → DueFault kind (infos_of ps) (skipped mid) here → Many NextPatch mid more rest → ContextWord rest behind → Distinct (infos_of (ps ++ more)) → ⊥
+no_further : (kind : FaultKind) (ps more : List Patch) (mid rest behind here : List ℕ) → ExcludesPatch kind → DueFaultAt kind (infos_of ps) (skipped mid) here → Many NextPatch mid more rest → ContextWord rest behind → Distinct (infos_of (ps ++ more)) → ⊥
 no_further kind ps [] mid rest behind here k f r w d = (no_due kind ps (skipped mid) here k f).0 behind (subst (λ (t : List ℕ). ContextWord t behind) (sym r) w)
 no_further kind ps (p ∷ more) mid rest behind here k f r w d =
     (no_due kind ps (skipped mid) here k f).1 p r.0 r.1 (λ h. distinct_at (infos_of ps) p.info (infos_of more) (subst Distinct (map-append (λ (q : Patch). q.info) ps (p ∷ more)) d) h)
 
-no_new : (kind : FaultKind) (text here : List ℕ) → SaysNone kind → NewFault kind text here → (b : Contents) → Sections text b → ⊥
+no_new : (kind : FaultKind) (text here : List ℕ) → ExcludesPatch kind → NewPatchesFaultAt kind text here → (b : Contents) → Sections text b → ⊥
 no_new kind text here k f b s =
     let m = patches_follow text f.patches b.patches f.mid s.between s.behind f.read.read s.patches.read s.word in
     no_further kind f.patches m.0 f.mid s.between s.behind here k f.wrong m.2 s.word (subst (λ (ps : List Patch). Distinct (infos_of ps)) m.1 s.patches.distinct)
 
 -- ---- the context
 
-no_known : (kind : FaultKind) (new : List Parts) (text here : List ℕ) → SaysNone kind → KnownFault kind new text here → Begins 91 text × ((i : Parts) (after : List ℕ) → Stands text i after → (Contains new i → ⊥) → ⊥)
+no_known : (kind : FaultKind) (new : List PatchInfo) (text here : List ℕ) → ExcludesPatch kind → ContextInfoFaultAt kind new text here → Begins 91 text × ((i : PatchInfo) (after : List ℕ) → Stands text i after → (Contains new i → ⊥) → ⊥)
 no_known kind new text here k (doubled e h d) = (stands_opens text d.info d.rest d.stands, λ i after s none. none (subst (Contains new) (one_info text d.info i d.rest after d.stands s).0 d.is_known))
 no_known kind new text here k (in_info b f) = (b, λ i after s none. no_info kind text here k f i after s)
 
-apart_at : (new is : List Parts) (i : Parts) (js : List Parts) → Apart new (is ++ i ∷ js) → Contains new i → ⊥
+apart_at : (new is : List PatchInfo) (i : PatchInfo) (js : List PatchInfo) → AreDisjoint new (is ++ i ∷ js) → Contains new i → ⊥
 apart_at new is i js a h = a i h (Contains-append_right is (i ∷ js) i (here i i js refl))
 
-no_more : (kind : FaultKind) (new is more : List Parts) (mid rest here : List ℕ) → SaysNone kind → KnownFault kind new (skipped mid) here → Many NextInfo mid more rest → (Begins 91 (skipped rest) → ⊥) → Apart new (is ++ more) → ⊥
+no_more : (kind : FaultKind) (new is more : List PatchInfo) (mid rest here : List ℕ) → ExcludesPatch kind → ContextInfoFaultAt kind new (skipped mid) here → Many NextInfo mid more rest → (Begins 91 (skipped rest) → ⊥) → AreDisjoint new (is ++ more) → ⊥
 no_more kind new is [] mid rest here k f r ends a = ends (subst (λ (t : List ℕ). Begins 91 (skipped t)) r (no_known kind new (skipped mid) here k f).0)
 no_more kind new is (i ∷ more) mid rest here k f r ends a = (no_known kind new (skipped mid) here k f).1 i r.0 r.1 (apart_at new is i more a)
 
-no_context_text : (kind : FaultKind) (new : List Parts) (text here : List ℕ) → SaysNone kind → ContextFault kind new text here → (context : List Parts) → Context new text context → ⊥
+no_context_text : (kind : FaultKind) (new : List PatchInfo) (text here : List ℕ) → ExcludesPatch kind → ContextFaultAt kind new text here → (context : List PatchInfo) → Context new text context → ⊥
 no_context_text kind new text here k f context c =
     let m = many_follows NextInfo (λ t i j r u x y. one_info (skipped t) i j r u x y) text f.infos context f.mid c.rest f.read c.read (λ i after x. c.ends (stands_opens (skipped c.rest) i after x)) in
-    no_more kind new f.infos m.0 f.mid c.rest here k f.wrong m.2 c.ends (subst (Apart new) m.1 c.apart)
+    no_more kind new f.infos m.0 f.mid c.rest here k f.wrong m.2 c.ends (subst (AreDisjoint new) m.1 c.apart)
 
-pub no_sections : (kind : FaultKind) (text here : List ℕ) → SaysNone kind → BehindHeading kind text here → (b : Contents) → Sections text b → ⊥
+pub no_sections : (kind : FaultKind) (text here : List ℕ) → ExcludesPatch kind → AfterHeadingFaultAt kind text here → (b : Contents) → Sections text b → ⊥
 no_sections kind text here k (in_new f) b s = no_new kind text here k f b s
 no_sections kind text here k (in_context patches between behind read few word f) b s =
     let same = one_patches text patches b.patches between s.between behind s.behind read.read s.patches.read word s.word in
     let words = one_word (skipped s.between) context_word context_word behind s.behind (subst (λ (t : List ℕ). ContextWord t behind) same.1 word) s.word in
-    no_context_text kind (infos_of b.patches) s.behind here k (subst (λ (t : List ℕ). ContextFault kind (infos_of b.patches) t here) words.1 (subst (λ (ps : List Patch). ContextFault kind (infos_of ps) behind here) same.0 f)) b.context s.context
+    no_context_text kind (infos_of b.patches) s.behind here k (subst (λ (t : List ℕ). ContextFaultAt kind (infos_of b.patches) t here) words.1 (subst (λ (ps : List Patch). ContextFaultAt kind (infos_of ps) behind here) same.0 f)) b.context s.context
 
-pub fault_excludes_bundle : (text : List ℕ) (kind : FaultKind) (at : ℕ) → Excludes kind → FaultAt text kind at → (b : Contents) → BundleText text b → ⊥
+pub fault_excludes_bundle : (text : List ℕ) (kind : FaultKind) (at : ℕ) → ExcludesBundle kind → FaultAt text kind at → (b : Contents) → BundleText text b → ⊥
 fault_excludes_bundle text kind at k (too_large e h n) b t = k.size e
 fault_excludes_bundle text kind at k (no_new_patches e h n none) b t = none t.new t.heading
-fault_excludes_bundle text kind at k (behind_heading m le n new heading f) b t = no_sections kind new (drop at text) (record { memory = k.memory; count = k.count }) f b (subst (λ (u : List ℕ). Sections u b) (one_heading text t.new new t.heading heading) t.sections)
+fault_excludes_bundle text kind at k (after_heading m le n new heading f) b t = no_sections kind new (drop at text) (record { memory = k.memory; count = k.count }) f b (subst (λ (u : List ℕ). Sections u b) (one_heading text t.new new t.heading heading) t.sections)

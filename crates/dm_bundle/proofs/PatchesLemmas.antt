@@ -4,22 +4,22 @@ use Rattle.std.specs.Prelude.{Contains}
 use Rattle.std.specs.List.{AllByRecursion}
 use Rattle.std.proofs.lemmas.List.{length-append}
 use Rattle.std.proofs.lemmas.List.Elements.{Contains-push_cases, Contains-append_left, Contains-push}
-use Rattle.dm_info.specs.Parts.{Parts}
+use Rattle.dm_info.specs.PatchInfo.{PatchInfo}
 use Rattle.dm_info.specs.Spelling.{Stands}
 use Rattle.dm_info.proofs.SpellingLemmas.{one_info, not_both}
 use Rattle.dm_named.specs.Words.{skipped, Begins}
 use Rattle.dm_named.specs.Patches.{Patch, PatchText}
-use Rattle.dm_named.specs.Faults.{InfoFault, info}
+use Rattle.dm_named.specs.Faults.{InfoFaultAt, info}
 use Rattle.dm_named.specs.declared.fault.FaultKind.{FaultKind}
 use Rattle.dm_named.specs.declared.fault.FaultKind.TheVariants as K
 use Rattle.dm_named.proofs.ManyLemmas.{many_more}
 use Rattle.dm_bundle.specs.Patches.{infos_of, Distinct, SameMembers, NextPatch, NewPatches, AreFew}
-use Rattle.dm_bundle.specs.Faults.{IsDoubled, DueFault, in_patch, no_memory, NewFault}
+use Rattle.dm_bundle.specs.Faults.{IsDoubled, DueFaultAt, in_patch, no_memory, NewPatchesFaultAt}
 use Rattle.dm_bundle.proofs.Members.{distinct_more, infos_more}
 
-pub same_more : (s n is : List Parts) (k : Parts) → SameMembers s is → ((i : Parts) → Contains n i ↔ (Contains s i ⊎ (i ≡ k))) → SameMembers n (is ++ k ∷ [])
+pub same_more : (s n is : List PatchInfo) (k : PatchInfo) → SameMembers s is → ((i : PatchInfo) → Contains n i ↔ (Contains s i ⊎ (i ≡ k))) → SameMembers n (is ++ k ∷ [])
 same_more s n is k same noted i = (
-  λ h. elim ((noted i).0 h) [ inl m ↦ Contains-append_left is (k ∷ []) i ((same i).0 m) | inr e ↦ subst (λ (j : Parts). Contains (is ++ k ∷ []) j) (sym e) (Contains-push is k) ],
+  λ h. elim ((noted i).0 h) [ inl m ↦ Contains-append_left is (k ∷ []) i ((same i).0 m) | inr e ↦ subst (λ (j : PatchInfo). Contains (is ++ k ∷ []) j) (sym e) (Contains-push is k) ],
   λ h. (noted i).1 (elim (Contains-push_cases is k i h) [ inl m ↦ inl ((same i).1 m) | inr e ↦ inr (sym e) ]),
 )
 
@@ -42,7 +42,7 @@ pub few_more : (ps : List Patch) (p : Patch) → AreFew ps → length ps < 1000 
 few_more ps p few room prims = record { count = omega (arith, room, length-append ps (p ∷ [])); prims = few_all ps p few.prims prims }
 
 -- a fault of the information where a patch begins
-pub info_due : (kind : FaultKind) (known : List Parts) (text here : List ℕ) → Begins 91 text → length known < 1000 → InfoFault kind text here → DueFault kind known text here
+pub info_due : (kind : FaultKind) (known : List PatchInfo) (text here : List ℕ) → Begins 91 text → length known < 1000 → InfoFaultAt kind text here → DueFaultAt kind known text here
 info_due K.BadInfo known text here b room f = in_patch b room (λ d. f.1.none d.info d.rest d.stands) (info f)
 info_due K.Inverted known text here b room f = in_patch b room (λ d. not_both text d.info d.rest d.stands f.1) (info f)
 info_due K.NoMemory known text here b room f = no_memory refl
@@ -60,12 +60,12 @@ info_due K.Doubled known text here b room f = elim f [ ]
 info_due K.TooMany known text here b room f = elim f [ ]
 
 -- the information that stands in front of a named patch is its own
-pub one_front : (text : List ℕ) (i : Parts) (rest : List ℕ) (p : Patch) (after : List ℕ) → Stands text i rest → PatchText text p after → i ≡ p.info
+pub one_front : (text : List ℕ) (i : PatchInfo) (rest : List ℕ) (p : Patch) (after : List ℕ) → Stands text i rest → PatchText text p after → i ≡ p.info
 one_front text i rest p after s t = (one_info text i p.info rest t.after s t.info).0
 
 -- an information that is new is no double
-pub not_doubled : (known : List Parts) (text : List ℕ) (i : Parts) (rest : List ℕ) → Stands text i rest → (Contains known i → ⊥) → IsDoubled known text → ⊥
+pub not_doubled : (known : List PatchInfo) (text : List ℕ) (i : PatchInfo) (rest : List ℕ) → Stands text i rest → (Contains known i → ⊥) → IsDoubled known text → ⊥
 not_doubled known text i rest s none d = none (subst (Contains known) (one_info text d.info i d.rest rest d.stands s).0 d.is_known)
 
-pub new_wrong : (kind : FaultKind) (text mid next here : List ℕ) (ps : List Patch) → NewPatches text ps mid → AreFew ps → next ≡ skipped mid → DueFault kind (infos_of ps) next here → NewFault kind text here
-new_wrong kind text mid next here ps r few e w = record { patches = ps; mid = mid; read = r; few = few; wrong = subst (λ (t : List ℕ). DueFault kind (infos_of ps) t here) e w }
+pub new_wrong : (kind : FaultKind) (text mid next here : List ℕ) (ps : List Patch) → NewPatches text ps mid → AreFew ps → next ≡ skipped mid → DueFaultAt kind (infos_of ps) next here → NewPatchesFaultAt kind text here
+new_wrong kind text mid next here ps r few e w = record { patches = ps; mid = mid; read = r; few = few; wrong = subst (λ (t : List ℕ). DueFaultAt kind (infos_of ps) t here) e w }

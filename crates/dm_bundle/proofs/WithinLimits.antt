@@ -2,7 +2,7 @@
 use Rattle.std.proofs.Common.{◌≡◌, ◌≢◌, ◌≤◌, ◌<◌, ℕ, List, [], ◌∷◌, ◌++◌, length, drop, refl, sym, subst, arith}
 use Rattle.std.specs.List.{AllByRecursion}
 use Rattle.std.proofs.lemmas.List.{length-append}
-use Rattle.dm_info.specs.Parts.{Parts}
+use Rattle.dm_info.specs.PatchInfo.{PatchInfo}
 use Rattle.dm_named.specs.Many.{Many}
 use Rattle.dm_named.specs.Words.{skipped}
 use Rattle.dm_named.specs.Patches.{Patch}
@@ -12,7 +12,7 @@ use Rattle.dm_named.proofs.WithinCount.{past_patch}
 use Rattle.dm_bundle.specs.Patches.{infos_of, NextPatch, AreFew}
 use Rattle.dm_bundle.specs.Context.{ContextWord}
 use Rattle.dm_bundle.specs.Bundles.{Contents, Sections, BundleText}
-use Rattle.dm_bundle.specs.Faults.{Fits, DueFault, no_context, too_many, doubled, in_patch, no_memory, KnownFault, in_info, BehindHeading, in_new, in_context, FaultAt, too_large, no_new_patches, behind_heading}
+use Rattle.dm_bundle.specs.Faults.{IsWithinSize, DueFaultAt, no_context, too_many, doubled, in_patch, no_memory, ContextInfoFaultAt, in_info, AfterHeadingFaultAt, in_new, in_context, FaultAt, too_large, no_new_patches, after_heading}
 use Rattle.dm_bundle.proofs.OneBundle.{one_heading, word_opens, patches_follow}
 use Rattle.dm_bundle.proofs.PatchesLemmas.{count_map}
 use Rattle.dm_bundle.proofs.NoBundle.{no_sections, fault_excludes_bundle}
@@ -22,7 +22,7 @@ few_at [] p more a = a.0
 few_at (q ∷ ps) p more a = few_at ps p more a.1
 
 -- what is one too many goes past what may be there
-not_due : (ps more : List Patch) (mid rest behind here : List ℕ) → DueFault K.TooMany (infos_of ps) (skipped mid) here → Many NextPatch mid more rest → ContextWord rest behind → AreFew (ps ++ more) → ⊥
+not_due : (ps more : List Patch) (mid rest behind here : List ℕ) → DueFaultAt K.TooMany (infos_of ps) (skipped mid) here → Many NextPatch mid more rest → ContextWord rest behind → AreFew (ps ++ more) → ⊥
 not_due ps more mid rest behind here (no_context e h i w) r c few = cc e
 not_due ps [] mid rest behind here (too_many e h b n) r c few = word_opens (skipped mid) behind (subst (λ (t : List ℕ). ContextWord t behind) (sym r) c) b
 not_due ps (p ∷ more) mid rest behind here (too_many e h b n) r c few = let count = few.count in omega (arith, n, count, count_map ps, length-append ps (p ∷ more))
@@ -34,11 +34,11 @@ not_due ps (p ∷ more) mid rest behind here (in_patch b room none f) r c few =
     omega (arith, past, least)
 not_due ps more mid rest behind here (no_memory e) r c few = cc e
 
-not_known : (known : List Parts) (text here : List ℕ) → KnownFault K.TooMany known text here → ⊥
+not_known : (known : List PatchInfo) (text here : List ℕ) → ContextInfoFaultAt K.TooMany known text here → ⊥
 not_known known text here (doubled e h d) = cc e
 not_known known text here (in_info b f) = f
 
-not_behind : (text here : List ℕ) → BehindHeading K.TooMany text here → (b : Contents) → Sections text b → AreFew b.patches → ⊥
+not_behind : (text here : List ℕ) → AfterHeadingFaultAt K.TooMany text here → (b : Contents) → Sections text b → AreFew b.patches → ⊥
 not_behind text here (in_new f) b s few =
     let m = patches_follow text f.patches b.patches f.mid s.between s.behind f.read.read s.patches.read s.word in
     not_due f.patches m.0 f.mid s.between s.behind here f.wrong m.2 s.word (subst AreFew m.1 few)
@@ -47,20 +47,20 @@ not_behind text here (in_context patches between behind read count word f) b s f
 not_too_many : (text : List ℕ) (at : ℕ) → FaultAt text K.TooMany at → (b : Contents) → BundleText text b → AreFew b.patches → ⊥
 not_too_many text at (too_large e h n) b t few = cc e
 not_too_many text at (no_new_patches e h n none) b t few = cc e
-not_too_many text at (behind_heading m le n new heading f) b t few = not_behind new (drop at text) f b (subst (λ (u : List ℕ). Sections u b) (one_heading text t.new new t.heading heading) t.sections) few
+not_too_many text at (after_heading m le n new heading f) b t few = not_behind new (drop at text) f b (subst (λ (u : List ℕ). Sections u b) (one_heading text t.new new t.heading heading) t.sections) few
 
-not_too_large : (text : List ℕ) (at : ℕ) → FaultAt text K.TooLarge at → (b : Contents) → BundleText text b → Fits text → ⊥
+not_too_large : (text : List ℕ) (at : ℕ) → FaultAt text K.TooLarge at → (b : Contents) → BundleText text b → IsWithinSize text → ⊥
 not_too_large text at (too_large e h n) b t fits = omega (arith, n, fits)
 not_too_large text at (no_new_patches e h n none) b t fits = cc e
-not_too_large text at (behind_heading m le n new heading f) b t fits =
+not_too_large text at (after_heading m le n new heading f) b t fits =
     no_sections K.TooLarge new (drop at text) (record { memory = λ e. cc; count = λ e. cc }) f b (subst (λ (u : List ℕ). Sections u b) (one_heading text t.new new t.heading heading) t.sections)
 
 not_memory : (text : List ℕ) (at : ℕ) → FaultAt text K.NoMemory at → ⊥
 not_memory text at (too_large e h n) = cc e
 not_memory text at (no_new_patches e h n none) = cc e
-not_memory text at (behind_heading m le n new heading f) = m refl
+not_memory text at (after_heading m le n new heading f) = m refl
 
-pub no_fault : (text : List ℕ) (kind : FaultKind) (at : ℕ) → FaultAt text kind at → (b : Contents) → BundleText text b → Fits text → AreFew b.patches → ⊥
+pub no_fault : (text : List ℕ) (kind : FaultKind) (at : ℕ) → FaultAt text kind at → (b : Contents) → BundleText text b → IsWithinSize text → AreFew b.patches → ⊥
 no_fault text K.TooLarge at f b t fits few = not_too_large text at f b t fits
 no_fault text K.TooMany at f b t fits few = not_too_many text at f b t few
 no_fault text K.NoMemory at f b t fits few = not_memory text at f
@@ -70,5 +70,5 @@ memory_unless : (kind : FaultKind) → (kind ≢ K.NoMemory → ⊥) → kind �
 memory_unless K.NoMemory h = refl
 memory_unless kind h = absurd (h (λ e. cc))
 
-pub memory_alone : (text : List ℕ) (kind : FaultKind) (at : ℕ) → (kind ≢ K.NoMemory → FaultAt text kind at) → (b : Contents) → BundleText text b → Fits text → AreFew b.patches → kind ≡ K.NoMemory
+pub memory_alone : (text : List ℕ) (kind : FaultKind) (at : ℕ) → (kind ≢ K.NoMemory → FaultAt text kind at) → (b : Contents) → BundleText text b → IsWithinSize text → AreFew b.patches → kind ≡ K.NoMemory
 memory_alone text kind at f b t fits few = memory_unless kind (λ other. no_fault text kind at (f other) b t fits few)

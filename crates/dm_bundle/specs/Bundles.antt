@@ -1,21 +1,21 @@
 -- What a bundle is, and the texts that stand for it (Darcs manual, "darcs send"; Darcs.Patch.Bundle).
 use Rattle.std.specs.Prelude.{ℕ, List}
 use Rattle.std.specs.List.{AllByRecursion}
-use Rattle.dm_info.specs.Parts.{Parts, IsInfo}
+use Rattle.dm_info.specs.PatchInfo.{PatchInfo, IsInfo}
 use Rattle.dm_named.specs.Patches.{Patch, IsGoodPatch}
 use Rattle.dm_bundle.specs.Heading.{Heading}
 use Rattle.dm_bundle.specs.Patches.{infos_of, Distinct, NewPatches}
-use Rattle.dm_bundle.specs.Context.{ContextWord, Apart, Context}
+use Rattle.dm_bundle.specs.Context.{ContextWord, AreDisjoint, Context}
 
 -- the new patches, oldest first, and the informations of the context
 pub record Contents : Type 0 where
   pub patches : List Patch
-  pub context : List Parts
+  pub context : List PatchInfo
 
 -- no information is twice among the new patches, nor both there and in the context
-pub record HasNoDoubles (patches : List Patch) (context : List Parts) : Type 0 where
+pub record HasNoDoubles (patches : List Patch) (context : List PatchInfo) : Type 0 where
   pub distinct : Distinct (infos_of patches)
-  pub apart : Apart (infos_of patches) context
+  pub apart : AreDisjoint (infos_of patches) context
 
 -- what a bundle may hold
 pub record IsGoodBundle (b : Contents) : Type 0 where

@@ -1,6 +1,6 @@
 -- The context of a bundle: the informations that it rests on.
 use Rattle.std.specs.Prelude.{ℕ, List, codes, Contains}
-use Rattle.dm_info.specs.Parts.{Parts}
+use Rattle.dm_info.specs.PatchInfo.{PatchInfo}
 use Rattle.dm_named.specs.Many.{Many}
 use Rattle.dm_named.specs.Words.{skipped, Begins, Word}
 use Rattle.dm_named.specs.Patches.{NextInfo}
@@ -14,12 +14,12 @@ abbrev pub ContextWord : List ℕ → List ℕ → Type 0
 ContextWord text rest = Word (skipped text) context_word rest
 
 -- no information is in both
-abbrev pub Apart : List Parts → List Parts → Type 0
-Apart new context = (i : Parts) → Contains new i → Contains context i → ⊥
+abbrev pub AreDisjoint : List PatchInfo → List PatchInfo → Type 0
+AreDisjoint new context = (i : PatchInfo) → Contains new i → Contains context i → ⊥
 
 -- as many informations as stand there, each behind white space, and none of a new patch; what follows them is left unread
-pub record Context (new : List Parts) (text : List ℕ) (context : List Parts) : Type 0 where
+pub record Context (new : List PatchInfo) (text : List ℕ) (context : List PatchInfo) : Type 0 where
   pub rest : List ℕ
   pub read : Many NextInfo text context rest
   pub ends : Begins 91 (skipped rest) → ⊥
-  pub apart : Apart new context
+  pub apart : AreDisjoint new context

@@ -1,23 +1,23 @@
 -- The new patches of a bundle, oldest first.
 use Rattle.std.specs.Prelude.{◌≤◌, ◌↔◌, ℕ, List, [], ◌∷◌, length, map, Contains}
 use Rattle.std.specs.List.{AllByRecursion}
-use Rattle.dm_info.specs.Parts.{Parts}
+use Rattle.dm_info.specs.PatchInfo.{PatchInfo}
 use Rattle.dm_named.specs.Many.{Many}
 use Rattle.dm_named.specs.Words.{skipped}
 use Rattle.dm_named.specs.Patches.{Patch, PatchText}
 
 -- the informations of patches
-abbrev pub infos_of : List Patch → List Parts
+abbrev pub infos_of : List Patch → List PatchInfo
 infos_of patches = map (λ p. p.info) patches
 
 -- no information is twice among these
-abbrev pub Distinct : List Parts → Type 0
+abbrev pub Distinct : List PatchInfo → Type 0
 Distinct [] = Unit {0}
 Distinct (i ∷ is) = (Contains is i → ⊥) × Distinct is
 
 -- what is in one of these is in the other
-abbrev pub SameMembers : List Parts → List Parts → Type 0
-SameMembers xs ys = (i : Parts) → Contains xs i ↔ Contains ys i
+abbrev pub SameMembers : List PatchInfo → List PatchInfo → Type 0
+SameMembers xs ys = (i : PatchInfo) → Contains xs i ↔ Contains ys i
 
 -- a named patch behind white space
 abbrev pub NextPatch : List ℕ → Patch → List ℕ → Type 0

@@ -2,7 +2,7 @@
 
 ghost use Rattle.std.specs.Prelude.{◌≡◌, map, Contains, MatchBool, IfOk, IfErr};
 ghost use Rattle.dm_bundle.specs.Patches.{infos_of, Distinct};
-ghost use Rattle.dm_bundle.specs.Context.{Apart};
+ghost use Rattle.dm_bundle.specs.Context.{AreDisjoint};
 ghost use Rattle.dm_bundle.specs.Bundles.{Contents, HasNoDoubles};
 
 use dm_info::Info;
@@ -107,7 +107,7 @@ fn are_doubled<A: Allocator>(patches: &[Named<A>]) -> bool
 
 /// Whether an information of the context is that of a new patch.
 fn are_mixed<A: Allocator>(patches: &[Named<A>], context: &[Info<A>]) -> bool
-    ensures { MatchBool result (Apart (infos_of patches.now) context.now → ⊥) (Apart (infos_of patches.now) context.now) }
+    ensures { MatchBool result (AreDisjoint (infos_of patches.now) context.now → ⊥) (AreDisjoint (infos_of patches.now) context.now) }
 {
     for info in context {
         if is_among(patches, info) {

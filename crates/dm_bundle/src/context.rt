@@ -2,7 +2,7 @@
 
 ghost use Rattle.std.specs.Prelude.{◌≡◌, ◌≢◌, ◌≤◌, length, drop, IfOk, IfErr, MatchBool};
 ghost use Rattle.dm_bundle.specs.Context.{context_word, Context};
-ghost use Rattle.dm_bundle.specs.Faults.{ContextFault};
+ghost use Rattle.dm_bundle.specs.Faults.{ContextFaultAt};
 
 use crate::known::Known;
 use dm_info::Info;
@@ -26,7 +26,7 @@ pub(crate) fn context_at<A: Allocator + Copy>(
 ) -> Result<Vec<Info<A>, A>, ReadFault>
     requires { start ≤ length text.now }
     ensures ok { IfOk result (λ infos. Context known.now (drop start text.now) infos.items) }
-    ensures err { IfErr result (λ e. ContextFault e.kind known.now (drop start text.now) (drop e.at text.now)) }
+    ensures err { IfErr result (λ e. ContextFaultAt e.kind known.now (drop start text.now) (drop e.at text.now)) }
     ensures place { IfErr result (λ e. e.at ≤ length text.now) }
 {
     let mut infos = Vec::new(alloc);

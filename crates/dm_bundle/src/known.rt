@@ -1,7 +1,7 @@
 //! The informations of new patches, in the order of their comparison.
 
 ghost use Rattle.std.specs.Prelude.{◌≡◌, ◌⊎◌, ◌↔◌, [], Contains, MatchBool, IfOk, OnOk};
-ghost use Rattle.dm_info.specs.Parts.{Parts};
+ghost use Rattle.dm_info.specs.PatchInfo.{PatchInfo};
 
 use dm_info::Info;
 use std::alloc::{AllocError, Allocator};
@@ -16,9 +16,9 @@ pub(crate) struct Known<A: Allocator> {
 
 impl<A: Allocator> Model for Known<A> {
     ghost use Rattle.std.specs.Prelude.{List};
-    ghost use Rattle.dm_info.specs.Parts.{Parts};
+    ghost use Rattle.dm_info.specs.PatchInfo.{PatchInfo};
 
-    ghost Value = { List Parts };
+    ghost Value = { List PatchInfo };
 
     ghost view = { λ k. k.infos.keys };
 }
@@ -42,7 +42,7 @@ impl<A: Allocator + Copy> Known<A> {
     /// Notes an information, and answers whether it was new.
     pub(crate) fn insert(&mut self, info: Info<A>) -> Result<bool, AllocError>
         ensures is_new { IfOk result (λ is_new. MatchBool is_new (Contains self.old info → ⊥) (Contains self.old info)) }
-        ensures noted { OnOk result ((i : Parts) → Contains self.new i ↔ (Contains self.old i ⊎ (i ≡ info))) }
+        ensures noted { OnOk result ((i : PatchInfo) → Contains self.new i ↔ (Contains self.old i ⊎ (i ≡ info))) }
     {
         let is_new = self.infos.insert(info)?;
         Ok(is_new)

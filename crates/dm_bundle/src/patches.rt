@@ -4,7 +4,7 @@ ghost use Rattle.std.specs.Prelude.{◌≡◌, ◌≤◌, ◌<◌, [], ◌∷◌
 ghost use Rattle.dm_named.specs.Words.{skipped, Begins};
 ghost use Rattle.dm_named.specs.Patches.{PatchText};
 ghost use Rattle.dm_bundle.specs.Patches.{infos_of, SameMembers, NewPatches, AreFew};
-ghost use Rattle.dm_bundle.specs.Faults.{DueFault, NewFault};
+ghost use Rattle.dm_bundle.specs.Faults.{DueFaultAt, NewPatchesFaultAt};
 
 use crate::known::Known;
 use dm_named::text::{begins_at, info_at, skip};
@@ -40,7 +40,7 @@ fn patch_at<A: Allocator + Copy>(
     ensures few { IfOk result (λ x. length x.0.prims ≤ 10000) }
     ensures is_new { IfOk result (λ x. Contains (infos_of patches.now) x.0.info → ⊥) }
     ensures noted { IfOk result (λ x. SameMembers known.new (infos_of patches.now ++ x.0.info ∷ [])) }
-    ensures err { IfErr result (λ e. DueFault e.kind (infos_of patches.now) (drop here text.now) (drop e.at text.now)) }
+    ensures err { IfErr result (λ e. DueFaultAt e.kind (infos_of patches.now) (drop here text.now) (drop e.at text.now)) }
     ensures place { IfErr result (λ e. here ≤ length text.now → e.at ≤ length text.now) }
 {
     if patches.len() >= MAX_PATCHES {
@@ -79,7 +79,7 @@ pub(crate) fn patches_at<A: Allocator + Copy>(
     ensures few { IfOk result (λ s. AreFew s.patches.items) }
     ensures closed { IfOk result (λ s. Begins 91 (skipped (drop s.end text.now)) → ⊥) }
     ensures within { IfOk result (λ s. s.end ≤ length text.now) }
-    ensures err { IfErr result (λ e. NewFault e.kind (drop start text.now) (drop e.at text.now)) }
+    ensures err { IfErr result (λ e. NewPatchesFaultAt e.kind (drop start text.now) (drop e.at text.now)) }
     ensures place { IfErr result (λ e. e.at ≤ length text.now) }
 {
     let mut patches = Vec::new(alloc);

@@ -3,7 +3,7 @@
 ghost use Rattle.std.specs.Prelude.{◌≡◌, ◌≢◌, ◌≤◌, ◌<◌, length, drop, MatchResult, IfOk, IfErr, IsErrOf};
 ghost use Rattle.dm_bundle.specs.Patches.{AreFew};
 ghost use Rattle.dm_bundle.specs.Bundles.{Contents, Sections, BundleText};
-ghost use Rattle.dm_bundle.specs.Faults.{Fits, HasNoHeading, BehindHeading, FaultAt, Excludes};
+ghost use Rattle.dm_bundle.specs.Faults.{IsWithinSize, HasNoHeading, AfterHeadingFaultAt, FaultAt, ExcludesBundle};
 
 use crate::bundle::Bundle;
 use crate::context::{context_at, is_context_word};
@@ -25,7 +25,7 @@ fn sections_at<A: Allocator + Copy>(
     requires { new ≤ length text.now }
     ensures ok { IfOk result (λ b. Sections (drop new text.now) b) }
     ensures few { IfOk result (λ b. AreFew b.patches) }
-    ensures err { IfErr result (λ e. BehindHeading e.kind (drop new text.now) (drop e.at text.now)) }
+    ensures err { IfErr result (λ e. AfterHeadingFaultAt e.kind (drop new text.now) (drop e.at text.now)) }
     ensures place { IfErr result (λ e. e.at ≤ length text.now) }
 {
     let Start {
@@ -80,12 +80,12 @@ pub fn read_bundle<A: Allocator + Copy>(alloc: A, text: &[u8]) -> Result<Bundle<
     // At most 1,000 new patches of at most 10,000 primitives.
     ensures few { IfOk result (λ b. AreFew b.patches) }
     // The bundle of a text within the limits is read, unless memory runs out.
-    ensures within_limits { (b : Contents) → BundleText text.now b → Fits text.now → AreFew b.patches
+    ensures within_limits { (b : Contents) → BundleText text.now b → IsWithinSize text.now → AreFew b.patches
         → MatchResult result (λ found. found ≡ b) (λ e. e.kind ≡ FaultKind.NoMemory) }
     // What is wrong, and where.
     ensures err { IfErr result (λ e. e.kind ≢ FaultKind.NoMemory → FaultAt text.now e.kind e.at) }
     // A text with a fault is no bundle's, unless it is too large or has too many parts.
-    ensures none { IfErr result (λ e. Excludes e.kind → (b : Contents) → BundleText text.now b → ⊥) }
+    ensures none { IfErr result (λ e. ExcludesBundle e.kind → (b : Contents) → BundleText text.now b → ⊥) }
     // These two answers take no memory.
     ensures too_large { 4194304 < length text.now → IsErrOf result (record { kind = FaultKind.TooLarge; at = 4194304 }) }
     ensures no_heading { length text.now ≤ 4194304 → HasNoHeading text.now → IsErrOf result (record { kind = FaultKind.NoNewPatches; at = length text.now }) }

@@ -2,7 +2,7 @@
 
 ghost use Rattle.std.specs.Prelude.{◌≡◌, ◌++◌, IfOk, OnOk};
 ghost use Rattle.std.specs.List.{AllByRecursion, flat_map};
-ghost use Rattle.dm_info.specs.Parts.{IsInfo};
+ghost use Rattle.dm_info.specs.PatchInfo.{IsInfo};
 ghost use Rattle.dm_named.specs.Patches.{IsGoodPatch};
 ghost use Rattle.dm_named.specs.Canonical.{info_line, patch_text};
 ghost use Rattle.dm_bundle.specs.Bundles.{IsGoodBundle, BundleText};

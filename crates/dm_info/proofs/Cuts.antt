@@ -4,7 +4,7 @@ use Rattle.std.proofs.lemmas.Bool.{eqb-true}
 use Rattle.memchr.specs.Find.{IsFirstByte}
 use Rattle.dm_info.specs.declared.fault.InfoReadFault.{InfoReadFault}
 use Rattle.dm_info.specs.declared.fault.InfoReadFault.TheVariants.{BadInfo}
-use Rattle.dm_info.specs.Parts.{Free}
+use Rattle.dm_info.specs.PatchInfo.{Free}
 use Rattle.dm_info.specs.Reading.{Cut, cut, onto}
 
 pub false_is : (b : Bool) → (b ≡ true → ⊥) → b ≡ false

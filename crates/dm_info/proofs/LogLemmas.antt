@@ -3,7 +3,7 @@ use Rattle.std.proofs.Common.{◌≡◌, ℕ, ◌==◌, ◌<◌, Bool, true, fal
 use Rattle.std.proofs.lemmas.List.{append-nil, length-append}
 use Rattle.dm_info.specs.declared.fault.InfoReadFault.{InfoReadFault}
 use Rattle.dm_info.specs.declared.fault.InfoReadFault.TheVariants.{BadInfo, Inverted, NoMemory}
-use Rattle.dm_info.specs.Parts.{is_newline}
+use Rattle.dm_info.specs.PatchInfo.{is_newline}
 use Rattle.dm_info.specs.Reading.{◌>>=◌, Fails, Lacks, Cut, cut, onto, log_from, new_line, more_line}
 use Rattle.dm_info.proofs.Cuts.{cut_takes, false_is}
 use Rattle.std.proofs.lemmas.Bool.{eqb-true}

@@ -4,7 +4,7 @@ use Rattle.std.proofs.lemmas.List.{drop-drop, drop_at, length-drop, length-appen
 use Rattle.std.proofs.lemmas.Bool.{cases_lt}
 use Rattle.dm_info.specs.declared.fault.InfoReadFault.{InfoReadFault}
 use Rattle.dm_info.specs.declared.fault.InfoReadFault.TheVariants.{BadInfo, Inverted, NoMemory}
-use Rattle.dm_info.specs.Parts.{Parts}
+use Rattle.dm_info.specs.PatchInfo.{PatchInfo}
 use Rattle.dm_info.specs.Spelling.{StandsFrom, NoneStands, StandsInverted}
 use Rattle.dm_info.specs.Reading.{Fails, info_at}
 use Rattle.dm_info.proofs.ReadingLemmas.{ok_pair, info_takes, info_again, inverted_takes, inverted_again}
@@ -21,18 +21,18 @@ rest_at text at own rest parts =
           rw (nil_from_length rest none) (drop_all (length text - 0) text (omega arith))
     ]
 
-pub placed : (text : List ℕ) (at : ℕ) (i : Parts) (rest : List ℕ) → info_at (drop at text) ≡ Ok (i, rest) → StandsFrom text at i (length text - length rest)
+pub placed : (text : List ℕ) (at : ℕ) (i : PatchInfo) (rest : List ℕ) → info_at (drop at text) ≡ Ok (i, rest) → StandsFrom text at i (length text - length rest)
 placed text at i rest e =
     let s = info_takes (drop at text) i rest e in
     record { within = omega arith; stands = rw (rest_at text at s.own rest s.parts) s }
 
-pub place_is : (text : List ℕ) (at : ℕ) (i j : Parts) (rest : List ℕ) (next : ℕ) → info_at (drop at text) ≡ Ok (i, rest) → StandsFrom text at j next → (j ≡ i) × (next ≡ length text - length rest)
+pub place_is : (text : List ℕ) (at : ℕ) (i j : PatchInfo) (rest : List ℕ) (next : ℕ) → info_at (drop at text) ≡ Ok (i, rest) → StandsFrom text at j next → (j ≡ i) × (next ≡ length text - length rest)
 place_is text at i j rest next e found =
     let same = ok_pair j i (drop next text) rest (sym (info_again (drop at text) j (drop next text) found.stands) ∙ e) in
     let within : next ≤ length text = found.within in
     (same.0, omega (arith, length-drop next text, ap length same.1))
 
-pub only_err : (e : InfoReadFault) (text : List ℕ) (at : ℕ) (j : Parts) (next : ℕ) → Fails e (info_at (drop at text)) → StandsFrom text at j next → e ≡ NoMemory
+pub only_err : (e : InfoReadFault) (text : List ℕ) (at : ℕ) (j : PatchInfo) (next : ℕ) → Fails e (info_at (drop at text)) → StandsFrom text at j next → e ≡ NoMemory
 only_err NoMemory text at j next f found = refl
 only_err BadInfo text at j next f found = absurd (let both = sym f ∙ info_again (drop at text) j (drop next text) found.stands in cc)
 only_err Inverted text at j next f found = absurd (let both = sym f ∙ info_again (drop at text) j (drop next text) found.stands in cc)
@@ -42,7 +42,7 @@ turned_err NoMemory text f s is = cc
 turned_err BadInfo text f s is = let both = sym f ∙ inverted_again text s in cc
 turned_err Inverted text f s is = cc
 
-pub turned_ok : (text : List ℕ) (i : Parts) (rest : List ℕ) → info_at text ≡ Ok (i, rest) → StandsInverted text → ⊥
+pub turned_ok : (text : List ℕ) (i : PatchInfo) (rest : List ℕ) → info_at text ≡ Ok (i, rest) → StandsInverted text → ⊥
 turned_ok text i rest e s = let both = sym e ∙ inverted_again text s in cc
 
 abbrev pub failed : {T : Type 0} → InfoReadFault → Result T InfoReadFault
@@ -53,7 +53,7 @@ inverted_err NoMemory text f is = absurd cc
 inverted_err BadInfo text f is = absurd cc
 inverted_err Inverted text f is = inverted_takes text f
 
-pub shorter_rest : (text : List ℕ) (at : ℕ) (i : Parts) (rest : List ℕ) → info_at (drop at text) ≡ Ok (i, rest) → length rest ≤ length text
+pub shorter_rest : (text : List ℕ) (at : ℕ) (i : PatchInfo) (rest : List ℕ) → info_at (drop at text) ≡ Ok (i, rest) → length rest ≤ length text
 shorter_rest text at i rest e = let s = info_takes (drop at text) i rest e in omega (arith, length-drop at text, length-append s.own rest, ap length s.parts)
 
 pub bad_err : {T : Type 0} (e : InfoReadFault) (text : List ℕ) → Fails e (info_at text) → failed {T = T} e ≡ failed BadInfo → NoneStands text

@@ -5,8 +5,8 @@ use Rattle.std.specs.Prelude.{◌⊎◌}
 use Rattle.std.specs.List.{AllByRecursion}
 use Rattle.dm_info.specs.declared.fault.InfoReadFault.{InfoReadFault}
 use Rattle.dm_info.specs.declared.fault.InfoReadFault.TheVariants.{BadInfo, Inverted}
-use Rattle.dm_info.specs.Parts.{Parts, IsInfo, Free, is_newline, ends_author, ends_date}
-use Rattle.dm_info.specs.Spelling.{opening, log_text, IsInformationText, Stands, StandsInverted}
+use Rattle.dm_info.specs.PatchInfo.{PatchInfo, IsInfo, Free, is_newline, ends_author, ends_date}
+use Rattle.dm_info.specs.Spelling.{opening, log_text, IsInfoText, Stands, StandsInverted}
 use Rattle.dm_info.specs.Reading.{◌>>=◌, Cut, cut, onto, after, star_after, author_at, log_from, new_line, more_line, onto_line, end_at, info_at}
 use Rattle.dm_info.proofs.Cuts.{cut_takes, cut_again, byte_is}
 use Rattle.dm_info.proofs.LogLemmas.{Lines, log_within, at_line, closed}
@@ -132,19 +132,19 @@ log_again (line ∷ lines) rest free =
     let regrouped : (line ++ 10 ∷ log_text lines) ++ rest ≡ line ++ 10 ∷ (log_text lines ++ rest) = simp append_assoc in
     rw (regrouped, at_line (line ++ 10 ∷ (log_text lines ++ rest)), log_within (line ++ 10 ∷ (log_text lines ++ rest)), cut_again is_newline line 10 (log_text lines ++ rest) free.0 refl, log_again lines rest free.1) refl
 
-k₄ : Cut → List ℕ × List ℕ → Cut → List (List ℕ) × List ℕ → Result (Parts × List ℕ) InfoReadFault
+k₄ : Cut → List ℕ × List ℕ → Cut → List (List ℕ) × List ℕ → Result (PatchInfo × List ℕ) InfoReadFault
 k₄ name author date log = Ok (record { name = name.front; author = author.0; date = date.front; log = log.0 }, log.1)
 
-k₃ : Cut → List ℕ × List ℕ → Cut → Result (Parts × List ℕ) InfoReadFault
+k₃ : Cut → List ℕ × List ℕ → Cut → Result (PatchInfo × List ℕ) InfoReadFault
 k₃ name author date = end_at date >>= k₄ name author date
 
-k₂ : Cut → List ℕ × List ℕ → Result (Parts × List ℕ) InfoReadFault
+k₂ : Cut → List ℕ × List ℕ → Result (PatchInfo × List ℕ) InfoReadFault
 k₂ name author = cut ends_date author.1 >>= k₃ name author
 
-k₁ : Cut → Result (Parts × List ℕ) InfoReadFault
+k₁ : Cut → Result (PatchInfo × List ℕ) InfoReadFault
 k₁ name = author_at name.rest >>= k₂ name
 
-k₀ : List ℕ → Result (Parts × List ℕ) InfoReadFault
+k₀ : List ℕ → Result (PatchInfo × List ℕ) InfoReadFault
 k₀ inside = cut is_newline inside >>= k₁
 
 -- the text up to the date
@@ -172,13 +172,13 @@ end_takes date log rest stops e =
           record { own = 10 ∷ log_text log; spelled = inl refl; free = m.1; parts = (let b = eqb-true date.byte 10 newline in λ i. b i ∷ m.0 i) }
     ]
 
-spelled_by : (i : Parts) (own : List ℕ) → (own ≡ 10 ∷ log_text i.log) ⊎ ((i.log ≡ []) × (own ≡ 93 ∷ [])) → IsInformationText (opening i ++ own) i
+spelled_by : (i : PatchInfo) (own : List ℕ) → (own ≡ 10 ∷ log_text i.log) ⊎ ((i.log ≡ []) × (own ≡ 93 ∷ [])) → IsInfoText (opening i ++ own) i
 spelled_by i own s = elim s [ inl e ↦ inl (ap (λ (l : List ℕ). opening i ++ l) e) | inr e ↦ inr (e.0, ap (λ (l : List ℕ). opening i ++ l) e.1) ]
 
-whole_is : (i : Parts) (rest own : List ℕ) (text : List ℕ) → text ≡ 91 ∷ (i.name ++ 10 ∷ (i.author ++ 42 ∷ 42 ∷ (i.date ++ (own ++ rest)))) → text ≡ (opening i ++ own) ++ rest
+whole_is : (i : PatchInfo) (rest own : List ℕ) (text : List ℕ) → text ≡ 91 ∷ (i.name ++ 10 ∷ (i.author ++ 42 ∷ 42 ∷ (i.date ++ (own ++ rest)))) → text ≡ (opening i ++ own) ++ rest
 whole_is i rest own text e = e ∙ simp append_assoc
 
-pub info_takes : (text : List ℕ) (i : Parts) (rest : List ℕ) → info_at text ≡ Ok (i, rest) → Stands text i rest
+pub info_takes : (text : List ℕ) (i : PatchInfo) (rest : List ℕ) → info_at text ≡ Ok (i, rest) → Stands text i rest
 unfolding info_at k₀ k₁ k₂ k₃ k₄
 info_takes text i rest e =
     let b₀ = bind_ok (after 91 text) k₀ (i, rest) e in
@@ -190,11 +190,11 @@ info_takes text i rest e =
     let author = author_takes b₁.0.rest b₂.0.0 b₂.0.1 b₂.1 in
     let date = cut_takes ends_date b₂.0.1 b₃.0 b₃.1 in
     let end = end_takes b₃.0 b₄.0.0 b₄.0.1 date.stops b₄.1 in
-    let found : Parts = record { name = b₁.0.front; author = b₂.0.0; date = b₃.0.front; log = b₄.0.0 } in
+    let found : PatchInfo = record { name = b₁.0.front; author = b₂.0.0; date = b₃.0.front; log = b₄.0.0 } in
     let start : text ≡ 91 ∷ (found.name ++ 10 ∷ (found.author ++ 42 ∷ 42 ∷ b₂.0.1)) = front_is text b₀.0 b₁.0 b₂.0.0 b₂.0.1 (after_takes 91 text b₀.0 b₀.1) name.parts (byte_is b₁.0.byte 10 name.stops) author.0 in
     let tail : b₂.0.1 ≡ found.date ++ (end.own ++ b₄.0.1) = date.parts ∙ ap (λ (l : List ℕ). found.date ++ l) end.parts in
     let all : text ≡ 91 ∷ (found.name ++ 10 ∷ (found.author ++ 42 ∷ 42 ∷ (found.date ++ (end.own ++ b₄.0.1)))) = start ∙ ap (λ (l : List ℕ). 91 ∷ (found.name ++ 10 ∷ (found.author ++ 42 ∷ 42 ∷ l))) tail in
-    subst (λ (q : Parts × List ℕ). Stands text q.0 q.1) (ok_is (found, b₄.0.1) (i, rest) b₄.2)
+    subst (λ (q : PatchInfo × List ℕ). Stands text q.0 q.1) (ok_is (found, b₄.0.1) (i, rest) b₄.2)
     (record {
       own = opening found ++ end.own;
       good = record { name = name.free; author = author.1; date = date.free; log = end.free };
@@ -211,21 +211,21 @@ unfolding info_at
 of_steps text inside name after_name author after_author date mark after_date log rest e₀ e₁ e₂ e₃ e₄ = rw (e₀, e₁, e₂, e₃, e₄) refl
 
 -- the first steps, which only the opening fixes
-opened : (i : Parts) (tail : List ℕ) → IsInfo i → info_at (opening i ++ tail) ≡ (cut ends_date (i.date ++ tail) >>= k₃ (record { front = i.name; byte = 10; rest = i.author ++ 42 ∷ 42 ∷ (i.date ++ tail) }) (i.author, i.date ++ tail))
+opened : (i : PatchInfo) (tail : List ℕ) → IsInfo i → info_at (opening i ++ tail) ≡ (cut ends_date (i.date ++ tail) >>= k₃ (record { front = i.name; byte = 10; rest = i.author ++ 42 ∷ 42 ∷ (i.date ++ tail) }) (i.author, i.date ++ tail))
 unfolding info_at k₀ k₁ k₂ k₃ k₄
 opened i tail good =
     let regrouped : opening i ++ tail ≡ 91 ∷ (i.name ++ 10 ∷ (i.author ++ 42 ∷ 42 ∷ (i.date ++ tail))) = simp append_assoc in
     rw (regrouped, after_again 91 (i.name ++ 10 ∷ (i.author ++ 42 ∷ 42 ∷ (i.date ++ tail))), cut_again is_newline i.name 10 (i.author ++ 42 ∷ 42 ∷ (i.date ++ tail)) good.name refl, author_again i.author (i.date ++ tail) good.author) refl
 
-long_again : (i : Parts) (rest : List ℕ) → IsInfo i → info_at (opening i ++ (10 ∷ (log_text i.log ++ rest))) ≡ Ok (i, rest)
+long_again : (i : PatchInfo) (rest : List ℕ) → IsInfo i → info_at (opening i ++ (10 ∷ (log_text i.log ++ rest))) ≡ Ok (i, rest)
 unfolding info_at k₃ k₄ end_at
 long_again i rest good = rw (opened i (10 ∷ (log_text i.log ++ rest)) good, cut_again ends_date i.date 10 (log_text i.log ++ rest) good.date refl, log_again i.log rest good.log) refl
 
-short_again : (i : Parts) (rest : List ℕ) → IsInfo i → i.log ≡ [] → info_at (opening i ++ (93 ∷ rest)) ≡ Ok (i, rest)
+short_again : (i : PatchInfo) (rest : List ℕ) → IsInfo i → i.log ≡ [] → info_at (opening i ++ (93 ∷ rest)) ≡ Ok (i, rest)
 unfolding info_at k₃ k₄ end_at
 short_again i rest good none = rw (opened i (93 ∷ rest) good, cut_again ends_date i.date 93 rest good.date refl, ← none) refl
 
-pub info_again : (text : List ℕ) (i : Parts) (rest : List ℕ) → Stands text i rest → info_at text ≡ Ok (i, rest)
+pub info_again : (text : List ℕ) (i : PatchInfo) (rest : List ℕ) → Stands text i rest → info_at text ≡ Ok (i, rest)
 info_again text i rest s =
     elim s.spelled [
       | inl e ↦

@@ -5,7 +5,7 @@ use Rattle.std.specs.declared.cmp.Ordering.{Ordering}
 use Rattle.std.specs.declared.cmp.Ordering.TheVariants.{Equal}
 use Rattle.std.specs.Cmp.Lexicographic.{slice_cmp, pointwise}
 use Rattle.std.specs.Hash.{HashWrites, slice, u8}
-use Rattle.dm_info.specs.Parts.{Parts}
+use Rattle.dm_info.specs.PatchInfo.{PatchInfo}
 
 -- whether two texts have the same bytes
 abbrev pub text_eq : List ℕ → List ℕ → Bool
@@ -16,17 +16,17 @@ abbrev pub text_cmp : List ℕ → List ℕ → Ordering
 text_cmp = slice_cmp nat_cmp
 
 -- whether the name, the author, the date and each line of the log are the same
-abbrev pub parts_eq : Parts → Parts → Bool
-parts_eq = eq_of_both (eq_of_both (eq_of_both (on (λ i. i.name) text_eq) (on (λ i. i.author) text_eq)) (on (λ i. i.date) text_eq)) (on (λ i. i.log) (pointwise text_eq))
+abbrev pub info_eq : PatchInfo → PatchInfo → Bool
+info_eq = eq_of_both (eq_of_both (eq_of_both (on (λ i. i.name) text_eq) (on (λ i. i.author) text_eq)) (on (λ i. i.date) text_eq)) (on (λ i. i.log) (pointwise text_eq))
 
 -- by name, then author, then date, then the log line by line
-abbrev pub parts_cmp : Parts → Parts → Ordering
-parts_cmp = then_cmp (then_cmp (then_cmp (on (λ i. i.name) text_cmp) (on (λ i. i.author) text_cmp)) (on (λ i. i.date) text_cmp)) (on (λ i. i.log) (slice_cmp text_cmp))
+abbrev pub info_cmp : PatchInfo → PatchInfo → Ordering
+info_cmp = then_cmp (then_cmp (then_cmp (on (λ i. i.name) text_cmp) (on (λ i. i.author) text_cmp)) (on (λ i. i.date) text_cmp)) (on (λ i. i.log) (slice_cmp text_cmp))
 
 -- what a hasher is fed: the parts in the same order, each as a slice feeds it
-abbrev pub parts_writes : Parts → HashWrites
-parts_writes i = slice u8 i.name ++ slice u8 i.author ++ slice u8 i.date ++ slice (slice u8) i.log
+abbrev pub info_writes : PatchInfo → HashWrites
+info_writes i = slice u8 i.name ++ slice u8 i.author ++ slice u8 i.date ++ slice (slice u8) i.log
 
 -- Two informations are equal, and rank the same, exactly where all four parts are the same.
 abbrev pub ComparesAllParts : Type 0
-ComparesAllParts = (x y : Parts) → (IsTrue (parts_eq x y) ↔ (x ≡ y)) × ((parts_cmp x y ≡ Equal) ↔ (x ≡ y))
+ComparesAllParts = (x y : PatchInfo) → (IsTrue (info_eq x y) ↔ (x ≡ y)) × ((info_cmp x y ≡ Equal) ↔ (x ≡ y))

@@ -5,15 +5,15 @@ use Rattle.std.specs.Ordering.{eq_by_cmp}
 use Rattle.std.specs.Cmp.{both_tied, first_so, second_so}
 use Rattle.std.specs.Cmp.Lexicographic.{lists_ties, texts_ties}
 use lib.Pointwise.{bytes_decides, pointwise_decides}
-use Rattle.dm_info.specs.Parts.{Parts}
-use Rattle.dm_info.specs.Compared.{text_cmp, parts_eq, parts_cmp, parts_writes}
+use Rattle.dm_info.specs.PatchInfo.{PatchInfo}
+use Rattle.dm_info.specs.Compared.{text_cmp, info_eq, info_cmp, info_writes}
 
-pub parts_ties : (x y : Parts) → parts_eq x y ≡ eq_by_cmp parts_cmp x y
-parts_ties x y = both_tied _ _ _ _ (both_tied _ _ _ _ (both_tied _ _ _ _ (texts_ties x.name y.name) (texts_ties x.author y.author)) (texts_ties x.date y.date)) (lists_ties text_cmp texts_ties x.log y.log)
+pub info_ties : (x y : PatchInfo) → info_eq x y ≡ eq_by_cmp info_cmp x y
+info_ties x y = both_tied _ _ _ _ (both_tied _ _ _ _ (both_tied _ _ _ _ (texts_ties x.name y.name) (texts_ties x.author y.author)) (texts_ties x.date y.date)) (lists_ties text_cmp texts_ties x.log y.log)
 
 -- `==` answers true only at the same parts
-pub parts_same : (x y : Parts) → parts_eq x y ≡ true → x ≡ y
-parts_same x y h =
+pub info_same : (x y : PatchInfo) → info_eq x y ≡ true → x ≡ y
+info_same x y h =
     let three = first_so _ _ h in
     let two = first_so _ _ three in
     let name : x.name ≡ y.name = (bytes_decides x.name y.name).0 (first_so _ _ two) in
@@ -23,11 +23,11 @@ parts_same x y h =
     λ i. record { name = name i; author = author i; date = date i; log = log i }
 
 -- and at the same parts it does
-pub same_parts : (x y : Parts) → x ≡ y → parts_eq x y ≡ true
-same_parts x y e =
-    let own : parts_eq x x ≡ true =
+pub same_info : (x y : PatchInfo) → x ≡ y → info_eq x y ≡ true
+same_info x y e =
+    let own : info_eq x x ≡ true =
     λ i. (bytes_decides x.name x.name).1 refl i && (bytes_decides x.author x.author).1 refl i && (bytes_decides x.date x.date).1 refl i && (pointwise_decides bytes_decides x.log x.log).1 refl i in
-    subst (λ (z : Parts). parts_eq x z ≡ true) e own
+    subst (λ (z : PatchInfo). info_eq x z ≡ true) e own
 
-pub parts_alike : (x y : Parts) → parts_eq x y ≡ true → parts_writes x ≡ parts_writes y
-parts_alike x y h = ap parts_writes (parts_same x y h)
+pub info_alike : (x y : PatchInfo) → info_eq x y ≡ true → info_writes x ≡ info_writes y
+info_alike x y h = ap info_writes (info_same x y h)

@@ -1,4 +1,4 @@
-pub mod Parts
+pub mod PatchInfo
 pub mod Refusals
 pub mod Spelling
 pub mod Compared

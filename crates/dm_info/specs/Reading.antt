@@ -1,6 +1,6 @@
 -- Reading an information from the front of a text step by step, for the clauses of private functions alone. Callers rely on `Spelling`.
 use Rattle.std.specs.Prelude.{◌≡◌, ℕ, Bool, true, false, ◌==◌, List, [], ◌∷◌, Result, Ok, Err, if◌then◌else◌}
-use Rattle.dm_info.specs.Parts.{Parts, is_newline, ends_author, ends_date}
+use Rattle.dm_info.specs.PatchInfo.{PatchInfo, is_newline, ends_author, ends_date}
 use Rattle.dm_info.specs.declared.fault.InfoReadFault.{InfoReadFault}
 use Rattle.dm_info.specs.declared.fault.InfoReadFault.TheVariants.{BadInfo, Inverted, NoMemory}
 
@@ -74,7 +74,7 @@ log_from true (b ∷ xs) = if b == 10 then new_line (log_from false xs) else mor
 unfoldable pub end_at : Cut → Result (List (List ℕ) × List ℕ) InfoReadFault
 end_at c = if c.byte == 93 then Ok ([], c.rest) else log_from false c.rest
 
-unfoldable pub info_at : List ℕ → Result (Parts × List ℕ) InfoReadFault
+unfoldable pub info_at : List ℕ → Result (PatchInfo × List ℕ) InfoReadFault
 info_at text = do
   inside ← after 91 text
   name ← cut is_newline inside

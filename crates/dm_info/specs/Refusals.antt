@@ -1,10 +1,10 @@
 -- Which parts are refused, and for which fault.
-use Rattle.dm_info.specs.Parts.{Parts, IsInfo, AreLines, Free, is_newline, ends_author, ends_date}
+use Rattle.dm_info.specs.PatchInfo.{PatchInfo, IsInfo, AreLines, Free, is_newline, ends_author, ends_date}
 use Rattle.dm_info.specs.declared.fault.InfoFault.{InfoFault}
 use Rattle.dm_info.specs.declared.fault.InfoFault.TheVariants.{BadName, BadAuthor, BadDate, BadLog, NoMemory}
 
 -- The parts have this fault, and none that is told before it. Memory is wanting only for parts that have no fault.
-abbrev pub IsRefusedFor : Parts → InfoFault → Type 0
+abbrev pub IsRefusedFor : PatchInfo → InfoFault → Type 0
 IsRefusedFor i BadName = Free is_newline i.name → ⊥
 IsRefusedFor i BadAuthor = Free is_newline i.name × (Free ends_author i.author → ⊥)
 IsRefusedFor i BadDate = Free is_newline i.name × Free ends_author i.author × (Free ends_date i.date → ⊥)

@@ -1,9 +1,9 @@
 -- The text of an information.
 use Rattle.std.specs.Prelude.{◌≡◌, ◌≤◌, ◌⊎◌, ℕ, List, [], ◌∷◌, ◌++◌, length, drop}
-use Rattle.dm_info.specs.Parts.{Parts, IsInfo, Free, is_newline, ends_author}
+use Rattle.dm_info.specs.PatchInfo.{PatchInfo, IsInfo, Free, is_newline, ends_author}
 
 -- an opening bracket, the name, a newline, the author, two stars and the date
-abbrev pub opening : Parts → List ℕ
+abbrev pub opening : PatchInfo → List ℕ
 opening i = 91 ∷ (i.name ++ 10 ∷ (i.author ++ 42 ∷ 42 ∷ i.date))
 
 -- the log's lines, each behind a space and before a newline, and a closing bracket
@@ -12,18 +12,18 @@ log_text [] = 93 ∷ []
 log_text (line ∷ lines) = 32 ∷ (line ++ 10 ∷ log_text lines)
 
 -- The text is that of the information: behind the date stand a newline and the log. An empty log may also be just a closing bracket.
-abbrev pub IsInformationText : List ℕ → Parts → Type 0
-IsInformationText text i = (text ≡ opening i ++ 10 ∷ log_text i.log) ⊎ ((i.log ≡ []) × (text ≡ opening i ++ 93 ∷ []))
+abbrev pub IsInfoText : List ℕ → PatchInfo → Type 0
+IsInfoText text i = (text ≡ opening i ++ 10 ∷ log_text i.log) ⊎ ((i.log ≡ []) × (text ≡ opening i ++ 93 ∷ []))
 
 -- The information stands at the front of the text, and this is left of the text after it.
-pub record Stands (text : List ℕ) (i : Parts) (rest : List ℕ) : Type 0 where
+pub record Stands (text : List ℕ) (i : PatchInfo) (rest : List ℕ) : Type 0 where
   pub own : List ℕ
   pub good : IsInfo i
-  pub spelled : IsInformationText own i
+  pub spelled : IsInfoText own i
   pub parts : text ≡ own ++ rest
 
 -- The information stands in the text from one place up to the next.
-pub record StandsFrom (text : List ℕ) (at : ℕ) (i : Parts) (next : ℕ) : Type 0 where
+pub record StandsFrom (text : List ℕ) (at : ℕ) (i : PatchInfo) (next : ℕ) : Type 0 where
   pub within : next ≤ length text
   pub stands : Stands (drop at text) i (drop next text)
 
@@ -38,7 +38,7 @@ pub record StandsInverted (text : List ℕ) : Type 0 where
 
 -- No information stands at the front of the text, and no inverted one.
 pub record NoneStands (text : List ℕ) : Type 0 where
-  pub none : (i : Parts) (rest : List ℕ) → Stands text i rest → ⊥
+  pub none : (i : PatchInfo) (rest : List ℕ) → Stands text i rest → ⊥
   pub none_inverted : StandsInverted text → ⊥
 
 -- the canonical end: just a closing bracket for an empty log
@@ -47,17 +47,17 @@ canonical_end [] = 93 ∷ []
 canonical_end (line ∷ lines) = 10 ∷ log_text (line ∷ lines)
 
 -- the canonical text, with the space behind it
-abbrev pub canonical : Parts → List ℕ
+abbrev pub canonical : PatchInfo → List ℕ
 canonical i = opening i ++ canonical_end i.log ++ 32 ∷ []
 
 -- The canonical text of an information stands for it, whatever follows, up to its space.
 abbrev pub RoundTrip : Type 0
-RoundTrip = (i : Parts) (rest : List ℕ) → IsInfo i → Stands (canonical i ++ rest) i (32 ∷ rest)
+RoundTrip = (i : PatchInfo) (rest : List ℕ) → IsInfo i → Stands (canonical i ++ rest) i (32 ∷ rest)
 
 -- A text has at most one information at its front.
-abbrev pub OneInformation : Type 0
-OneInformation = (text : List ℕ) (i j : Parts) (r s : List ℕ) → Stands text i r → Stands text j s → (i ≡ j) × (r ≡ s)
+abbrev pub OneInfo : Type 0
+OneInfo = (text : List ℕ) (i j : PatchInfo) (r s : List ℕ) → Stands text i r → Stands text j s → (i ≡ j) × (r ≡ s)
 
 -- No text has both an information and an inverted one at its front.
 abbrev pub NotBoth : Type 0
-NotBoth = (text : List ℕ) (i : Parts) (rest : List ℕ) → Stands text i rest → StandsInverted text → ⊥
+NotBoth = (text : List ℕ) (i : PatchInfo) (rest : List ℕ) → Stands text i rest → StandsInverted text → ⊥

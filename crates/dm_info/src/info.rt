@@ -1,18 +1,18 @@
 //! The information of a patch: its name, author, date and log.
 
 ghost use Rattle.std.specs.Prelude.{◌≡◌, ◌↔◌, ◌<◌, [], length, slice_index_or, map, IsTrue, IfOk, IfErr, OnOk};
-ghost use Rattle.dm_info.specs.Parts.{IsInfo, parts_of};
+ghost use Rattle.dm_info.specs.PatchInfo.{IsInfo, info_from};
 ghost use Rattle.dm_info.specs.Refusals.{IsRefusedFor};
 ghost use Rattle.std.proofs.Common.{rules};
 ghost use Rattle.std.specs.Cmp.{partial_order_from_own_ties};
 ghost use Rattle.std.specs.Cmp.Rules.{comparing};
 ghost use Rattle.std.specs.Ordering.{as_partial_cmp};
 ghost use Rattle.std.specs.Cmp.Lexicographic.{pointwise};
-ghost use Rattle.dm_info.specs.Compared.{text_eq, parts_eq, parts_cmp, parts_writes};
-ghost use Rattle.dm_info.specs.ComparedLaws.{parts_ties, parts_alike};
+ghost use Rattle.dm_info.specs.Compared.{text_eq, info_eq, info_cmp, info_writes};
+ghost use Rattle.dm_info.specs.ComparedLaws.{info_ties, info_alike};
 
 use crate::fault::InfoFault;
-use crate::parts::{copied_lines, copied_slices, fault_of};
+use crate::validity::{copied_lines, copied_slices, fault_of};
 use std::alloc::{AllocError, Allocator};
 use std::cmp::Ordering;
 use std::hash::{Hash, Hasher};
@@ -30,13 +30,13 @@ pub struct Info<A: Allocator> {
 
 impl<A: Allocator> Model for Info<A> {
     ghost use Rattle.std.specs.Prelude.{map};
-    ghost use Rattle.dm_info.specs.Parts.{Parts, IsInfo, parts_of};
+    ghost use Rattle.dm_info.specs.PatchInfo.{PatchInfo, IsInfo, info_from};
 
-    ghost Value = { Parts };
+    ghost Value = { PatchInfo };
 
-    ghost view = { λ i. parts_of i.name.items i.author.items i.date.items (map (λ line. line.items) i.log.items) };
+    ghost view = { λ i. info_from i.name.items i.author.items i.date.items (map (λ line. line.items) i.log.items) };
 
-    ghost invariant = { λ i. IsInfo (parts_of i.name.items i.author.items i.date.items (map (λ line. line.items) i.log.items)) };
+    ghost invariant = { λ i. IsInfo (info_from i.name.items i.author.items i.date.items (map (λ line. line.items) i.log.items)) };
 }
 
 impl<A: Allocator + Copy> Info<A> {
@@ -50,9 +50,9 @@ impl<A: Allocator + Copy> Info<A> {
         log: &[&[u8]],
     ) -> Result<Info<A>, InfoFault>
         ensures parts { IfOk result (λ info.
-            info ≡ parts_of name.now author.now date.now (map (λ line. line.now) log.now)) }
-        ensures good { OnOk result (IsInfo (parts_of name.now author.now date.now (map (λ line. line.now) log.now))) }
-        ensures fault { IfErr result (IsRefusedFor (parts_of name.now author.now date.now (map (λ line. line.now) log.now))) }
+            info ≡ info_from name.now author.now date.now (map (λ line. line.now) log.now)) }
+        ensures good { OnOk result (IsInfo (info_from name.now author.now date.now (map (λ line. line.now) log.now))) }
+        ensures fault { IfErr result (IsRefusedFor (info_from name.now author.now date.now (map (λ line. line.now) log.now))) }
     {
         if let Some(fault) = fault_of(name, author, date, log) {
             return Err(fault);
@@ -73,8 +73,8 @@ impl<A: Allocator> Info<A> {
         date: Vec<u8, A>,
         log: Vec<Vec<u8, A>, A>,
     ) -> Self
-        requires { IsInfo (parts_of name.items author.items date.items (map (λ line. line.items) log.items)) }
-        ensures { result ≡ parts_of name.items author.items date.items (map (λ line. line.items) log.items) }
+        requires { IsInfo (info_from name.items author.items date.items (map (λ line. line.items) log.items)) }
+        ensures { result ≡ info_from name.items author.items date.items (map (λ line. line.items) log.items) }
     {
         Info {
             name,
@@ -162,7 +162,7 @@ fn are_same_lines<A: Allocator, B: Allocator>(xs: &[Vec<u8, A>], ys: &[Vec<u8, B
 }
 
 impl<A: Allocator> PartialEq for Info<A> {
-    ghost eq = { parts_eq };
+    ghost eq = { info_eq };
 
     ghost laws = { Prim.search (comparing, rules) depth 9 };
 
@@ -176,13 +176,13 @@ impl<A: Allocator> Eq for Info<A> {
 }
 
 impl<A: Allocator> Ord for Info<A> {
-    ghost cmp = { parts_cmp };
+    ghost cmp = { info_cmp };
 
     ghost total = { Prim.search (comparing, rules) depth 9 };
 
     ghost matches_partial_cmp = { Prim.search (comparing, rules) depth 9 };
 
-    ghost matches_eq = { parts_ties };
+    ghost matches_eq = { info_ties };
 
     fn cmp(&self, other: &Self) -> Ordering {
         self.name
@@ -194,9 +194,9 @@ impl<A: Allocator> Ord for Info<A> {
 }
 
 impl<A: Allocator> PartialOrd for Info<A> {
-    ghost partial_cmp = { as_partial_cmp parts_cmp };
+    ghost partial_cmp = { as_partial_cmp info_cmp };
 
-    ghost laws = { partial_order_from_own_ties (Prim.search (comparing, rules) depth 9) parts_ties };
+    ghost laws = { partial_order_from_own_ties (Prim.search (comparing, rules) depth 9) info_ties };
 
     fn partial_cmp(&self, other: &Self) -> Option<Ordering> {
         Some(self.cmp(other))
@@ -204,9 +204,9 @@ impl<A: Allocator> PartialOrd for Info<A> {
 }
 
 impl<A: Allocator> Hash for Info<A> {
-    ghost hash_input = { parts_writes };
+    ghost hash_input = { info_writes };
 
-    ghost respects_eq = { parts_alike };
+    ghost respects_eq = { info_alike };
 
     fn hash<H: Hasher>(&self, state: &mut H) {
         self.name.hash(state);

@@ -1,6 +1,6 @@
 //! What holds of the text of an information, and of the comparison, by the definitions alone. These calls do nothing.
 
-ghost use Rattle.dm_info.specs.Spelling.{RoundTrip, OneInformation, NotBoth};
+ghost use Rattle.dm_info.specs.Spelling.{RoundTrip, OneInfo, NotBoth};
 ghost use Rattle.dm_info.specs.Compared.{ComparesAllParts};
 
 /// The canonical text of an information is read again as that information, whatever follows it.
@@ -9,8 +9,8 @@ pub fn round_trip()
 {}
 
 /// A text has at most one information at its front.
-pub fn one_information()
-    ensures { OneInformation }
+pub fn one_info()
+    ensures { OneInfo }
 {}
 
 /// No text has both an information and an inverted one at its front.

@@ -10,7 +10,7 @@
 mod fault;
 mod info;
 pub mod laws;
-mod parts;
+mod validity;
 mod reading;
 #[cfg(test)]
 mod tests;

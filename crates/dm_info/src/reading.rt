@@ -2,7 +2,7 @@
 
 ghost use Rattle.std.specs.Prelude.{◌≡◌, ◌≤◌, ◌∷◌, length, drop, ℕ, List, false, map, MatchOption, MatchResult, ◌≢◌, IfOk, IsErrOf};
 ghost use Rattle.memchr.specs.Find.{is_byte2};
-ghost use Rattle.dm_info.specs.Parts.{Parts, is_newline, ends_author, ends_date};
+ghost use Rattle.dm_info.specs.PatchInfo.{PatchInfo, is_newline, ends_author, ends_date};
 ghost use Rattle.dm_info.specs.Spelling.{StandsFrom, NoneStands, StandsInverted};
 ghost use Rattle.dm_info.specs.Reading.{Gives, Lacks, Cut, cut, after, star_after, author_at, log_from, end_at, info_at};
 
@@ -146,7 +146,7 @@ pub fn read_info<A: Allocator + Copy>(
     // What is read stands there.
     ensures found { IfOk result (λ x. StandsFrom text.now at x.0 x.1) }
     // What stands there is what is read, unless memory runs out.
-    ensures only { (i : Parts) (next : ℕ) → StandsFrom text.now at i next
+    ensures only { (i : PatchInfo) (next : ℕ) → StandsFrom text.now at i next
         → MatchResult result (λ x. (x.0 ≡ i) × (x.1 ≡ next)) (λ e. e ≡ InfoReadFault.NoMemory) }
     // BadInfo is answered only where nothing stands.
     ensures bad { IsErrOf result InfoReadFault.BadInfo → NoneStands (drop at text.now) }

@@ -245,7 +245,7 @@ fn writes<A: Allocator + Copy>(rt: &impl Abort, alloc: A) -> Result<(), Fail> {
     Ok(())
 }
 
-/// Parts make the information that their text is read as.
+/// PatchInfo make the information that their text is read as.
 fn makes<A: Allocator + Copy>(rt: &impl Abort, alloc: A) -> Result<(), Fail> {
     let plain = Info::new(alloc, b"x", b"p", b"d", &[])?;
     let log = [b"l1".as_slice(), b"".as_slice()];

@@ -1,7 +1,7 @@
 //! Writing the canonical text.
 
 ghost use Rattle.std.specs.Prelude.{◌≡◌, ◌++◌, ◌∷◌, [], OnOk, OnErr, IfOk};
-ghost use Rattle.dm_info.specs.Parts.{IsInfo};
+ghost use Rattle.dm_info.specs.PatchInfo.{IsInfo};
 ghost use Rattle.dm_info.specs.Spelling.{opening, canonical_end, canonical};
 
 use crate::info::Info;

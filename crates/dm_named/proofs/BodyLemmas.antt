@@ -2,30 +2,30 @@
 use Rattle.std.proofs.Common.{◌≡◌, ◌≤◌, ◌<◌, ℕ, List, ◌∷◌, length, drop, sym, subst, ◌∙◌, arith, inl, inr}
 use Rattle.std.proofs.lemmas.List.{length-drop}
 use Rattle.dm_info.proofs.SpellingLemmas.{stands_shorter}
-use Rattle.dm_info.specs.Parts.{Parts}
+use Rattle.dm_info.specs.PatchInfo.{PatchInfo}
 use Rattle.dm_info.specs.Spelling.{Stands}
 use Rattle.dm_prim.specs.Primitives.{Prim}
 use Rattle.dm_named.specs.Words.{skipped, WordAmong, Begins, NextByte}
 use Rattle.dm_named.specs.Patches.{NextPrim, NextInfo, prim_words, unsupported_words, Body}
-use Rattle.dm_named.specs.Faults.{OpenFault, BraceFault, RunFault, BodyFault, in_braces, in_run}
+use Rattle.dm_named.specs.Faults.{OpenFaultAt, BraceFaultAt, RunFaultAt, BodyFaultAt, in_braces, in_run}
 use Rattle.dm_named.specs.Many.{Many}
 use Rattle.dm_named.specs.declared.fault.FaultKind.{FaultKind}
 use Rattle.dm_named.specs.declared.fault.FaultKind.TheVariants.{BadDepends, Unsupported}
 
 -- an information takes up some of the text
-pub info_forward : (text : List ℕ) (at next : ℕ) (i : Parts) → Stands (drop at text) i (drop next text) → at < next
+pub info_forward : (text : List ℕ) (at next : ℕ) (i : PatchInfo) → Stands (drop at text) i (drop next text) → at < next
 info_forward text at next i s = omega (arith, length-drop at text, length-drop next text, stands_shorter (drop at text) i (drop next text) s)
 
-pub open_deps : (mid inside close : List ℕ) (is : List Parts) → Many NextInfo inside is mid → close ≡ skipped mid → (Begins 91 (skipped mid) → ⊥) → (Begins 62 close → ⊥) → OpenFault BadDepends inside close
+pub open_deps : (mid inside close : List ℕ) (is : List PatchInfo) → Many NextInfo inside is mid → close ≡ skipped mid → (Begins 91 (skipped mid) → ⊥) → (Begins 62 close → ⊥) → OpenFaultAt BadDepends inside close
 open_deps mid inside close is r c closed other =
     record { infos = is; mid = mid; read = r; wrong = (c, closed, subst (λ (t : List ℕ). Begins 62 t → ⊥) c other) }
 
-pub brace_wrong : (kind : FaultKind) (text inside mid here : List ℕ) (ps : List Prim) → NextByte 123 text inside → Many NextPrim inside ps mid → length ps ≤ 10000 → here ≡ skipped mid → BraceFault kind here here → BodyFault kind text here
+pub brace_wrong : (kind : FaultKind) (text inside mid here : List ℕ) (ps : List Prim) → NextByte 123 text inside → Many NextPrim inside ps mid → length ps ≤ 10000 → here ≡ skipped mid → BraceFaultAt kind here here → BodyFaultAt kind text here
 brace_wrong kind text inside mid here ps m r few e w =
-    in_braces inside m (inr (record { prims = ps; mid = mid; read = r; few = few; wrong = subst (λ (t : List ℕ). BraceFault kind t here) e w }))
+    in_braces inside m (inr (record { prims = ps; mid = mid; read = r; few = few; wrong = subst (λ (t : List ℕ). BraceFaultAt kind t here) e w }))
 
-pub run_wrong : (text mid here : List ℕ) (ps : List Prim) → (Begins 123 (skipped text) → ⊥) → Many NextPrim text ps mid → length ps ≤ 10000 → here ≡ skipped mid → RunFault Unsupported here here → BodyFault Unsupported text here
-run_wrong text mid here ps bare r few e w = in_run bare (inr (record { prims = ps; mid = mid; read = r; few = few; wrong = subst (λ (t : List ℕ). RunFault Unsupported t here) e w }))
+pub run_wrong : (text mid here : List ℕ) (ps : List Prim) → (Begins 123 (skipped text) → ⊥) → Many NextPrim text ps mid → length ps ≤ 10000 → here ≡ skipped mid → RunFaultAt Unsupported here here → BodyFaultAt Unsupported text here
+run_wrong text mid here ps bare r few e w = in_run bare (inr (record { prims = ps; mid = mid; read = r; few = few; wrong = subst (λ (t : List ℕ). RunFaultAt Unsupported t here) e w }))
 
 pub a_run : (text mid here : List ℕ) (ps : List Prim) → (Begins 123 (skipped text) → ⊥) → Many NextPrim text ps mid → (WordAmong prim_words (skipped mid) → ⊥) → here ≡ skipped mid → (WordAmong unsupported_words here → ⊥) → (Begins 40 here → ⊥) → Body text ps mid
 a_run text mid here ps bare r prims e others paren =

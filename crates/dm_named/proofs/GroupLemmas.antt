@@ -5,7 +5,7 @@ use Rattle.std.proofs.lemmas.List.{length-append, drop-drop, drop_more, drop_all
 use Rattle.memchr.specs.Find.{IsFirstByte, is_byte}
 use Rattle.std.specs.List.{AllByRecursion}
 use Rattle.dm_info.proofs.Cuts.{cut_found, cut_takes, byte_is, false_is}
-use Rattle.dm_info.specs.Parts.{is_newline}
+use Rattle.dm_info.specs.PatchInfo.{is_newline}
 use Rattle.dm_named.specs.Words.{NoNewline, is_white, Begins, Word, Line, MarkedLine, LineGroup, BlankLine, IsNumberText, IsDigit, number_from, NumberLine, skipped}
 use Rattle.dm_named.specs.Faults.{NoChange}
 use Rattle.dm_named.specs.Many.{Many}

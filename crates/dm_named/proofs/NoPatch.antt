@@ -5,7 +5,7 @@ use Rattle.std.specs.Prelude.{codes, ◌⊎◌, nat_eq}
 use Rattle.std.specs.Cmp.Lexicographic.{other_text, pointwise}
 use lib.Pointwise.{bytes_decides}
 use Rattle.dm_info.proofs.SpellingLemmas.{one_info, stands_opens, not_both}
-use Rattle.dm_info.specs.Parts.{Parts}
+use Rattle.dm_info.specs.PatchInfo.{PatchInfo}
 use Rattle.dm_info.specs.Spelling.{Stands}
 use Rattle.dm_tree.specs.Paths.{Path}
 use Rattle.dm_prim.specs.Primitives.{Prim, AddFile, RmFile, AddDir, RmDir, Hunk, At, Move}
@@ -13,7 +13,7 @@ use Rattle.dm_named.specs.Words.{skipped, Word, Among, WordAmong, Begins, LineGr
 use Rattle.dm_named.specs.Paths.{NextPath, PathWord}
 use Rattle.dm_named.specs.Many.{Many}
 use Rattle.dm_named.specs.Patches.{WordAndPath, HunkBody, PrimText, NextPrim, NextInfo, Dependencies, Body, RunEnds, prim_words, unsupported_words, Patch, PatchText}
-use Rattle.dm_named.specs.Faults.{InfoFault, PathFault, NoChange, HunkFault, PrimFault, path, second, hunk, NextFault, BraceFault, RunFault, DependsFault, BehindPrims, PrimsFault, BodyFault, in_braces, in_run, InfosFault, OpenFault, DepsFault, PatchFault, info, deps, body, SaysNone}
+use Rattle.dm_named.specs.Faults.{InfoFaultAt, PathFaultAt, NoChange, HunkFaultAt, PrimFaultAt, path, second, hunk, CountFaultAt, BraceFaultAt, RunFaultAt, DependsFaultAt, BehindPrims, PrimsFaultAt, BodyFaultAt, in_braces, in_run, InfosFaultAt, OpenFaultAt, DepsFaultAt, PatchFaultAt, info, deps, body, ExcludesPatch}
 use Rattle.dm_named.specs.declared.fault.FaultKind.{FaultKind}
 use Rattle.dm_named.specs.declared.fault.FaultKind.TheVariants as K
 use Rattle.dm_named.proofs.WordLemmas.{one_word}
@@ -21,7 +21,7 @@ use Rattle.dm_named.proofs.GroupLemmas.{one_group, one_number_line}
 use Rattle.dm_named.proofs.ManyLemmas.{many_follows}
 use Rattle.dm_named.proofs.OnePatch.{one_single, stands_word, prim_word, prim_a_word, one_next, no_next, one_depends}
 
-pub no_info : (kind : FaultKind) (text here : List ℕ) → SaysNone kind → InfoFault kind text here → (i : Parts) (r : List ℕ) → Stands text i r → ⊥
+pub no_info : (kind : FaultKind) (text here : List ℕ) → ExcludesPatch kind → InfoFaultAt kind text here → (i : PatchInfo) (r : List ℕ) → Stands text i r → ⊥
 no_info K.BadInfo text here k f i r s = f.1.none i r s
 no_info K.Inverted text here k f i r s = not_both text i r s f.1
 no_info K.NoMemory text here k f i r s = k.memory refl
@@ -38,7 +38,7 @@ no_info K.NoContext text here k f i r s = elim f [ ]
 no_info K.Doubled text here k f i r s = elim f [ ]
 no_info K.TooMany text here k f i r s = elim f [ ]
 
-no_path : (kind : FaultKind) (text here : List ℕ) → SaysNone kind → PathFault kind text here → (p : Path) (r : List ℕ) → NextPath text p r → ⊥
+no_path : (kind : FaultKind) (text here : List ℕ) → ExcludesPatch kind → PathFaultAt kind text here → (p : Path) (r : List ℕ) → NextPath text p r → ⊥
 no_path K.BadPath text here k f p r s = f.1 p r (subst (λ (t : List ℕ). PathWord t p r) (sym f.0) s)
 no_path K.NoMemory text here k f p r s = k.memory refl
 no_path K.TooLarge text here k f p r s = elim f [ ]
@@ -68,7 +68,7 @@ no_lines text n old new r e h =
     let news = nothing_read 43 l.news l.last new l.new_read (λ b. e.no_new (subst (Begins 43) (sym olds.1 ∙ sym above.1) b)) in
     elim l.some [ inl x ↦ x olds.0 | inr y ↦ y news.0 ]
 
-no_hunk : (kind : FaultKind) (start text here : List ℕ) → SaysNone kind → HunkFault kind start text here → (n : ℕ) (old new : List (List ℕ)) (r : List ℕ) → HunkBody text n old new r → ⊥
+no_hunk : (kind : FaultKind) (start text here : List ℕ) → ExcludesPatch kind → HunkFaultAt kind start text here → (n : ℕ) (old new : List (List ℕ)) (r : List ℕ) → HunkBody text n old new r → ⊥
 no_hunk K.BadNumber start text here k f n old new r h = f.1 n h.lines (subst (λ (t : List ℕ). NumberLine t n h.lines) (sym f.0) h.number_read)
 no_hunk K.EmptyHunk start text here k f n old new r h = no_lines text n old new r f.1 h
 no_hunk K.NoMemory start text here k f n old new r h = k.memory refl
@@ -94,7 +94,7 @@ first_path text (At p RmDir) r a = (codes "rmdir", a.after, p, r, a.named, a.pat
 first_path text (At p (Hunk n old new)) r a = (codes "hunk", a.first.after, p, a.mid, a.first.named, a.first.path)
 first_path text (Move p q) r a = (codes "move", a.first.after, p, a.mid, a.first.named, a.first.path)
 
-no_second : (kind : FaultKind) (text mid here : List ℕ) (p : Path) → SaysNone kind → WordAndPath (codes "move") text p mid → PathFault kind mid here → (q : Prim) (r : List ℕ) → codes "move" ≡ prim_word q → PrimText text q r → ⊥
+no_second : (kind : FaultKind) (text mid here : List ℕ) (p : Path) → ExcludesPatch kind → WordAndPath (codes "move") text p mid → PathFaultAt kind mid here → (q : Prim) (r : List ℕ) → codes "move" ≡ prim_word q → PrimText text q r → ⊥
 no_second kind text mid here p k s f (At q AddFile) r e t = other_text (codes "move") (codes "addfile") refl e
 no_second kind text mid here p k s f (At q RmFile) r e t = other_text (codes "move") (codes "rmfile") refl e
 no_second kind text mid here p k s f (At q AddDir) r e t = other_text (codes "move") (codes "adddir") refl e
@@ -104,7 +104,7 @@ no_second kind text mid here p k s f (Move q v) r e t =
     let one = one_single (codes "move") text q p t.mid mid t.first s in
     no_path kind mid here k f v r (subst (λ (x : List ℕ). NextPath x v r) one.1 t.second)
 
-no_body : (kind : FaultKind) (text mid here : List ℕ) (p : Path) → SaysNone kind → WordAndPath (codes "hunk") text p mid → HunkFault kind text mid here → (q : Prim) (r : List ℕ) → codes "hunk" ≡ prim_word q → PrimText text q r → ⊥
+no_body : (kind : FaultKind) (text mid here : List ℕ) (p : Path) → ExcludesPatch kind → WordAndPath (codes "hunk") text p mid → HunkFaultAt kind text mid here → (q : Prim) (r : List ℕ) → codes "hunk" ≡ prim_word q → PrimText text q r → ⊥
 no_body kind text mid here p k s f (At q AddFile) r e t = other_text (codes "hunk") (codes "addfile") refl e
 no_body kind text mid here p k s f (At q RmFile) r e t = other_text (codes "hunk") (codes "rmfile") refl e
 no_body kind text mid here p k s f (At q AddDir) r e t = other_text (codes "hunk") (codes "adddir") refl e
@@ -117,7 +117,7 @@ no_body kind text mid here p k s f (At q (Hunk n old new)) r e t =
 word_is : (text w after : List ℕ) (q : Prim) (r : List ℕ) → Word text w after → PrimText text q r → w ≡ prim_word q
 word_is text w after q r a t = let s = stands_word text q r t in (one_word text w (prim_word q) after s.0 a s.1).0
 
-no_prim : (kind : FaultKind) (text here : List ℕ) → SaysNone kind → PrimFault kind text here → (q : Prim) (r : List ℕ) → PrimText text q r → ⊥
+no_prim : (kind : FaultKind) (text here : List ℕ) → ExcludesPatch kind → PrimFaultAt kind text here → (q : Prim) (r : List ℕ) → PrimText text q r → ⊥
 no_prim kind text here k (path stands f) q r t =
     let x = first_path text q r t in
     let one = one_word text x.0 stands.word x.1 stands.rest x.4 stands.stands in
@@ -125,7 +125,7 @@ no_prim kind text here k (path stands f) q r t =
 no_prim kind text here k (second p mid s f) q r t = no_second kind text mid here p k s f q r (word_is text (codes "move") s.after q r s.named t) t
 no_prim kind text here k (hunk p mid s f) q r t = no_body kind text mid here p k s f q r (word_is text (codes "hunk") s.after q r s.named t) t
 
-prim_due : (kind : FaultKind) (text here : List ℕ) → PrimFault kind text here → WordAmong prim_words text
+prim_due : (kind : FaultKind) (text here : List ℕ) → PrimFaultAt kind text here → WordAmong prim_words text
 prim_due kind text here (path stands f) = stands
 prim_due kind text here (second p mid s f) = record { word = codes "move"; rest = s.after; stands = s.named; among = inr (inr (inr (inr (inl refl)))) }
 prim_due kind text here (hunk p mid s f) = record { word = codes "hunk"; rest = s.after; stands = s.named; among = inr (inr (inr (inr (inr (inl refl))))) }
@@ -143,7 +143,7 @@ ahead text ps qs mid s a b closed =
     let m = many_follows NextPrim one_next text ps qs mid s a b (no_next s closed) in
     split mid s m.0 m.2
 
-no_next_fault : (kind : FaultKind) (count : ℕ) (text here : List ℕ) → SaysNone kind → NextFault kind count text here → ⊥
+no_next_fault : (kind : FaultKind) (count : ℕ) (text here : List ℕ) → ExcludesPatch kind → CountFaultAt kind count text here → ⊥
 no_next_fault K.TooMany count text here k f = k.count refl
 no_next_fault K.NoMemory count text here k f = k.memory refl
 no_next_fault K.TooLarge count text here k f = elim f [ ]
@@ -160,7 +160,7 @@ no_next_fault K.Unclosed count text here k f = elim f [ ]
 no_next_fault K.NoContext count text here k f = elim f [ ]
 no_next_fault K.Doubled count text here k f = elim f [ ]
 
-no_prims : (kind : FaultKind) (text here : List ℕ) → SaysNone kind → PrimsFault kind text here → (qs : List Prim) (s : List ℕ) → Many NextPrim text qs s → (WordAmong prim_words (skipped s) → ⊥) → ⊥
+no_prims : (kind : FaultKind) (text here : List ℕ) → ExcludesPatch kind → PrimsFaultAt kind text here → (qs : List Prim) (s : List ℕ) → Many NextPrim text qs s → (WordAmong prim_words (skipped s) → ⊥) → ⊥
 no_prims kind text here k f qs s r closed =
     elim f.wrong [
       | inl n ↦ no_next_fault kind (length f.prims) (skipped f.mid) here k n
@@ -242,7 +242,7 @@ no_word_end text e a = not_here prim_words a.word [] refl (front_nil a.word a.re
 -- ---- bodies
 
 -- what stands behind the primitives of a braced body is no fault of braces
-not_closed : (kind : FaultKind) (text here r : List ℕ) → BraceFault kind text here → text ≡ 125 ∷ r → ⊥
+not_closed : (kind : FaultKind) (text here r : List ℕ) → BraceFaultAt kind text here → text ≡ 125 ∷ r → ⊥
 not_closed K.Unclosed text here r f e = let both : [] ≡ 125 ∷ r = sym f.1 ∙ e in cc
 not_closed K.Unsupported text here r f e =
     elim f.1 [
@@ -263,7 +263,7 @@ not_closed K.Doubled text here r f e = elim f [ ]
 not_closed K.TooMany text here r f e = elim f [ ]
 not_closed K.NoMemory text here r f e = elim f [ ]
 
-not_prim : (kind : FaultKind) (text here : List ℕ) → BraceFault kind text here → WordAmong prim_words text → ⊥
+not_prim : (kind : FaultKind) (text here : List ℕ) → BraceFaultAt kind text here → WordAmong prim_words text → ⊥
 not_prim K.Unclosed text here f w = no_word_end text f.1 w
 not_prim K.Unsupported text here f w =
     elim f.1 [ inl o ↦ both_words text w o | inr p ↦ elim p [ inl b ↦ no_lead 123 prim_words text b.0 refl b.1 w | inr b ↦ no_lead 40 prim_words text b.0 refl b.1 w ] ]
@@ -281,14 +281,14 @@ not_prim K.Doubled text here f w = elim f [ ]
 not_prim K.TooMany text here f w = elim f [ ]
 not_prim K.NoMemory text here f w = elim f [ ]
 
-no_brace : (kind : FaultKind) (inside here : List ℕ) → BehindPrims (λ _. BraceFault kind) inside here → (qs : List Prim) (s r : List ℕ) → Many NextPrim inside qs s → skipped s ≡ 125 ∷ r → ⊥
+no_brace : (kind : FaultKind) (inside here : List ℕ) → BehindPrims (λ _. BraceFaultAt kind) inside here → (qs : List Prim) (s r : List ℕ) → Many NextPrim inside qs s → skipped s ≡ 125 ∷ r → ⊥
 no_brace kind inside here f qs s r q closes =
     elim (ahead inside f.prims qs f.mid s f.read q (no_lead 125 prim_words (skipped s) r refl closes)) [
       | inl e ↦ not_closed kind (skipped f.mid) here r f.wrong (ap skipped e ∙ closes)
       | inr p ↦ not_prim kind (skipped f.mid) here f.wrong (prim_a_word (skipped f.mid) p.0 p.1 p.2)
     ]
 
-run_goes_on : (kind : FaultKind) (text here : List ℕ) → RunFault kind text here → RunEnds text → ⊥
+run_goes_on : (kind : FaultKind) (text here : List ℕ) → RunFaultAt kind text here → RunEnds text → ⊥
 run_goes_on K.Unsupported text here f e = elim f.1 [ inl o ↦ e.others o | inr b ↦ e.paren b ]
 run_goes_on K.TooLarge text here f e = elim f [ ]
 run_goes_on K.NoNewPatches text here f e = elim f [ ]
@@ -305,7 +305,7 @@ run_goes_on K.Doubled text here f e = elim f [ ]
 run_goes_on K.TooMany text here f e = elim f [ ]
 run_goes_on K.NoMemory text here f e = elim f [ ]
 
-run_no_prim : (kind : FaultKind) (text here : List ℕ) → RunFault kind text here → WordAmong prim_words text → ⊥
+run_no_prim : (kind : FaultKind) (text here : List ℕ) → RunFaultAt kind text here → WordAmong prim_words text → ⊥
 run_no_prim K.Unsupported text here f w = elim f.1 [ inl o ↦ both_words text w o | inr b ↦ no_lead 40 prim_words text b.0 refl b.1 w ]
 run_no_prim K.TooLarge text here f w = elim f [ ]
 run_no_prim K.NoNewPatches text here f w = elim f [ ]
@@ -322,7 +322,7 @@ run_no_prim K.Doubled text here f w = elim f [ ]
 run_no_prim K.TooMany text here f w = elim f [ ]
 run_no_prim K.NoMemory text here f w = elim f [ ]
 
-no_run : (kind : FaultKind) (text here : List ℕ) → BehindPrims (λ _. RunFault kind) text here → (qs : List Prim) (s : List ℕ) → Many NextPrim text qs s → RunEnds (skipped s) → ⊥
+no_run : (kind : FaultKind) (text here : List ℕ) → BehindPrims (λ _. RunFaultAt kind) text here → (qs : List Prim) (s : List ℕ) → Many NextPrim text qs s → RunEnds (skipped s) → ⊥
 no_run kind text here f qs s q ends =
     elim (ahead text f.prims qs f.mid s f.read q ends.prims) [
       | inl e ↦ run_goes_on kind (skipped f.mid) here f.wrong (subst (λ (t : List ℕ). RunEnds (skipped t)) (sym e) ends)
@@ -332,7 +332,7 @@ no_run kind text here f qs s q ends =
 pub tail_same : (b : ℕ) (text x y : List ℕ) → text ≡ b ∷ x → text ≡ b ∷ y → x ≡ y
 tail_same b text x y e f = let both : b ∷ x ≡ b ∷ y = sym e ∙ f in cc
 
-no_a_body : (kind : FaultKind) (text here : List ℕ) → SaysNone kind → BodyFault kind text here → (qs : List Prim) (r : List ℕ) → Body text qs r → ⊥
+no_a_body : (kind : FaultKind) (text here : List ℕ) → ExcludesPatch kind → BodyFaultAt kind text here → (qs : List Prim) (r : List ℕ) → Body text qs r → ⊥
 no_a_body kind text here k (in_braces inside opens f) qs r b =
     elim b [
       | inl x ↦
@@ -349,17 +349,17 @@ no_a_body kind text here k (in_run bare f) qs r b =
 
 -- ---- dependencies
 
-split_infos : (mid s : List ℕ) (more : List Parts) → Many NextInfo mid more s → (mid ≡ s) ⊎ ((i : Parts) × (after : List ℕ) × Stands (skipped mid) i after)
+split_infos : (mid s : List ℕ) (more : List PatchInfo) → Many NextInfo mid more s → (mid ≡ s) ⊎ ((i : PatchInfo) × (after : List ℕ) × Stands (skipped mid) i after)
 split_infos mid s [] e = inl e
 split_infos mid s (i ∷ more) r = inr (i, r.0, r.1)
 
-infos_ahead : (text : List ℕ) (is js : List Parts) (mid s : List ℕ) → Many NextInfo text is mid → Many NextInfo text js s → (Begins 91 (skipped s) → ⊥)
-    → (mid ≡ s) ⊎ ((i : Parts) × (after : List ℕ) × Stands (skipped mid) i after)
+infos_ahead : (text : List ℕ) (is js : List PatchInfo) (mid s : List ℕ) → Many NextInfo text is mid → Many NextInfo text js s → (Begins 91 (skipped s) → ⊥)
+    → (mid ≡ s) ⊎ ((i : PatchInfo) × (after : List ℕ) × Stands (skipped mid) i after)
 infos_ahead text is js mid s a b closed =
     let m = many_follows NextInfo (λ t i j r u x y. one_info (skipped t) i j r u x y) text is js mid s a b (λ i after x. closed (stands_opens (skipped s) i after x)) in
     split_infos mid s m.0 m.2
 
-not_depends : (kind : FaultKind) (text here r : List ℕ) → DependsFault kind text here → text ≡ 62 ∷ r → ⊥
+not_depends : (kind : FaultKind) (text here r : List ℕ) → DependsFaultAt kind text here → text ≡ 62 ∷ r → ⊥
 not_depends K.BadDepends text here r f e = f.2 (r, e)
 not_depends K.TooLarge text here r f e = elim f [ ]
 not_depends K.NoNewPatches text here r f e = elim f [ ]
@@ -376,7 +376,7 @@ not_depends K.Doubled text here r f e = elim f [ ]
 not_depends K.TooMany text here r f e = elim f [ ]
 not_depends K.NoMemory text here r f e = elim f [ ]
 
-no_more_infos : (kind : FaultKind) (text here : List ℕ) → DependsFault kind text here → Begins 91 text → ⊥
+no_more_infos : (kind : FaultKind) (text here : List ℕ) → DependsFaultAt kind text here → Begins 91 text → ⊥
 no_more_infos K.BadDepends text here f b = f.1 b
 no_more_infos K.TooLarge text here f b = elim f [ ]
 no_more_infos K.NoNewPatches text here f b = elim f [ ]
@@ -393,21 +393,21 @@ no_more_infos K.Doubled text here f b = elim f [ ]
 no_more_infos K.TooMany text here f b = elim f [ ]
 no_more_infos K.NoMemory text here f b = elim f [ ]
 
-no_infos : (kind : FaultKind) (text here : List ℕ) → SaysNone kind → InfosFault kind text here → (js : List Parts) (s : List ℕ) → Many NextInfo text js s → (Begins 91 (skipped s) → ⊥) → ⊥
+no_infos : (kind : FaultKind) (text here : List ℕ) → ExcludesPatch kind → InfosFaultAt kind text here → (js : List PatchInfo) (s : List ℕ) → Many NextInfo text js s → (Begins 91 (skipped s) → ⊥) → ⊥
 no_infos kind text here k f js s r closed =
     elim (infos_ahead text f.infos js f.mid s f.read r closed) [
       | inl e ↦ closed (subst (λ (t : List ℕ). Begins 91 (skipped t)) e f.opens)
       | inr q ↦ no_info kind (skipped f.mid) here k f.wrong q.0 q.1 q.2
     ]
 
-no_open : (kind : FaultKind) (text here : List ℕ) → OpenFault kind text here → (js : List Parts) (s r : List ℕ) → Many NextInfo text js s → skipped s ≡ 62 ∷ r → ⊥
+no_open : (kind : FaultKind) (text here : List ℕ) → OpenFaultAt kind text here → (js : List PatchInfo) (s r : List ℕ) → Many NextInfo text js s → skipped s ≡ 62 ∷ r → ⊥
 no_open kind text here f js s r q closes =
     elim (infos_ahead text f.infos js f.mid s f.read q (begins_two 62 91 (skipped s) r (λ x. omega (arith, x)) closes)) [
       | inl e ↦ not_depends kind (skipped f.mid) here r f.wrong (ap skipped e ∙ closes)
       | inr p ↦ no_more_infos kind (skipped f.mid) here f.wrong (stands_opens (skipped f.mid) p.0 p.1 p.2)
     ]
 
-no_deps : (kind : FaultKind) (text here : List ℕ) → SaysNone kind → DepsFault kind text here → (ds : List Parts) (r : List ℕ) → Dependencies text ds r → ⊥
+no_deps : (kind : FaultKind) (text here : List ℕ) → ExcludesPatch kind → DepsFaultAt kind text here → (ds : List PatchInfo) (r : List ℕ) → Dependencies text ds r → ⊥
 no_deps kind text here k f ds r d =
     elim d [
       | inl x ↦
@@ -420,10 +420,10 @@ no_deps kind text here k f ds r d =
       | inr x ↦ x.0 (f.inside, f.opens)
     ]
 
-one_deps : (text : List ℕ) (ds es : List Parts) (r s : List ℕ) → Dependencies text ds r → Dependencies text es s → (ds ≡ es) × (r ≡ s)
+one_deps : (text : List ℕ) (ds es : List PatchInfo) (r s : List ℕ) → Dependencies text ds r → Dependencies text es s → (ds ≡ es) × (r ≡ s)
 one_deps = one_depends
 
-pub no_patch : (kind : FaultKind) (text here : List ℕ) → SaysNone kind → PatchFault kind text here → (p : Patch) (r : List ℕ) → PatchText text p r → ⊥
+pub no_patch : (kind : FaultKind) (text here : List ℕ) → ExcludesPatch kind → PatchFaultAt kind text here → (p : Patch) (r : List ℕ) → PatchText text p r → ⊥
 no_patch kind text here k (info f) p r t = no_info kind text here k f p.info t.after t.info
 no_patch kind text here k (deps i after s f) p r t =
     let one = one_info text p.info i t.after after t.info s in

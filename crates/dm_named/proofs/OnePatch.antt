@@ -3,7 +3,7 @@ use Rattle.std.proofs.Common.{◌≡◌, ℕ, List, ◌∷◌, ◌++◌, refl, s
 use Rattle.std.specs.Prelude.{codes, nat_eq}
 use Rattle.std.specs.Cmp.Lexicographic.{other_text, pointwise}
 use Rattle.dm_info.proofs.SpellingLemmas.{one_info, stands_opens}
-use Rattle.dm_info.specs.Parts.{Parts}
+use Rattle.dm_info.specs.PatchInfo.{PatchInfo}
 use Rattle.dm_tree.specs.Paths.{Path}
 use Rattle.dm_prim.specs.Primitives.{Prim, AddFile, RmFile, AddDir, RmDir, Hunk, At, Move}
 use Rattle.dm_named.specs.Words.{skipped, Word, WordAmong, Begins, LineGroup}
@@ -127,13 +127,13 @@ no_next rest none p after a = none (prim_a_word (skipped rest) p after a)
 pub one_prims : (text : List ℕ) (ps qs : List Prim) (r s : List ℕ) → Many NextPrim text ps r → Many NextPrim text qs s → (WordAmong prim_words (skipped r) → ⊥) → (WordAmong prim_words (skipped s) → ⊥) → (ps ≡ qs) × (r ≡ s)
 one_prims text ps qs r s a b x y = one_many NextPrim one_next text ps qs r s a b (no_next r x) (no_next s y)
 
-one_next_info : (text : List ℕ) (i j : Parts) (r s : List ℕ) → NextInfo text i r → NextInfo text j s → (i ≡ j) × (r ≡ s)
+one_next_info : (text : List ℕ) (i j : PatchInfo) (r s : List ℕ) → NextInfo text i r → NextInfo text j s → (i ≡ j) × (r ≡ s)
 one_next_info text i j r s a b = one_info (skipped text) i j r s a b
 
 no_next_info : (rest : List ℕ) → (Begins 91 (skipped rest) → ⊥) → Closed NextInfo rest
 no_next_info rest none i after a = none (stands_opens (skipped rest) i after a)
 
-pub one_infos : (text : List ℕ) (is js : List Parts) (r s : List ℕ) → Many NextInfo text is r → Many NextInfo text js s → (Begins 91 (skipped r) → ⊥) → (Begins 91 (skipped s) → ⊥) → (is ≡ js) × (r ≡ s)
+pub one_infos : (text : List ℕ) (is js : List PatchInfo) (r s : List ℕ) → Many NextInfo text is r → Many NextInfo text js s → (Begins 91 (skipped r) → ⊥) → (Begins 91 (skipped s) → ⊥) → (is ≡ js) × (r ≡ s)
 one_infos text is js r s a b x y = one_many NextInfo one_next_info text is js r s a b (no_next_info r x) (no_next_info s y)
 
 -- ---- marks
@@ -167,7 +167,7 @@ no_close_word text tail g a =
 other_mark : (b c : ℕ) (text x : List ℕ) → (b ≡ c → ⊥) → text ≡ b ∷ x → Begins c text → ⊥
 other_mark b c text x other e o = other (let both : b ∷ x ≡ c ∷ o.0 = sym e ∙ o.1 in cc)
 
-pub one_depends : (text : List ℕ) (ds es : List Parts) (r s : List ℕ) → Dependencies text ds r → Dependencies text es s → (ds ≡ es) × (r ≡ s)
+pub one_depends : (text : List ℕ) (ds es : List PatchInfo) (r s : List ℕ) → Dependencies text ds r → Dependencies text es s → (ds ≡ es) × (r ≡ s)
 one_depends text ds es r s a b =
     elim a [
       | inl x ↦ elim b [

@@ -5,11 +5,11 @@ use Rattle.std.specs.Prelude.{codes, ◌⊎◌}
 use Rattle.std.specs.List.{AllByRecursion, flat_map}
 use Rattle.std.specs.Fmt.{decimal}
 use Rattle.dm_info.proofs.SpellingLemmas.{canonical_stands}
-use Rattle.dm_info.specs.Parts.{Parts, IsInfo}
+use Rattle.dm_info.specs.PatchInfo.{PatchInfo, IsInfo}
 use Rattle.dm_info.specs.Spelling.{Stands, canonical}
 use Rattle.dm_tree.specs.Paths.{Path}
 use Rattle.dm_prim.specs.Primitives.{Prim, AddFile, RmFile, AddDir, RmDir, Hunk, At, Move}
-use Rattle.dm_tree.specs.Parts.{IsGoodPath}
+use Rattle.dm_tree.specs.Validity.{IsGoodPath}
 use Rattle.dm_prim.specs.Commuting.{IsGoodPrim, IsGoodWork}
 use Rattle.dm_named.specs.Words.{NoNewline, is_white, skipped, EndsWord, number_from, Begins, MarkedLine, NumberLine}
 use Rattle.dm_named.specs.Paths.{NoSlash, EndsPiece, SlashName, NameByte, PathWord}
@@ -232,16 +232,16 @@ prims_back (p ∷ ps) rest good none =
 
 -- ---- dependencies
 
-pub record ReadsInfos (text : List ℕ) (is : List Parts) (rest : List ℕ) : Type 0 where
+pub record ReadsInfos (text : List ℕ) (is : List PatchInfo) (rest : List ℕ) : Type 0 where
   pub mid : List ℕ
   pub read : Many NextInfo text is mid
   pub left : skipped mid ≡ skipped rest
 
-pub infos_skip : (t u : List ℕ) (is : List Parts) (rest : List ℕ) → skipped t ≡ skipped u → ReadsInfos t is rest → ReadsInfos u is rest
+pub infos_skip : (t u : List ℕ) (is : List PatchInfo) (rest : List ℕ) → skipped t ≡ skipped u → ReadsInfos t is rest → ReadsInfos u is rest
 infos_skip t u [] rest e r = record { mid = u; read = refl; left = sym e ∙ (ap skipped r.read ∙ r.left) }
 infos_skip t u (i ∷ is) rest e r = record { mid = r.mid; read = (r.read.0, subst (λ (s : List ℕ). Stands s i r.read.0) e r.read.1, r.read.2); left = r.left }
 
-pub infos_back : (is : List Parts) (rest : List ℕ) → AllByRecursion IsInfo is → ReadsInfos (flat_map info_line is ++ rest) is rest
+pub infos_back : (is : List PatchInfo) (rest : List ℕ) → AllByRecursion IsInfo is → ReadsInfos (flat_map info_line is ++ rest) is rest
 infos_back [] rest good = record { mid = rest; read = refl; left = refl }
 infos_back (i ∷ is) rest good =
     let tail = flat_map info_line is ++ rest in
@@ -250,12 +250,12 @@ infos_back (i ∷ is) rest good =
     let whole : canonical i ++ 10 ∷ tail ≡ ((canonical i ++ 10 ∷ []) ++ flat_map info_line is) ++ rest = joined_info (canonical i) (flat_map info_line is) rest in
     record { mid = more.mid; read = (32 ∷ 10 ∷ tail, subst (λ (t : List ℕ). Stands (skipped t) i (32 ∷ 10 ∷ tail)) whole one, more.read); left = more.left }
 
-pub record ReadsDeps (text : List ℕ) (ds : List Parts) (rest : List ℕ) : Type 0 where
+pub record ReadsDeps (text : List ℕ) (ds : List PatchInfo) (rest : List ℕ) : Type 0 where
   pub after : List ℕ
   pub read : Dependencies text ds after
   pub left : skipped after ≡ skipped rest
 
-deps_back : (ds : List Parts) (rest : List ℕ) → AllByRecursion IsInfo ds → (Begins 60 (skipped rest) → ⊥) → ReadsDeps (32 ∷ (deps_text ds ++ rest)) ds rest
+deps_back : (ds : List PatchInfo) (rest : List ℕ) → AllByRecursion IsInfo ds → (Begins 60 (skipped rest) → ⊥) → ReadsDeps (32 ∷ (deps_text ds ++ rest)) ds rest
 deps_back [] rest good none = record { after = 32 ∷ rest; read = inr (none, refl, refl); left = refl }
 deps_back (d ∷ ds) rest good none =
     let inner = flat_map info_line (d ∷ ds) in

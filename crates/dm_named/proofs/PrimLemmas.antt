@@ -3,13 +3,13 @@ use Rattle.std.proofs.Common.{◌<◌, ◌≡◌, ◌≤◌, ◌+◌, ℕ, suc, 
 use Rattle.dm_prim.specs.Primitives.{Prim}
 use Rattle.dm_named.specs.Words.{skipped, Word, Among, WordAmong}
 use Rattle.dm_named.specs.Patches.{NextPrim, prim_words}
-use Rattle.dm_named.specs.Faults.{PrimsFault, PrimFault}
+use Rattle.dm_named.specs.Faults.{PrimsFaultAt, PrimFaultAt}
 use Rattle.dm_named.specs.BodyWords.{word_of}
 use Rattle.dm_named.specs.Many.{Many}
 use Rattle.dm_named.specs.declared.fault.FaultKind.{FaultKind}
 use Rattle.dm_named.specs.declared.fault.FaultKind.TheVariants.{TooMany}
-use Rattle.dm_named.specs.declared.words.PrimWord.{PrimWord}
-use Rattle.dm_named.specs.declared.words.PrimWord.TheVariants as H
+use Rattle.dm_named.specs.declared.reading.words.PrimWord.{PrimWord}
+use Rattle.dm_named.specs.declared.reading.words.PrimWord.TheVariants as H
 use Rattle.dm_named.proofs.WordLemmas.{one_word}
 
 pub head_among : (h : PrimWord) → Among prim_words (word_of h)
@@ -26,13 +26,13 @@ a_head text rest h w = record { word = word_of h; rest = rest; stands = w; among
 pub no_a_word : (words : List (List ℕ)) (text word rest : List ℕ) → Word text word rest → (Among words word → ⊥) → WordAmong words text → ⊥
 no_a_word words text word rest w none a = none (subst (Among words) (one_word text a.word word a.rest rest a.stands w).0 a.among)
 
-pub too_many : (text mid here : List ℕ) (ps : List Prim) → Many NextPrim text ps mid → length ps ≤ 10000 → 10000 ≤ length ps → here ≡ skipped mid → WordAmong prim_words here → PrimsFault TooMany text here
+pub too_many : (text mid here : List ℕ) (ps : List Prim) → Many NextPrim text ps mid → length ps ≤ 10000 → 10000 ≤ length ps → here ≡ skipped mid → WordAmong prim_words here → PrimsFaultAt TooMany text here
 too_many text mid here ps r few many e w =
     record { prims = ps; mid = mid; read = r; few = few; wrong = inl (e, omega arith, subst (WordAmong prim_words) e w) }
 
-pub next_wrong : (kind : FaultKind) (text mid next here : List ℕ) (ps : List Prim) → Many NextPrim text ps mid → length ps < 10000 → next ≡ skipped mid → PrimFault kind next here → PrimsFault kind text here
+pub next_wrong : (kind : FaultKind) (text mid next here : List ℕ) (ps : List Prim) → Many NextPrim text ps mid → length ps < 10000 → next ≡ skipped mid → PrimFaultAt kind next here → PrimsFaultAt kind text here
 next_wrong kind text mid next here ps r few e w =
-    record { prims = ps; mid = mid; read = r; few = omega arith; wrong = inr (few, subst (λ (t : List ℕ). PrimFault kind t here) e w) }
+    record { prims = ps; mid = mid; read = r; few = omega arith; wrong = inr (few, subst (λ (t : List ℕ). PrimFaultAt kind t here) e w) }
 
 pub count_map : {X : Type 0} (f : X → Prim) (xs : List X) → length (map f xs) ≡ length xs
 count_map f [] = refl

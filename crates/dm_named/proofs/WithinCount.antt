@@ -6,14 +6,14 @@ use Rattle.dm_prim.specs.Primitives.{Prim}
 use Rattle.dm_named.specs.Words.{skipped, WordAmong}
 use Rattle.dm_named.specs.Many.{Many}
 use Rattle.dm_named.specs.Patches.{NextPrim, Dependencies, Body, prim_words, Patch, PatchText}
-use Rattle.dm_named.specs.Faults.{PrimFault, path, second, hunk, PrimsFault, BodyFault, in_braces, in_run, DepsFault, PatchFault, info, deps, body}
+use Rattle.dm_named.specs.Faults.{PrimFaultAt, path, second, hunk, PrimsFaultAt, BodyFaultAt, in_braces, in_run, DepsFaultAt, PatchFaultAt, info, deps, body}
 use Rattle.dm_named.specs.declared.fault.FaultKind.{FaultKind}
 use Rattle.dm_named.specs.declared.fault.FaultKind.TheVariants as K
 use Rattle.dm_named.proofs.ManyLemmas.{many_follows}
 use Rattle.dm_named.proofs.OnePatch.{one_next, no_next, one_depends}
 use Rattle.dm_named.proofs.NoPatch.{no_lead, no_patch, tail_same}
 
-not_in_prim : (text here : List ℕ) → PrimFault K.TooMany text here → ⊥
+not_in_prim : (text here : List ℕ) → PrimFaultAt K.TooMany text here → ⊥
 not_in_prim text here (path stands f) = f
 not_in_prim text here (second p mid s f) = f
 not_in_prim text here (hunk p mid s f) = f
@@ -23,7 +23,7 @@ goes_on ps [] qs mid rest e n r other = absurd (other r)
 goes_on ps (p ∷ more) qs mid rest e n r other = rw e (omega (arith, length-append ps (p ∷ more)))
 
 -- where one is too many, more stand there than there may be
-past_prims : (text here : List ℕ) → PrimsFault K.TooMany text here → (qs : List Prim) (s : List ℕ) → Many NextPrim text qs s → (WordAmong prim_words (skipped s) → ⊥) → 10000 < length qs
+past_prims : (text here : List ℕ) → PrimsFaultAt K.TooMany text here → (qs : List Prim) (s : List ℕ) → Many NextPrim text qs s → (WordAmong prim_words (skipped s) → ⊥) → 10000 < length qs
 past_prims text here f qs s r closed =
     elim f.wrong [
       | inl n ↦
@@ -32,7 +32,7 @@ past_prims text here f qs s r closed =
       | inr w ↦ absurd (not_in_prim (skipped f.mid) here w.1)
     ]
 
-past_body : (text here : List ℕ) → BodyFault K.TooMany text here → (qs : List Prim) (r : List ℕ) → Body text qs r → 10000 < length qs
+past_body : (text here : List ℕ) → BodyFaultAt K.TooMany text here → (qs : List Prim) (r : List ℕ) → Body text qs r → 10000 < length qs
 past_body text here (in_braces inside opens f) qs r b =
     elim b [
       | inl x ↦
@@ -47,10 +47,10 @@ past_body text here (in_run bare f) qs r b =
       | inr x ↦ elim f [ inl g ↦ past_prims text here g qs r x.read x.ends.prims | inr g ↦ absurd g.wrong ]
     ]
 
-not_in_deps : (text here : List ℕ) → DepsFault K.TooMany text here → ⊥
+not_in_deps : (text here : List ℕ) → DepsFaultAt K.TooMany text here → ⊥
 not_in_deps text here f = elim f.wrong [ inl g ↦ g.wrong | inr g ↦ g.wrong ]
 
-pub past_patch : (text here : List ℕ) → PatchFault K.TooMany text here → (p : Patch) (r : List ℕ) → PatchText text p r → 10000 < length p.prims
+pub past_patch : (text here : List ℕ) → PatchFaultAt K.TooMany text here → (p : Patch) (r : List ℕ) → PatchText text p r → 10000 < length p.prims
 past_patch text here (info f) p r t = absurd f
 past_patch text here (deps i after s f) p r t = absurd (not_in_deps after here f)
 past_patch text here (body i ds after start s d f) p r t =
@@ -58,7 +58,7 @@ past_patch text here (body i ds after start s d f) p r t =
     let two = one_depends after p.deps ds t.body start (subst (λ (x : List ℕ). Dependencies x p.deps t.body) one.1 t.deps) d in
     past_body start here f p.prims r (subst (λ (x : List ℕ). Body x p.prims r) two.1 t.prims)
 
-pub memory_alone : (kind : FaultKind) (text here : List ℕ) → PatchFault kind text here → (p : Patch) (r : List ℕ) → PatchText text p r → length p.prims ≤ 10000 → kind ≡ K.NoMemory
+pub memory_alone : (kind : FaultKind) (text here : List ℕ) → PatchFaultAt kind text here → (p : Patch) (r : List ℕ) → PatchText text p r → length p.prims ≤ 10000 → kind ≡ K.NoMemory
 memory_alone K.NoMemory text here f p r t few = refl
 memory_alone K.TooMany text here f p r t few = let more = past_patch text here f p r t in absurd (omega arith)
 memory_alone kind text here f p r t few = absurd (no_patch kind text here (record { memory = λ e. cc; count = λ e. cc }) f p r t)

@@ -2,10 +2,10 @@
 use Rattle.std.specs.Prelude.{◌≡◌, ℕ, List, codes}
 use Rattle.dm_named.specs.Words.{Among}
 use Rattle.dm_named.specs.Patches.{prim_words, unsupported_words}
-use Rattle.dm_named.specs.declared.words.PrimWord.{PrimWord}
-use Rattle.dm_named.specs.declared.words.PrimWord.TheVariants as prim
-use Rattle.dm_named.specs.declared.words.BodyWord.{BodyWord}
-use Rattle.dm_named.specs.declared.words.BodyWord.TheVariants as body
+use Rattle.dm_named.specs.declared.reading.words.PrimWord.{PrimWord}
+use Rattle.dm_named.specs.declared.reading.words.PrimWord.TheVariants as prim
+use Rattle.dm_named.specs.declared.reading.words.BodyWord.{BodyWord}
+use Rattle.dm_named.specs.declared.reading.words.BodyWord.TheVariants as body
 
 -- how a primitive's word is spelled
 abbrev pub word_of : PrimWord → List ℕ

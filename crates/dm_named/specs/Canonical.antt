@@ -2,7 +2,7 @@
 use Rattle.std.specs.Prelude.{◌||◌, ◌==◌, ℕ, List, [], ◌∷◌, ◌++◌, codes, if◌then◌else◌}
 use Rattle.std.specs.List.{flat_map}
 use Rattle.std.specs.Fmt.{decimal}
-use Rattle.dm_info.specs.Parts.{Parts}
+use Rattle.dm_info.specs.PatchInfo.{PatchInfo}
 use Rattle.dm_info.specs.Spelling.{canonical}
 use Rattle.dm_tree.specs.Paths.{Name, Path}
 use Rattle.dm_prim.specs.Primitives.{Work, Prim, AddFile, RmFile, AddDir, RmDir, Hunk, At, Move}
@@ -44,11 +44,11 @@ prim_text (At p w) = work_word w ++ (path_text p ++ work_text w)
 prim_text (Move p q) = codes "move " ++ (path_text p ++ 32 ∷ (path_text q ++ 10 ∷ []))
 
 -- an information on a line of its own, with the space behind it
-abbrev pub info_line : Parts → List ℕ
+abbrev pub info_line : PatchInfo → List ℕ
 info_line i = canonical i ++ 10 ∷ []
 
 -- the dependencies, if there are any
-abbrev pub deps_text : List Parts → List ℕ
+abbrev pub deps_text : List PatchInfo → List ℕ
 deps_text [] = []
 deps_text (d ∷ ds) = codes "<\n" ++ (flat_map info_line (d ∷ ds) ++ codes "> ")
 

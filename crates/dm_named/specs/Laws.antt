@@ -1,14 +1,14 @@
 -- Laws of the text of paths, primitives and named patches.
 use Rattle.std.specs.Prelude.{◌≡◌, ℕ, List, ◌++◌}
 use Rattle.dm_tree.specs.Paths.{Path}
-use Rattle.dm_tree.specs.Parts.{IsGoodPath}
+use Rattle.dm_tree.specs.Validity.{IsGoodPath}
 use Rattle.dm_prim.specs.Primitives.{Prim}
 use Rattle.dm_prim.specs.Commuting.{IsGoodPrim}
 use Rattle.dm_named.specs.Words.{skipped, Begins, EndsWord}
 use Rattle.dm_named.specs.Paths.{PathWord}
 use Rattle.dm_named.specs.Patches.{PrimText, Patch, PatchText, IsGoodPatch, RunEnds}
 use Rattle.dm_named.specs.Canonical.{path_text, prim_text, patch_text}
-use Rattle.dm_named.specs.Faults.{PatchFault, SaysNone}
+use Rattle.dm_named.specs.Faults.{PatchFaultAt, ExcludesPatch}
 use Rattle.dm_named.specs.declared.fault.FaultKind.{FaultKind}
 
 -- no line of a hunk goes on there
@@ -35,7 +35,7 @@ OnePatch = (text : List ℕ) (p q : Patch) (r s : List ℕ) → PatchText text p
 
 -- where a text has a fault that says so, no named patch stands
 abbrev pub FaultExcludesPatch : Type 0
-FaultExcludesPatch = (kind : FaultKind) (text here : List ℕ) → SaysNone kind → PatchFault kind text here → (p : Patch) (r : List ℕ) → PatchText text p r → ⊥
+FaultExcludesPatch = (kind : FaultKind) (text here : List ℕ) → ExcludesPatch kind → PatchFaultAt kind text here → (p : Patch) (r : List ℕ) → PatchText text p r → ⊥
 
 -- a good path that is written is read again, before whatever ends a word
 abbrev pub PathRoundTrip : Type 0

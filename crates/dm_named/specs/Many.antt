@@ -1,4 +1,4 @@
--- Parts of one kind, one after the other.
+-- PatchInfo of one kind, one after the other.
 use Rattle.std.specs.Prelude.{◌≡◌, ℕ, List, [], ◌∷◌}
 
 -- these values stand at the front of the text, one after the other, each as `S text value rest` says, and this is left behind them

@@ -1,7 +1,7 @@
 -- Primitive patches and named patches as text (Darcs.Patch.Prim.V1, Darcs.Patch.Named).
 use Rattle.std.specs.Prelude.{◌≡◌, ◌≢◌, ◌⊎◌, ℕ, List, [], ◌∷◌, codes}
 use Rattle.std.specs.List.{AllByRecursion}
-use Rattle.dm_info.specs.Parts.{Parts, IsInfo}
+use Rattle.dm_info.specs.PatchInfo.{PatchInfo, IsInfo}
 use Rattle.dm_info.specs.Spelling.{Stands}
 use Rattle.dm_tree.specs.Paths.{Path}
 use Rattle.dm_prim.specs.Primitives.{Prim, AddFile, RmFile, AddDir, RmDir, Hunk, At, Move}
@@ -12,8 +12,8 @@ use Rattle.dm_named.specs.Paths.{NextPath}
 
 -- a named patch: its information, the informations of the patches that it names as dependencies, and its primitives
 pub record Patch : Type 0 where
-  pub info : Parts
-  pub deps : List Parts
+  pub info : PatchInfo
+  pub deps : List PatchInfo
   pub prims : List Prim
 
 -- its parts are good ones
@@ -83,11 +83,11 @@ abbrev pub NextPrim : List ℕ → Prim → List ℕ → Type 0
 NextPrim text p rest = PrimText (skipped text) p rest
 
 -- an information behind white space
-abbrev pub NextInfo : List ℕ → Parts → List ℕ → Type 0
+abbrev pub NextInfo : List ℕ → PatchInfo → List ℕ → Type 0
 NextInfo text i rest = Stands (skipped text) i rest
 
 -- informations in angle brackets
-pub record InAngles (text : List ℕ) (deps : List Parts) (rest : List ℕ) : Type 0 where
+pub record InAngles (text : List ℕ) (deps : List PatchInfo) (rest : List ℕ) : Type 0 where
   pub inside : List ℕ
   pub mid : List ℕ
   pub opens : NextByte 60 text inside
@@ -95,7 +95,7 @@ pub record InAngles (text : List ℕ) (deps : List Parts) (rest : List ℕ) : Ty
   pub closes : NextByte 62 mid rest
 
 -- the dependencies in angle brackets, or none
-abbrev pub Dependencies : List ℕ → List Parts → List ℕ → Type 0
+abbrev pub Dependencies : List ℕ → List PatchInfo → List ℕ → Type 0
 Dependencies text deps rest = InAngles text deps rest ⊎ ((Begins 60 (skipped text) → ⊥) × (deps ≡ []) × (text ≡ rest))
 
 -- primitives in braces

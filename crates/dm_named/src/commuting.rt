@@ -18,7 +18,7 @@ pub fn commute_named<A: Allocator, B: Allocator, C: Allocator + Copy>(
     ensures laws { IfOk result (NamedLawsHold x.now y.now) }
     ensures back { IfOk result (NamedCommutesBack x.now y.now) }
 {
-    if y.names(x.info()) || x.names(y.info()) {
+    if y.depends_on(x.info()) || x.depends_on(y.info()) {
         return Ok(None);
     }
     match commute_lists(alloc, x.prims(), y.prims())? {

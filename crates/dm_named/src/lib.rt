@@ -8,22 +8,14 @@
 //! patches commute.
 #![tactic(auto)]
 
-mod bodies;
 mod commuting;
-mod dependencies;
 mod fault;
-mod hunks;
 pub mod laws;
 mod named;
-mod names;
-mod numbers;
-mod paths;
-mod primitives;
 mod reading;
 #[cfg(test)]
 mod tests;
 pub mod text;
-mod words;
 mod writing;
 
 pub use commuting::commute_named;

@@ -57,7 +57,7 @@ impl<A: Allocator> Named<A> {
     }
 
     /// Whether it names this information among its dependencies.
-    pub fn names<B: Allocator>(&self, info: &Info<B>) -> bool
+    pub fn depends_on<B: Allocator>(&self, info: &Info<B>) -> bool
         ensures { IsTrue result ↔ Contains self.now.deps info.now }
     {
         is_among(self.deps(), info)

@@ -1,11 +1,20 @@
 //! Reading a named patch.
 
+mod bodies;
+mod dependencies;
+mod hunks;
+mod names;
+mod numbers;
+mod paths;
+mod primitives;
+mod words;
+
 ghost use Rattle.std.specs.Prelude.{◌≡◌, ◌≤◌, ◌<◌, ℕ, List, length, drop, MatchResult, IfOk, IfErr};
 ghost use Rattle.dm_named.specs.Patches.{Patch, PatchText};
-ghost use Rattle.dm_named.specs.Faults.{PatchFault, SaysNone};
+ghost use Rattle.dm_named.specs.Faults.{PatchFaultAt, ExcludesPatch};
 
-use crate::bodies::body_at;
-use crate::dependencies::deps_at;
+use crate::reading::bodies::body_at;
+use crate::reading::dependencies::deps_at;
 use crate::fault::{FaultKind, ReadFault};
 use crate::named::Named;
 use crate::text::info_at;
@@ -21,7 +30,7 @@ fn named_at<A: Allocator + Copy>(
     ensures within { IfOk result (λ x. x.1 ≤ length text.now) }
     ensures forward { IfOk result (λ x. at < x.1) }
     ensures few { IfOk result (λ x. length x.0.prims ≤ 10000) }
-    ensures err { IfErr result (λ e. PatchFault e.kind (drop at text.now) (drop e.at text.now)) }
+    ensures err { IfErr result (λ e. PatchFaultAt e.kind (drop at text.now) (drop e.at text.now)) }
     ensures place { IfErr result (λ e. at ≤ length text.now → e.at ≤ length text.now) }
     ensures past { IfErr result (λ e. length text.now < at → e.at ≡ at) }
 {
@@ -54,11 +63,11 @@ pub fn read_named<A: Allocator + Copy>(
         → MatchResult result (λ x. (x.0 ≡ p) × (drop x.1 text.now ≡ rest)) (λ e. e.kind ≡ FaultKind.NoMemory) }
 
     // What is wrong, and where.
-    ensures err { IfErr result (λ e. PatchFault e.kind (drop at text.now) (drop e.at text.now)) }
+    ensures err { IfErr result (λ e. PatchFaultAt e.kind (drop at text.now) (drop e.at text.now)) }
     ensures place { IfErr result (λ e. at ≤ length text.now → e.at ≤ length text.now) }
     ensures past { IfErr result (λ e. length text.now < at → e.at ≡ at) }
     // A text with a fault that says so is no named patch.
-    ensures none { IfErr result (λ e. SaysNone e.kind → (p : Patch) (rest : List ℕ) → PatchText (drop at text.now) p rest → ⊥) }
+    ensures none { IfErr result (λ e. ExcludesPatch e.kind → (p : Patch) (rest : List ℕ) → PatchText (drop at text.now) p rest → ⊥) }
 {
     match named_at(alloc, text, at) {
         Ok(found) => Ok(found),

@@ -3,7 +3,7 @@
 ghost use Rattle.std.specs.Prelude.{◌≡◌, ◌≤◌, ◌<◌, ◌+◌, ◌∷◌, length, drop, IfOk, IfErr, MatchBool};
 ghost use Rattle.dm_info.specs.Spelling.{Stands};
 ghost use Rattle.dm_named.specs.Words.{is_white, skipped, Word, Line, Begins};
-ghost use Rattle.dm_named.specs.Faults.{InfoFault};
+ghost use Rattle.dm_named.specs.Faults.{InfoFaultAt};
 
 use crate::fault::{FaultKind, ReadFault};
 use dm_info::{Info, InfoReadFault, read_info};
@@ -75,7 +75,7 @@ pub fn info_at<A: Allocator + Copy>(
     ensures ok { IfOk result (λ x. Stands (drop at text.now) x.0 (drop x.1 text.now)) }
     ensures within { IfOk result (λ x. x.1 ≤ length text.now) }
     ensures forward { IfOk result (λ x. at < x.1) }
-    ensures err { IfErr result (λ e. InfoFault e.kind (drop at text.now) (drop e.at text.now)) }
+    ensures err { IfErr result (λ e. InfoFaultAt e.kind (drop at text.now) (drop e.at text.now)) }
     ensures place { IfErr result (λ e. e.at ≡ at) }
 {
     match read_info(alloc, text, at) {

@@ -3,8 +3,8 @@
 ghost use Rattle.std.specs.Prelude.{◌≡◌, ◌++◌, ◌∷◌, [], OnOk, OnErr, IfOk, codes};
 ghost use Rattle.std.specs.List.{AllByRecursion, flat_map};
 ghost use Rattle.std.specs.Fmt.{decimal};
-ghost use Rattle.dm_info.specs.Parts.{IsInfo};
-ghost use Rattle.dm_tree.specs.Parts.{IsGoodPath};
+ghost use Rattle.dm_info.specs.PatchInfo.{IsInfo};
+ghost use Rattle.dm_tree.specs.Validity.{IsGoodPath};
 ghost use Rattle.dm_prim.specs.Commuting.{IsGoodPrim};
 ghost use Rattle.dm_prim.specs.Hunks.{hunk_of};
 ghost use Rattle.dm_prim.specs.Prims.{prim_of, prims_of};

@@ -9,11 +9,11 @@ use Rattle.dm_tree.specs.declared.fault.TreeFault.{TreeFault}
 use Rattle.dm_tree.specs.declared.fault.TreeFault.TheVariants.{NoParent, Occupied, Missing, NotFile, NotDir, NotEmpty, IntoItself, LineRange, OldDiffers, NoLines, TooDeep, NoMemory}
 use Rattle.dm_tree.specs.Paths.{Path, Apart}
 use Rattle.dm_tree.specs.Trees.{Lines, Entry, Dir, File, Map, Tree, path_cmp, IsLawful, Deep, empty_file}
-use Rattle.dm_tree.specs.Changes.{Adds, RemovesFile, RemovesDir, MayMove, Renames, Renamed, InRange, Edits, EditsFile, Edited}
+use Rattle.dm_tree.specs.Changes.{AddAnswers, RemoveFileAnswers, RemoveDirAnswers, MayMove, RenameAnswers, Renamed, InRange, ReplacesLines, EditAnswers, Edited}
 use Rattle.dm_tree.proofs.Paths.{swap, swap-right}
 use Rattle.dm_tree.proofs.Trees.{path_total, equal_by}
-use Rattle.dm_tree.proofs.Shifts.{self_equal}
-use Rattle.dm_prim.specs.Runs.{Runs, done, step}
+use Rattle.dm_tree.proofs.MoveLemmas.{self_equal}
+use Rattle.dm_prim.specs.InTurn.{InTurn, done, step}
 use Rattle.dm_prim.specs.Primitives.{AddFile, RmFile, AddDir, RmDir, Hunk, Prim, At, Move, Applies}
 use Rattle.dm_prim.specs.Prims.{prim_of, prims_of}
 use Rattle.dm_prim.specs.Applying.{Applied, FaultsAs, AppliesToTree, AppliedAll}
@@ -45,7 +45,7 @@ cut_else t p q n = map.get-remove path_total t p q ∙ go (cases_Bool (eq_by_cmp
 
 -- adding
 module _ (t t' : Tree) (p : Path) where
-  pub adds_file : {T : Type 0} (r : Result T TreeFault) → Adds (map.get t) p r → OnOk r (t' ≡ map.insert t p empty_file) → OnErr r (t' ≡ t) → Applied (At p AddFile) t t' r
+  pub adds_file : {T : Type 0} (r : Result T TreeFault) → AddAnswers (map.get t) p r → OnOk r (t' ≡ map.insert t p empty_file) → OnErr r (t' ≡ t) → Applied (At p AddFile) t t' r
   adds_file (Ok x) f ok err = record { around = f.0; here = (f.1, rw ok (put_here t p empty_file)); elsewhere = λ q n. rw ok (put_else t p empty_file q n) }
   adds_file (Err NoParent) f ok err = (err, λ m' a. f a.around)
   adds_file (Err Occupied) f ok err = (err, λ m' a. f.1 a.here.0)
@@ -60,7 +60,7 @@ module _ (t t' : Tree) (p : Path) where
   adds_file (Err TooDeep) f ok err = absurd f
   adds_file (Err NoMemory) f ok err = (err, tt)
 
-  pub adds_dir : {T : Type 0} (r : Result T TreeFault) → Adds (map.get t) p r → OnOk r (t' ≡ map.insert t p Dir) → OnErr r (t' ≡ t) → Applied (At p AddDir) t t' r
+  pub adds_dir : {T : Type 0} (r : Result T TreeFault) → AddAnswers (map.get t) p r → OnOk r (t' ≡ map.insert t p Dir) → OnErr r (t' ≡ t) → Applied (At p AddDir) t t' r
   adds_dir (Ok x) f ok err = record { around = f.0; here = (f.1, rw ok (put_here t p Dir)); elsewhere = λ q n. rw ok (put_else t p Dir q n) }
   adds_dir (Err NoParent) f ok err = (err, λ m' a. f a.around)
   adds_dir (Err Occupied) f ok err = (err, λ m' a. f.1 a.here.0)
@@ -93,7 +93,7 @@ module _ (m m' : Map) (p : Path) where
   dir_file ls h a = let k : m p ≡ Some Dir = a.here.0 in cc
 
 module _ (t t' : Tree) (p : Path) where
-  pub removes_file : {T : Type 0} (r : Result T TreeFault) → RemovesFile (map.get t) p r → OnOk r (t' ≡ map.remove t p) → OnErr r (t' ≡ t) → Applied (At p RmFile) t t' r
+  pub removes_file : {T : Type 0} (r : Result T TreeFault) → RemoveFileAnswers (map.get t) p r → OnOk r (t' ≡ map.remove t p) → OnErr r (t' ≡ t) → Applied (At p RmFile) t t' r
   removes_file (Ok x) f ok err = record { around = tt; here = (f, rw ok (cut_here t p)); elsewhere = λ q n. rw ok (cut_else t p q n) }
   removes_file (Err NoParent) f ok err = absurd f
   removes_file (Err Occupied) f ok err = absurd f
@@ -108,7 +108,7 @@ module _ (t t' : Tree) (p : Path) where
   removes_file (Err TooDeep) f ok err = absurd f
   removes_file (Err NoMemory) f ok err = absurd f
 
-  pub removes_dir : {T : Type 0} (r : Result T TreeFault) → IsLawful (map.get t) → RemovesDir (map.get t) p r → OnOk r (t' ≡ map.remove t p) → OnErr r (t' ≡ t) → Applied (At p RmDir) t t' r
+  pub removes_dir : {T : Type 0} (r : Result T TreeFault) → IsLawful (map.get t) → RemoveDirAnswers (map.get t) p r → OnOk r (t' ≡ map.remove t p) → OnErr r (t' ≡ t) → Applied (At p RmDir) t t' r
   removes_dir (Ok x) l f ok err = record {
     around = λ n r. subst (λ q. map.get t q ≡ None) (append_assoc p (n ∷ []) r) (below_absent (map.get t) l r (p ++ n ∷ []) (f.1 n));
     here = (f.0, rw ok (cut_here t p));
@@ -142,7 +142,7 @@ module _ (m : Map) (a b : Path) (l : IsLawful m) (k : MayMove m a b) where
   would_be_deep r n d = (b ++ r, d, λ e. n (ap m (sym (swap-right a b r apart_of)) ∙ e))
 
 module _ (t t' : Tree) (a b : Path) (l : IsLawful (map.get t)) where
-  pub renames : {T : Type 0} (r : Result T TreeFault) → Renames (map.get t) a b r → OnOk r (Renamed a b (map.get t) (map.get t')) → OnErr r (t' ≡ t) → Applied (Move a b) t t' r
+  pub renames : {T : Type 0} (r : Result T TreeFault) → RenameAnswers (map.get t) a b r → OnOk r (Renamed a b (map.get t) (map.get t')) → OnErr r (t' ≡ t) → Applied (Move a b) t t' r
   renames (Ok x) f ok err = (f.0, ok)
   renames (Err NoParent) f ok err = (err, λ m' h. f.2 h.0.parent_is)
   renames (Err Occupied) f ok err = (err, λ m' h. f.3 h.0.absent)
@@ -158,7 +158,7 @@ module _ (t t' : Tree) (a b : Path) (l : IsLawful (map.get t)) where
   renames (Err NoMemory) f ok err = (err, tt)
 
 -- editing
-module _ (n : ℕ) (old new ls ls' : Lines) (e : Edits n old new ls ls') where
+module _ (n : ℕ) (old new ls ls' : Lines) (e : ReplacesLines n old new ls ls') where
   count_is : length ls ≡ length e.front + (length old + length e.back)
   count_is = ap length e.before ∙ length-append e.front (old ++ e.back) ∙ ap (λ k. length e.front + k) (length-append old e.back)
 
@@ -190,14 +190,14 @@ module _ (m : Map) (p : Path) (n : ℕ) (old new : Lines) where
   edit_dir : m p ≡ Some Dir → (m' : Map) → Applies (At p (Hunk n old new)) m m' → ⊥
   edit_dir h m' a = let k = a.here.2 in cc
 
-  edit_of : (ls : Lines) → m p ≡ Some (File ls) → (m' : Map) → Applies (At p (Hunk n old new)) m m' → (ls' : Lines) × Edits n old new ls ls'
-  edit_of ls h m' a = (a.here.1, subst (λ x. Edits n old new x a.here.1) (same_lines (m p) a.here.0 ls a.here.2 h) a.here.4)
+  edit_of : (ls : Lines) → m p ≡ Some (File ls) → (m' : Map) → Applies (At p (Hunk n old new)) m m' → (ls' : Lines) × ReplacesLines n old new ls ls'
+  edit_of ls h m' a = (a.here.1, subst (λ x. ReplacesLines n old new x a.here.1) (same_lines (m p) a.here.0 ls a.here.2 h) a.here.4)
 
 module _ (t t' : Tree) (p : Path) (n : ℕ) (old new : Lines) where
-  edited : (m' : Map) (ls : Lines) → map.get t p ≡ Some (File ls) → Applies (At p (Hunk n old new)) (map.get t) m' → (ls' : Lines) × Edits n old new ls ls'
+  edited : (m' : Map) (ls : Lines) → map.get t p ≡ Some (File ls) → Applies (At p (Hunk n old new)) (map.get t) m' → (ls' : Lines) × ReplacesLines n old new ls ls'
   edited m' ls h a = edit_of (map.get t) p n old new ls h m' a
 
-  pub edits : {T : Type 0} (r : Result T TreeFault) → EditsFile (map.get t) p n old new r → OnOk r (Edited p n old new t t') → OnErr r (t' ≡ t) → Applied (At p (Hunk n old new)) t t' r
+  pub edits : {T : Type 0} (r : Result T TreeFault) → EditAnswers (map.get t) p n old new r → OnOk r (Edited p n old new t t') → OnErr r (t' ≡ t) → Applied (At p (Hunk n old new)) t t' r
   edits (Ok x) f ok err = record {
     around = tt;
     here = (ok.0, ok.1, ok.2, rw ok.4 (put_here t p (File ok.1)), ok.3);
@@ -218,13 +218,13 @@ module _ (t t' : Tree) (p : Path) (n : ℕ) (old new : Lines) where
 
 -- a list
 module _ {Y : Type 0} (prims : List (code.Primitive Y)) (i : ℕ) (p : code.Primitive Y) (l : i < length prims) (e : p ≡ get_or prims i p) where
-  pub one_more : {T : Type 0} (x : T) (r : Result T TreeFault) (t u z : Tree) → r ≡ Ok x → Applied (prim_of p) u z r → Runs AppliesToTree (take i (prims_of prims)) t u → Runs AppliesToTree (take (i + 1) (prims_of prims)) t z
+  pub one_more : {T : Type 0} (x : T) (r : Result T TreeFault) (t u z : Tree) → r ≡ Ok x → Applied (prim_of p) u z r → InTurn AppliesToTree (take i (prims_of prims)) t u → InTurn AppliesToTree (take (i + 1) (prims_of prims)) t z
   one_more x r t u z is a k = rw (prims_more prims i p l e) (runs_on Prim Tree AppliesToTree k (step (rw is at a) done))
 
-  pub stops_at : {T : Type 0} (f : TreeFault) (r : Result T TreeFault) (t u z : Tree) → r ≡ Err f → Applied (prim_of p) u z r → FaultsAs (prim_of p) (map.get u) r → Runs AppliesToTree (take i (prims_of prims)) t u →
+  pub stops_at : {T : Type 0} (f : TreeFault) (r : Result T TreeFault) (t u z : Tree) → r ≡ Err f → Applied (prim_of p) u z r → FaultsAs (prim_of p) (map.get u) r → InTurn AppliesToTree (take i (prims_of prims)) t u →
       AppliedAll {T = T} (prims_of prims) t z (Err (i, f))
   stops_at {T} f r t u z is a h k = let b = rw is at a in
       (prim_of p, drop (i + 1) (prims_of prims), parted prims i p l e, rw b.0 k, rw b.0 b.1, subst (λ x. FaultsAs {T = T} (prim_of p) (map.get x) (Err f)) (sym b.0) (subst (λ x. FaultsAs {T = T} (prim_of p) (map.get u) x) is h))
 
-pub all_done : {Y : Type 0} (prims : List (code.Primitive Y)) (i : ℕ) (t z : Tree) → length prims ≤ i → Runs AppliesToTree (take i (prims_of prims)) t z → Runs AppliesToTree (prims_of prims) t z
+pub all_done : {Y : Type 0} (prims : List (code.Primitive Y)) (i : ℕ) (t z : Tree) → length prims ≤ i → InTurn AppliesToTree (take i (prims_of prims)) t z → InTurn AppliesToTree (prims_of prims) t z
 all_done prims i t z l k = rw (take_all i (prims_of prims) (rw (count_of prims) l)) at k

@@ -6,8 +6,8 @@ use Rattle.dm_prim.proofs.Undoing.{swap_left, swap_right, OffRoot, undone, kept,
 use Rattle.dm_prim.proofs.Squares.{Beside, Passing, Square, hunk_down, hunk_up, free, then_move, move_then, moves, beside_clear, beside_moved, passing_turn, passing_clear, passing_moved, beside_inv, same_under, passing_kind, passing_still}
 use Rattle.dm_tree.specs.Paths.{Path, Apart}
 use Rattle.dm_tree.specs.Trees.{Lines, Entry, Dir, File, Map, HasParent, IsLawful, empty_file}
-use Rattle.dm_tree.specs.Changes.{Edits}
-use Rattle.dm_prim.specs.Primitives.{Work, AddFile, RmFile, AddDir, RmDir, Hunk, Prim, At, Move, inv_work, inv, Changes, Around, WorksAt, Moves, Applies}
+use Rattle.dm_tree.specs.Changes.{ReplacesLines}
+use Rattle.dm_prim.specs.Primitives.{Work, AddFile, RmFile, AddDir, RmDir, Hunk, Prim, At, Move, inv_work, inv, Changes, Around, WorksAt, AppliesMove, Applies}
 use Rattle.dm_prim.specs.Table.{IsDirectoryWork, IsHunk, LiesAbove, WorkAndWork}
 
 -- t with e at p
@@ -31,8 +31,8 @@ put_other t p e q n = go (path_dec q p) refl
     go (inr h) k = rw (k, put)
 
 -- q' then p' lead from t to z
-abbrev pub Leads : Prim → Prim → Map → Map → Type 0
-Leads q' p' t z = (u : Map) × Applies q' t u × Applies p' u z
+abbrev pub BothLead : Prim → Prim → Map → Map → Type 0
+BothLead q' p' t z = (u : Map) × Applies q' t u × Applies p' u z
 
 pub changes_at : (w : Work) (e e' d d' : Option Entry) → Changes w e e' → d ≡ e → d' ≡ e' → Changes w d d'
 changes_at w e e' d d' c i j = rw (i, j) c
@@ -69,7 +69,7 @@ around_carry w f g s s' same dir work a = go w work a
     go RmDir h a = λ n r. same (f ++ n ∷ r) (λ e. (h tt).right (n ∷ r, sym e)) ∙ a n r
     go (Hunk l o n) h a = tt
 
-pub runs_free : (f : Path) (w : Work) (g : Path) (v : Work) → WorkAndWork f w g v → (t u z : Map) → WorksAt f w t u → WorksAt g v u z → Leads (At g v) (At f w) t z
+pub runs_free : (f : Path) (w : Work) (g : Path) (v : Work) → WorkAndWork f w g v → (t u z : Map) → WorksAt f w t u → WorksAt g v u z → BothLead (At g v) (At f w) t z
 runs_free f w g v s t u z h k = (m, first, second)
   where
     m : Map
@@ -118,7 +118,7 @@ around_swapped AddDir a b f t u s is h = parent_swapped a b f t u s.move_apart s
 around_swapped RmDir a b f t u s is h = λ n r. is (swap a b f ++ n ∷ r) ∙ rw (← swap-append a b f (n ∷ r) s.move_apart (beside_clear f RmDir a b s), swap-swap a b (f ++ n ∷ r) s.move_apart) (h n r)
 around_swapped (Hunk l o n) a b f t u s is h = tt
 
-pub runs_then_move : (f : Path) (w : Work) (a b : Path) → Beside f w a b → (t u z : Map) → IsLawful t → IsLawful u → WorksAt f w t u → Moves a b u z → Leads (Move a b) (At (swap a b f) w) t z
+pub runs_then_move : (f : Path) (w : Work) (a b : Path) → Beside f w a b → (t u z : Map) → IsLawful t → IsLawful u → WorksAt f w t u → AppliesMove a b u z → BothLead (Move a b) (At (swap a b f) w) t z
 runs_then_move f w a b s t u z lt lu h k = (m, moves_from a b t m lt first, second)
   where
     d : Apart a b
@@ -175,12 +175,12 @@ clears_room e m o1 n1 o2 n2 (inl h) = omega arith
 clears_room e m o1 n1 o2 n2 (inr h) = omega arith
 
 pub edits_down : (l1 l2 l2' : ℕ) (o1 n1 o2 n2 ls mid fin : Lines) → LiesAbove (l1 + length o1) l2' (length o1) (length n1) (length o2) (length n2) → l2' + length n1 ≡ l2 + length o1 →
-    Edits l1 o1 n1 ls mid → Edits l2 o2 n2 mid fin → (via : Lines) × Edits l2' o2 n2 ls via × Edits l1 o1 n1 via fin
+    ReplacesLines l1 o1 n1 ls mid → ReplacesLines l2 o2 n2 mid fin → (via : Lines) × ReplacesLines l2' o2 n2 ls via × ReplacesLines l1 o1 n1 via fin
 edits_down l1 l2 l2' o1 n1 o2 n2 ls mid fin c e h k =
     go (split (h.front ++ n1) h.back k.front (o2 ++ k.back) (append_assoc h.front n1 h.back ∙ sym h.after ∙ k.before)
     (rw (length-append h.front n1) (omega (arith, clears_le (l1 + length o1) l2' (length o1) (length n1) (length o2) (length n2) c))))
   where
-    go : (m : Lines) × (k.front ≡ (h.front ++ n1) ++ m) × (h.back ≡ m ++ (o2 ++ k.back)) → (via : Lines) × Edits l2' o2 n2 ls via × Edits l1 o1 n1 via fin
+    go : (m : Lines) × (k.front ≡ (h.front ++ n1) ++ m) × (h.back ≡ m ++ (o2 ++ k.back)) → (via : Lines) × ReplacesLines l2' o2 n2 ls via × ReplacesLines l1 o1 n1 via fin
     go (m, i, j) =
         let size : length k.front ≡ length h.front + length n1 + length m = simp length-append at (ap length i) in
         let place : (length h.front + (length o1 + length m)) + 1 ≡ l2' = omega arith in
@@ -199,10 +199,10 @@ edits_down l1 l2 l2' o1 n1 o2 n2 ls mid fin c e h k =
         )
 
 pub runs_hunk_down : (f : Path) (l1 l2 l2' : ℕ) (o1 n1 o2 n2 : Lines) → LiesAbove (l1 + length o1) l2' (length o1) (length n1) (length o2) (length n2) → l2' + length n1 ≡ l2 + length o1 →
-    (t u z : Map) → WorksAt f (Hunk l1 o1 n1) t u → WorksAt f (Hunk l2 o2 n2) u z → Leads (At f (Hunk l2' o2 n2)) (At f (Hunk l1 o1 n1)) t z
+    (t u z : Map) → WorksAt f (Hunk l1 o1 n1) t u → WorksAt f (Hunk l2 o2 n2) u z → BothLead (At f (Hunk l2' o2 n2)) (At f (Hunk l1 o1 n1)) t z
 runs_hunk_down f l1 l2 l2' o1 n1 o2 n2 c e t u z h k = go h.here k.here
   where
-    go : Changes (Hunk l1 o1 n1) (t f) (u f) → Changes (Hunk l2 o2 n2) (u f) (z f) → Leads (At f (Hunk l2' o2 n2)) (At f (Hunk l1 o1 n1)) t z
+    go : Changes (Hunk l1 o1 n1) (t f) (u f) → Changes (Hunk l2 o2 n2) (u f) (z f) → BothLead (At f (Hunk l2' o2 n2)) (At f (Hunk l1 o1 n1)) t z
     go (ls, mid, is, mid_is, eh) (mid', fin, mid_is', fin_is, ek) =
         let same : mid' ≡ mid = cc in
         let r = edits_down l1 l2 l2' o1 n1 o2 n2 ls mid fin c e eh (rw same at ek) in
@@ -232,8 +232,8 @@ passing_cross a b c d p x = go (passing_kind a b c d p)
     go (inl h) = still a b c d p h
     go (inr h) = sym (still c d a b (passing_turn a b c d p) h)
 
-pub runs_moves : (a b c d : Path) → Passing a b c d → (t u z : Map) → IsLawful t → IsLawful u → Moves a b t u → Moves (swap a b c) (swap a b d) u z →
-    Leads (Move c d) (Move (swap c d a) (swap c d b)) t z
+pub runs_moves : (a b c d : Path) → Passing a b c d → (t u z : Map) → IsLawful t → IsLawful u → AppliesMove a b t u → AppliesMove (swap a b c) (swap a b d) u z →
+    BothLead (Move c d) (Move (swap c d a) (swap c d b)) t z
 runs_moves a b c d p t u z lt lu h k = (m, moves_from c d t m lt first, moves_from (swap c d a) (swap c d b) m z (swaps_kept c d t m lt first) second)
   where
     s : Swaps a b t u
@@ -270,20 +270,20 @@ runs_moves a b c d p t u z lt lu h k = (m, moves_from c d t m lt first, moves_fr
     }
 
 -- what leads back from z to t leads there when undone
-pub turned : (p q : Prim) (t z : Map) → OffRoot p → IsLawful z → IsLawful t → Leads p q z t → Leads (inv q) (inv p) t z
+pub turned : (p q : Prim) (t z : Map) → OffRoot p → IsLawful z → IsLawful t → BothLead p q z t → BothLead (inv q) (inv p) t z
 turned p q t z g lz lt (m, h, k) = let lm : IsLawful m = kept p z m g lz h in (m, undone q m t lm lt k, undone p z m lz lm h)
 
 pub inv_inv : (p : Prim) → inv (inv p) ≡ p
 inv_inv (At f w) = ap (At f) (inv_twice w)
 inv_inv (Move a b) = refl
 
-pub runs_move_then : (f : Path) (w : Work) (a b : Path) → Beside f w a b → f ≢ [] → (t u z : Map) → swap a b f ≢ [] → IsLawful t → IsLawful u → IsLawful z → Moves a b t u → WorksAt (swap a b f) w u z → Leads (At f w) (Move a b) t z
+pub runs_move_then : (f : Path) (w : Work) (a b : Path) → Beside f w a b → f ≢ [] → (t u z : Map) → swap a b f ≢ [] → IsLawful t → IsLawful u → IsLawful z → AppliesMove a b t u → WorksAt (swap a b f) w u z → BothLead (At f w) (Move a b) t z
 runs_move_then f w a b s nf t u z nr lt lu lz h k =
     let d : Apart a b = s.move_apart in
     let near : Beside (swap a b f) (inv_work w) b a = beside_inv (swap a b f) w b a (beside_moved f w a b s) in
-    let r : Leads (Move b a) (At (swap b a (swap a b f)) (inv_work w)) z t =
+    let r : BothLead (Move b a) (At (swap b a (swap a b f)) (inv_work w)) z t =
     runs_then_move (swap a b f) (inv_work w) b a near z u t lz lu (undone (At (swap a b f) w) u z lu lz k) (undone (Move a b) t u lt lu h) in
-    let v : Leads (At (swap b a (swap a b f)) (inv_work (inv_work w))) (Move a b) t z = turned (Move b a) (At (swap b a (swap a b f)) (inv_work w)) t z tt lz lt r in
+    let v : BothLead (At (swap b a (swap a b f)) (inv_work (inv_work w))) (Move a b) t z = turned (Move b a) (At (swap b a (swap a b f)) (inv_work w)) t z tt lz lt r in
     rw (swap_turn b a (swap a b f) (apart_sym d), swap-swap a b f d, inv_twice w) at v
 
 pub hunk_up_turned : (l1 l2 l1' o1 n1 o2 n2 : ℕ) → LiesAbove (l2 + o2) l1 o1 n1 o2 n2 → l1' + o2 ≡ l1 + n2 → LiesAbove (l2 + n2) l1' n2 o2 n1 o1
@@ -291,14 +291,14 @@ hunk_up_turned l1 l2 l1' o1 n1 o2 n2 (inl h) e = inl (omega arith)
 hunk_up_turned l1 l2 l1' o1 n1 o2 n2 (inr h) e = inr (omega arith, h.4, h.3, h.2, h.1)
 
 pub runs_hunk_up : (f : Path) (l1 l2 l1' : ℕ) (o1 n1 o2 n2 : Lines) → LiesAbove (l2 + length o2) l1 (length o1) (length n1) (length o2) (length n2) → l1' + length o2 ≡ l1 + length n2 →
-    f ≢ [] → (t u z : Map) → IsLawful t → IsLawful u → IsLawful z → WorksAt f (Hunk l1 o1 n1) t u → WorksAt f (Hunk l2 o2 n2) u z → Leads (At f (Hunk l2 o2 n2)) (At f (Hunk l1' o1 n1)) t z
+    f ≢ [] → (t u z : Map) → IsLawful t → IsLawful u → IsLawful z → WorksAt f (Hunk l1 o1 n1) t u → WorksAt f (Hunk l2 o2 n2) u z → BothLead (At f (Hunk l2 o2 n2)) (At f (Hunk l1' o1 n1)) t z
 runs_hunk_up f l1 l2 l1' o1 n1 o2 n2 c e g t u z lt lu lz h k =
     turned (At f (Hunk l1' n1 o1)) (At f (Hunk l2 n2 o2)) t z g lz lt
     (runs_hunk_down f l2 l1 l1' n2 o2 n1 o1 (hunk_up_turned l1 l2 l1' (length o1) (length n1) (length o2) (length n2) c e) e z u t
     (undone (At f (Hunk l2 o2 n2)) u z lu lz k) (undone (At f (Hunk l1 o1 n1)) t u lt lu h))
 
 -- p then q on a lawful map has the same end by q' then p'
-pub square_runs : {p q q' p' : Prim} → Square p q q' p' → OffRoot p → OffRoot q → OffRoot q' → (t u z : Map) → IsLawful t → Applies p t u → Applies q u z → Leads q' p' t z
+pub square_runs : {p q q' p' : Prim} → Square p q q' p' → OffRoot p → OffRoot q → OffRoot q' → (t u z : Map) → IsLawful t → Applies p t u → Applies q u z → BothLead q' p' t z
 square_runs {p} {q} {q'} {p'} s gp gq gq' t u z lt h k = go s gp gq gq' lu lz h k
   where
     lu : IsLawful u
@@ -307,7 +307,7 @@ square_runs {p} {q} {q'} {p'} s gp gq gq' t u z lt h k = go s gp gq gq' lu lz h 
     lz : IsLawful z
     lz = kept q u z gq lu k
 
-    go : {p q q' p' : Prim} → Square p q q' p' → OffRoot p → OffRoot q → OffRoot q' → IsLawful u → IsLawful z → Applies p t u → Applies q u z → Leads q' p' t z
+    go : {p q q' p' : Prim} → Square p q q' p' → OffRoot p → OffRoot q → OffRoot q' → IsLawful u → IsLawful z → Applies p t u → Applies q u z → BothLead q' p' t z
     go (hunk_down {f} {l1} {l2} {l2'} {o1} {n1} {o2} {n2} c e) gp gq gq' x y h k = runs_hunk_down f l1 l2 l2' o1 n1 o2 n2 c e t u z h k
     go (hunk_up {f} {l1} {l2} {l1'} {o1} {n1} {o2} {n2} c e) gp gq gq' x y h k = runs_hunk_up f l1 l2 l1' o1 n1 o2 n2 c e gp t u z lt x y h k
     go (free {f} {g} {w} {v} s) gp gq gq' x y h k = runs_free f w g v s t u z h k

@@ -1,14 +1,14 @@
 -- The laws of pairs and of lists.
 use Rattle.std.proofs.Common.{◌≡◌, ◌≢◌, [], ◌∷◌, ◌++◌, List, refl, sym, ap₂, ◌∙◌, append_assoc, append-nil, arith}
-use Rattle.dm_tree.specs.Parts.{IsGoodPath}
+use Rattle.dm_tree.specs.Validity.{IsGoodPath}
 use Rattle.dm_tree.specs.Paths.{Path}
-use Rattle.dm_prim.specs.Runs.{done, step}
+use Rattle.dm_prim.specs.InTurn.{done, step}
 use Rattle.dm_prim.specs.Rectangles.{CellRow, none, next, empty, row}
-use Rattle.dm_prim.specs.Primitives.{AddFile, RmFile, AddDir, RmDir, Hunk, Prim, At, Move, inv, inv_all, LawfulMap, Does, DoesAll}
+use Rattle.dm_prim.specs.Primitives.{AddFile, RmFile, AddDir, RmDir, Hunk, Prim, At, Move, inv, inv_all, LawfulMap, Leads, LeadsAll}
 use Rattle.dm_prim.specs.Commuting.{IsGoodPrim, Commutes, ListsCommute}
 use Rattle.dm_prim.specs.Laws.{PairLaws, ListLaws, CommutedPairsEndAlike, PairsCommuteBack, PairsCommutePastAnInverse, CommutedListsEndAlike, ListsCommuteBack, ListsCommutePastAnInverse, InversesLeadBack, ListInversesLeadBack}
 use Rattle.dm_prim.proofs.Undoing.{OffRoot, undone, kept}
-use Rattle.dm_prim.proofs.Rows.{square_from, row_turn, row_inv}
+use Rattle.dm_prim.proofs.TableRows.{square_from, row_turn, row_inv}
 use Rattle.dm_prim.proofs.Ends.{square_runs, inv_inv}
 use Rattle.dm_prim.proofs.RectangleLemmas.{beside, one, rectangle_turn, rectangle_runs, runs_on}
 
@@ -44,7 +44,7 @@ pair_laws {p} {q} {q'} {p'} c = record { ends_alike = pairs_end_alike p q q' p' 
 
 -- lists
 pub lists_end_alike : CommutedListsEndAlike
-lists_end_alike xs ys ys' xs' g s u z h k = rectangle_runs Prim LawfulMap Commutes Does pairs_end_alike g h k
+lists_end_alike xs ys ys' xs' g s u z h k = rectangle_runs Prim LawfulMap Commutes Leads pairs_end_alike g h k
 
 pub lists_back : ListsCommuteBack
 lists_back xs ys ys' xs' g = rectangle_turn Prim Commutes pairs_back g
@@ -64,15 +64,15 @@ pub list_laws : {xs ys ys' xs' : List Prim} → ListsCommute xs ys ys' xs' → L
 list_laws {xs} {ys} {ys'} {xs'} h = record { ends_alike = lists_end_alike xs ys ys' xs' h; back = lists_back xs ys ys' xs' h; past_inverse = lists_past_inverse xs ys ys' xs' h }
 
 -- inverses
-leads_back : (p : Prim) (s t : LawfulMap) → Does p s t → Does (inv p) t s
+leads_back : (p : Prim) (s t : LawfulMap) → Leads p s t → Leads (inv p) t s
 leads_back p s t h = record { applies = undone p s.map t.map s.lawful t.lawful h.applies }
 
 pub inverses_lead_back : InversesLeadBack
 inverses_lead_back p s t = (leads_back p s t, λ h. rw (inv_inv p) at (leads_back (inv p) t s h))
 
-all_lead_back : (ps : List Prim) (s t : LawfulMap) → DoesAll ps s t → DoesAll (inv_all ps) t s
+all_lead_back : (ps : List Prim) (s t : LawfulMap) → LeadsAll ps s t → LeadsAll (inv_all ps) t s
 all_lead_back [] s t done = done
-all_lead_back (p ∷ ps) s t (step {u = u} h r) = runs_on Prim LawfulMap Does (all_lead_back ps u t r) (step (leads_back p s u h) done)
+all_lead_back (p ∷ ps) s t (step {u = u} h r) = runs_on Prim LawfulMap Leads (all_lead_back ps u t r) (step (leads_back p s u h) done)
 
 inv_all-append : (xs ys : List Prim) → inv_all (xs ++ ys) ≡ inv_all ys ++ inv_all xs
 inv_all-append [] ys = sym (append-nil (inv_all ys))

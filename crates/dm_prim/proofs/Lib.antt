@@ -1,7 +1,7 @@
 pub mod Maps
 pub mod Undoing
 pub mod Squares
-pub mod Rows
+pub mod TableRows
 pub mod Ends
 pub mod RectangleLemmas
 pub mod Single

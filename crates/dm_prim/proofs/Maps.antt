@@ -7,7 +7,7 @@ use Rattle.std.proofs.lemmas.List.{append_cancel_left}
 use Rattle.dm_tree.proofs.Paths.{swap, swap-left, swap-right, swap-other, Place, in_left, in_right, outside, place, above}
 use Rattle.dm_tree.specs.Paths.{Name, Path, Under, Apart}
 use Rattle.dm_tree.specs.Trees.{Entry, Dir, Map, HasParent, IsLawful}
-use Rattle.dm_prim.specs.Primitives.{Moves}
+use Rattle.dm_prim.specs.Primitives.{AppliesMove}
 
 pub path_dec : (p q : Path) → (p ≡ q) ⊎ (p ≢ q)
 path_dec [] [] = inl refl
@@ -64,7 +64,7 @@ pub record Swaps (a b : Path) (t t' : Map) : Type 0 where
   pub parent : HasParent b t
   pub is : (p : Path) → t' p ≡ t (swap a b p)
 
-pub swaps_from : (a b : Path) (t t' : Map) → IsLawful t → Moves a b t t' → Swaps a b t t'
+pub swaps_from : (a b : Path) (t t' : Map) → IsLawful t → AppliesMove a b t t' → Swaps a b t t'
 swaps_from a b t t' l m = record { apart = d; present = m.0.present; absent = m.0.absent; parent = m.0.parent_is; is = λ p. go p (place a b p) }
   where
     d : Apart a b
@@ -75,7 +75,7 @@ swaps_from a b t t' l m = record { apart = d; present = m.0.present; absent = m.
     go p (in_right r e) = rw (e, swap-right a b r d) (m.1.there r)
     go p (outside h k) = rw (swap-other a b p h k) (m.1.elsewhere p h k)
 
-pub moves_from : (a b : Path) (t t' : Map) → IsLawful t → Swaps a b t t' → Moves a b t t'
+pub moves_from : (a b : Path) (t t' : Map) → IsLawful t → Swaps a b t t' → AppliesMove a b t t'
 moves_from a b t t' l m = (
   record { present = m.present; not_into = m.apart.right; parent_is = m.parent; absent = m.absent },
   record {

@@ -1,6 +1,6 @@
 -- Laws of pairs hold for rectangles.
 use Rattle.std.proofs.Common.{◌≡◌, List, [], ◌∷◌, ◌++◌, refl, ap₂}
-use Rattle.dm_prim.specs.Runs.{Runs, done, step}
+use Rattle.dm_prim.specs.InTurn.{InTurn, done, step}
 use Rattle.dm_prim.specs.Rectangles.{CellRow, none, next, Rectangle, empty, row}
 
 module _ (P : Type 0) (Cell : P → P → P → P → Type 0) where
@@ -70,19 +70,19 @@ module _ (P : Type 0) (Cell : P → P → P → P → Type 0) where
 
 -- a run, and another from where it ended
 module _ (P S : Type 0) (Step : P → S → S → Type 0) where
-  pub runs_on : {xs ys : List P} {s u z : S} → Runs Step xs s u → Runs Step ys u z → Runs Step (xs ++ ys) s z
+  pub runs_on : {xs ys : List P} {s u z : S} → InTurn Step xs s u → InTurn Step ys u z → InTurn Step (xs ++ ys) s z
   runs_on done r = r
   runs_on (step h t) r = step h (runs_on t r)
 
 -- both ways round a rectangle have one end
 module _ (P S : Type 0) (Cell : P → P → P → P → Type 0) (Step : P → S → S → Type 0)
     (cell_runs : (p q q' p' : P) → Cell p q q' p' → (s u z : S) → Step p s u → Step q u z → (m : S) × Step q' s m × Step p' m z) where
-  cells_run : {x x' : P} {ys ys' : List P} {s u z : S} → CellRow Cell x ys ys' x' → Step x s u → Runs Step ys u z → (m : S) × Runs Step ys' s m × Step x' m z
+  cells_run : {x x' : P} {ys ys' : List P} {s u z : S} → CellRow Cell x ys ys' x' → Step x s u → InTurn Step ys u z → (m : S) × InTurn Step ys' s m × Step x' m z
   cells_run none h done = (_, done, h)
   cells_run {s = s} (next {x} {y} {y'} {x1} c t) h (step {u = u} {z = z} k r) =
       let w : (m : S) × Step y' s m × Step x1 m _ = cell_runs x y y' x1 c s _ _ h k in
       let a = cells_run t w.2 r in (a.0, step w.1 a.1, a.2)
 
-  pub rectangle_runs : {xs ys ys' xs' : List P} {s u z : S} → Rectangle Cell xs ys ys' xs' → Runs Step xs s u → Runs Step ys u z → (m : S) × Runs Step ys' s m × Runs Step xs' m z
+  pub rectangle_runs : {xs ys ys' xs' : List P} {s u z : S} → Rectangle Cell xs ys ys' xs' → InTurn Step xs s u → InTurn Step ys u z → (m : S) × InTurn Step ys' s m × InTurn Step xs' m z
   rectangle_runs empty done r = (_, r, done)
   rectangle_runs (row g t) (step h a) r = let b = rectangle_runs g a r in let c = cells_run t h b.1 in (c.0, c.1, step c.2 b.2)

@@ -6,9 +6,9 @@ use Rattle.dm_prim.proofs.Ends.{split}
 use Rattle.dm_prim.proofs.RectangleLemmas.{rectangle_one}
 use Rattle.dm_tree.specs.Paths.{Path, forward}
 use Rattle.dm_tree.specs.Trees.{Lines, Entry, Map, IsLawful}
-use Rattle.dm_tree.specs.Changes.{Edits}
+use Rattle.dm_tree.specs.Changes.{ReplacesLines}
 use Rattle.dm_prim.specs.Primitives.{Work, AddFile, RmFile, AddDir, RmDir, Hunk, Prim, At, Move, Changes, Applies}
-use Rattle.dm_prim.specs.Table.{LiesAbove, WorkAndWork, WorkThenMove, MoveThenMove, Row, first_above, second_above, two_works, work_move, move_work, two_moves}
+use Rattle.dm_prim.specs.Table.{LiesAbove, WorkAndWork, WorkThenMove, MoveThenMove, TableRow, first_above, second_above, two_works, work_move, move_work, two_moves}
 use Rattle.dm_prim.specs.Commuting.{Commutes, ListsCommute}
 
 -- what the table answers for work on two paths
@@ -29,7 +29,7 @@ Answer (Move a b) (At f w) q' p' = WorkThenMove f w b a × (q' ≡ At (forward b
 Answer (Move a b) (Move c d) q' p' = MoveThenMove a b c d × (q' ≡ Move (forward b a c) (forward b a d)) ×
     (p' ≡ Move (forward (forward b a c) (forward b a d) a) (forward (forward b a c) (forward b a d) b))
 
-pub answer_from : {p q q' p' : Prim} → Row p q q' p' → Answer p q q' p'
+pub answer_from : {p q q' p' : Prim} → TableRow p q q' p' → Answer p q q' p'
 answer_from (first_above c e) = down refl refl refl c e refl refl
 answer_from (second_above c e) = up refl refl refl c e refl refl
 answer_from (two_works s) = apart s refl refl
@@ -79,7 +79,7 @@ lists_one g h = rectangle_one Prim Commutes commutes_one g h
 
 -- a primitive gives one map at most
 
-pub edits_one : (l : ℕ) (old new ls a b : Lines) → Edits l old new ls a → Edits l old new ls b → a ≡ b
+pub edits_one : (l : ℕ) (old new ls a b : Lines) → ReplacesLines l old new ls a → ReplacesLines l old new ls b → a ≡ b
 edits_one l old new ls a b x y = go (split x.front (old ++ x.back) y.front (old ++ y.back) (sym x.before ∙ y.before) (omega arith))
   where
     nil : (m : Lines) → length m ≡ 0 → m ≡ []

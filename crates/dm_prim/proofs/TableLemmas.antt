@@ -1,12 +1,12 @@
 -- What the table says of two primitives of each kind.
 use Rattle.std.proofs.Common.{◌≡◌, ℕ, ◌<◌, length, inl, inr, refl, sym, ap, Option, Some, None, arith}
 use Rattle.dm_tree.specs.Paths.{Path, Under, forward}
-use Rattle.dm_tree.specs.Parts.{IsGoodPath}
+use Rattle.dm_tree.specs.Validity.{IsGoodPath}
 use Rattle.dm_tree.specs.Trees.{Lines}
-use Rattle.dm_tree.proofs.Parts.{good_parts}
+use Rattle.dm_tree.proofs.ValidityLemmas.{good_parts}
 use Rattle.dm_tree.proofs.Paths.{forward-other}
 use Rattle.dm_prim.specs.Primitives.{Work, Prim, At, Move, Hunk}
-use Rattle.dm_prim.specs.Table.{Row, first_above, second_above, two_works, work_move, move_work, two_moves, WorkAndWork, WorkThenMove, MoveThenMove, IsHunk}
+use Rattle.dm_prim.specs.Table.{TableRow, first_above, second_above, two_works, work_move, move_work, two_moves, WorkAndWork, WorkThenMove, MoveThenMove, IsHunk}
 use Rattle.dm_prim.specs.Commuting.{IsLineNumber, IsGoodPrim, Commutes}
 use Rattle.dm_prim.specs.Hunks.{HunkParts, hunk_of, ChangePlaces}
 use Rattle.dm_prim.specs.Prims.{path_of, work_of, IsWork, CommutesTo, PairLawsHold}
@@ -23,14 +23,14 @@ pub stays : (a b p : Path) → (Under p a → ⊥) → p ≡ forward a b p
 stays a b p h = sym (forward-other a b p h)
 
 -- two hunks of one file
-hunk_row : {f g : Path} {l1 l2 : ℕ} {o1 n1 o2 n2 : Lines} {q' p' : Prim} → f ≡ g → Row (At f (Hunk l1 o1 n1)) (At g (Hunk l2 o2 n2)) q' p' →
+hunk_row : {f g : Path} {l1 l2 : ℕ} {o1 n1 o2 n2 : Lines} {q' p' : Prim} → f ≡ g → TableRow (At f (Hunk l1 o1 n1)) (At g (Hunk l2 o2 n2)) q' p' →
     (m k : ℕ) × ChangePlaces l1 (length o1) (length n1) l2 (length o2) (length n2) m k × (q' ≡ At g (Hunk m o2 n2)) × (p' ≡ At f (Hunk k o1 n1))
 hunk_row e (first_above {l1 = l1} {l2' = m} c i) = (m, l1, inl (c, i, refl), refl, refl)
 hunk_row e (second_above {l2 = l2} {l1' = k} c i) = (l2, k, inr (c, refl, i), refl, refl)
 hunk_row e (two_works s) = absurd (s.differ e)
 
 row_at : (f : Path) (l1 l2 m k : ℕ) (o1 n1 o2 n2 : Lines) → ChangePlaces l1 (length o1) (length n1) l2 (length o2) (length n2) m k →
-    Row (At f (Hunk l1 o1 n1)) (At f (Hunk l2 o2 n2)) (At f (Hunk m o2 n2)) (At f (Hunk k o1 n1))
+    TableRow (At f (Hunk l1 o1 n1)) (At f (Hunk l2 o2 n2)) (At f (Hunk m o2 n2)) (At f (Hunk k o1 n1))
 row_at f l1 l2 m k o1 n1 o2 n2 (inl (c, i, e)) = rw e (first_above c i)
 row_at f l1 l2 m k o1 n1 o2 n2 (inr (c, e, i)) = rw e (second_above c i)
 
@@ -100,13 +100,13 @@ module _ (p : Prim) (a b : Path) (is : IsWork p) where
   pub moved_before : (m : Prim) → m ≡ At (forward a b (path_of p)) (work_of p) → WorkThenMove (path_of p) (work_of p) a b →
       IsGoodPrim p → IsGoodPrim m → IsGoodPath a → IsGoodPath b → Commutes p (Move a b) (Move a b) m
   moved_before m e k gp gm ga gb =
-      let r : Row p (Move a b) (Move a b) m = rw (e, as_work p is) (work_move k refl) in
+      let r : TableRow p (Move a b) (Move a b) m = rw (e, as_work p is) (work_move k refl) in
       record { good_p = gp; good_q = (ga, gb); good_q' = (ga, gb); good_p' = gm; row = r }
 
   pub moved_after : (m : Prim) → m ≡ At (forward b a (path_of p)) (work_of p) → WorkThenMove (path_of p) (work_of p) b a →
       IsGoodPrim p → IsGoodPrim m → IsGoodPath a → IsGoodPath b → Commutes (Move a b) p m (Move a b)
   moved_after m e k gp gm ga gb =
-      let r : Row (Move a b) p m (Move a b) = rw (e, as_work p is) (move_work k refl) in
+      let r : TableRow (Move a b) p m (Move a b) = rw (e, as_work p is) (move_work k refl) in
       record { good_p = (ga, gb); good_q = gp; good_q' = gm; good_p' = (ga, gb); row = r }
 
 -- work and work
@@ -119,7 +119,7 @@ module _ (f g : Path) (w v : Work) where
 module _ (p q : Prim) (ip : IsWork p) (iq : IsWork q) where
   no_works : (IsHunk (work_of p) → IsHunk (work_of q) → path_of p ≡ path_of q → ⊥) → (WorkAndWork (path_of p) (work_of p) (path_of q) (work_of q) → ⊥) →
       (q' p' : Prim) → Commutes p q q' p' → ⊥
-  no_works n s q' p' r = let h : Row (At (path_of p) (work_of p)) (At (path_of q) (work_of q)) q' p' = rw (← as_work p ip, ← as_work q iq) r.row in
+  no_works n s q' p' r = let h : TableRow (At (path_of p) (work_of p)) (At (path_of q) (work_of q)) q' p' = rw (← as_work p ip, ← as_work q iq) r.row in
       s (on_two_paths (path_of p) (path_of q) (work_of p) (work_of q) q' p' n (answer_from h))
 
   -- on two paths that may not change places
@@ -135,5 +135,5 @@ module _ (p q : Prim) (ip : IsWork p) (iq : IsWork q) where
 
   pub change_places : WorkAndWork (path_of p) (work_of p) (path_of q) (work_of q) → IsGoodPrim p → IsGoodPrim q → Commutes p q q p
   change_places s gp gq =
-      let h : Row p q q p = rw (as_work p ip, as_work q iq) (two_works s) in
+      let h : TableRow p q q p = rw (as_work p ip, as_work q iq) (two_works s) in
       record { good_p = gp; good_q = gq; good_q' = gq; good_p' = gp; row = h }

@@ -4,29 +4,29 @@ use Rattle.std.specs.FinMap as map
 use Rattle.dm_tree.specs.declared.fault.TreeFault.{TreeFault}
 use Rattle.dm_tree.specs.declared.fault.TreeFault.TheVariants.{TooDeep, NoMemory}
 use Rattle.dm_tree.specs.Trees.{Map, Tree, Deep}
-use Rattle.dm_tree.specs.Changes.{Adds, RemovesFile, RemovesDir, Renames, EditsFile}
-use Rattle.dm_prim.specs.Runs.{Runs}
+use Rattle.dm_tree.specs.Changes.{AddAnswers, RemoveFileAnswers, RemoveDirAnswers, RenameAnswers, EditAnswers}
+use Rattle.dm_prim.specs.InTurn.{InTurn}
 use Rattle.dm_prim.specs.Primitives.{AddFile, RmFile, AddDir, RmDir, Hunk, Prim, At, Move, Applies}
 
 -- when a fault may come: the primitive does not apply, or it does and what it makes is too deep; memory may be wanting at any time
-abbrev pub Refuses : Prim → Map → TreeFault → Type 0
-Refuses p m NoMemory = Unit {0}
-Refuses p m TooDeep = (m' : Map) × Applies p m m' × Deep m'
-Refuses p m e = (m' : Map) → Applies p m m' → ⊥
+abbrev pub AdmitsFault : Prim → Map → TreeFault → Type 0
+AdmitsFault p m NoMemory = Unit {0}
+AdmitsFault p m TooDeep = (m' : Map) × Applies p m m' × Deep m'
+AdmitsFault p m e = (m' : Map) → Applies p m m' → ⊥
 
 -- the tree t became t' as the primitive says; after a fault it is as it was
 abbrev pub Applied : {T : Type 0} → Prim → Tree → Tree → Result T TreeFault → Type 0
 Applied p t t' (Ok x) = Applies p (map.get t) (map.get t')
-Applied p t t' (Err e) = (t' ≡ t) × Refuses p (map.get t) e
+Applied p t t' (Err e) = (t' ≡ t) × AdmitsFault p (map.get t) e
 
 -- which fault comes, by what stood there before: that of the tree's call which the primitive is
 abbrev pub FaultsAs : {T : Type 0} → Prim → Map → Result T TreeFault → Type 0
-FaultsAs (At p AddFile) m r = Adds m p r
-FaultsAs (At p RmFile) m r = RemovesFile m p r
-FaultsAs (At p AddDir) m r = Adds m p r
-FaultsAs (At p RmDir) m r = RemovesDir m p r
-FaultsAs (At p (Hunk n old new)) m r = EditsFile m p n old new r
-FaultsAs (Move a b) m r = Renames m a b r
+FaultsAs (At p AddFile) m r = AddAnswers m p r
+FaultsAs (At p RmFile) m r = RemoveFileAnswers m p r
+FaultsAs (At p AddDir) m r = AddAnswers m p r
+FaultsAs (At p RmDir) m r = RemoveDirAnswers m p r
+FaultsAs (At p (Hunk n old new)) m r = EditAnswers m p n old new r
+FaultsAs (Move a b) m r = RenameAnswers m a b r
 
 -- a primitive makes one tree of another
 abbrev pub AppliesToTree : Prim → Tree → Tree → Type 0
@@ -34,6 +34,6 @@ AppliesToTree p t t' = Applies p (map.get t) (map.get t')
 
 -- the tree t became t' by all of ps in turn; after a fault at place k, by the first k of them, and the next is refused there
 abbrev pub AppliedAll : {T : Type 0} → List Prim → Tree → Tree → Result T (ℕ × TreeFault) → Type 0
-AppliedAll ps t t' (Ok x) = Runs AppliesToTree ps t t'
-AppliedAll {T} ps t t' (Err r) = (p : Prim) × (rest : List Prim) × (ps ≡ take r.0 ps ++ p ∷ rest) × Runs AppliesToTree (take r.0 ps) t t' ×
-    Refuses p (map.get t') r.1 × FaultsAs {T = T} p (map.get t') (Err r.1)
+AppliedAll ps t t' (Ok x) = InTurn AppliesToTree ps t t'
+AppliedAll {T} ps t t' (Err r) = (p : Prim) × (rest : List Prim) × (ps ≡ take r.0 ps ++ p ∷ rest) × InTurn AppliesToTree (take r.0 ps) t t' ×
+    AdmitsFault p (map.get t') r.1 × FaultsAs {T = T} p (map.get t') (Err r.1)

@@ -1,9 +1,9 @@
 -- When primitives, and lists of them, commute.
 use Rattle.std.specs.Prelude.{ℕ, ◌+◌, ◌<◌, ◌^◌, List, length}
-use Rattle.dm_tree.specs.Parts.{IsGoodPath, ArePlain}
+use Rattle.dm_tree.specs.Validity.{IsGoodPath, ArePlain}
 use Rattle.dm_prim.specs.Rectangles.{Rectangle}
 use Rattle.dm_prim.specs.Primitives.{Work, AddFile, RmFile, AddDir, RmDir, Hunk, Prim, At, Move}
-use Rattle.dm_prim.specs.Table.{Row}
+use Rattle.dm_prim.specs.Table.{TableRow}
 
 -- the lines of a file are counted from 1 to 4,294,967,295
 abbrev pub IsLineNumber : ℕ → Type 0
@@ -28,7 +28,7 @@ pub record Commutes (p q q' p' : Prim) : Type 0 where
   pub good_q : IsGoodPrim q
   pub good_q' : IsGoodPrim q'
   pub good_p' : IsGoodPrim p'
-  pub row : Row p q q' p'
+  pub row : TableRow p q q' p'
 
 -- the lists xs then ys commute to ys' then xs': a rectangle of pairs that do
 abbrev pub ListsCommute : List Prim → List Prim → List Prim → List Prim → Type 0

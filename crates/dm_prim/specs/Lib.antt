@@ -1,4 +1,4 @@
-pub mod Runs
+pub mod InTurn
 pub mod Rectangles
 pub mod Primitives
 pub mod Table

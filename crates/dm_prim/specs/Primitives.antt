@@ -2,8 +2,8 @@
 use Rattle.std.specs.Prelude.{◌≡◌, ◌≢◌, ℕ, List, [], ◌∷◌, ◌++◌, Option, Some, None}
 use Rattle.dm_tree.specs.Paths.{Name, Path}
 use Rattle.dm_tree.specs.Trees.{Lines, Entry, Dir, File, Map, HasParent, IsLawful, empty_file}
-use Rattle.dm_tree.specs.Changes.{MayMove, Renamed, Edits}
-use Rattle.dm_prim.specs.Runs.{Runs}
+use Rattle.dm_tree.specs.Changes.{MayMove, Renamed, ReplacesLines}
+use Rattle.dm_prim.specs.InTurn.{InTurn}
 
 -- what is done at one path; a hunk has a line, counted from 1, and the old lines that new lines replace there
 pub data Work : Type 0 where
@@ -42,7 +42,7 @@ Changes AddFile e e' = (e ≡ None) × (e' ≡ Some empty_file)
 Changes RmFile e e' = (e ≡ Some empty_file) × (e' ≡ None)
 Changes AddDir e e' = (e ≡ None) × (e' ≡ Some Dir)
 Changes RmDir e e' = (e ≡ Some Dir) × (e' ≡ None)
-Changes (Hunk l old new) e e' = (ls : Lines) × (ls' : Lines) × (e ≡ Some (File ls)) × (e' ≡ Some (File ls')) × Edits l old new ls ls'
+Changes (Hunk l old new) e e' = (ls : Lines) × (ls' : Lines) × (e ≡ Some (File ls)) × (e' ≡ Some (File ls')) × ReplacesLines l old new ls ls'
 
 -- what work asks of the tree around its path: a directory that holds what is added, nothing in a directory that is removed
 abbrev pub Around : Work → Path → Map → Type 0
@@ -59,13 +59,13 @@ pub record WorksAt (p : Path) (w : Work) (t t' : Map) : Type 0 where
   pub elsewhere : (q : Path) → q ≢ p → t' q ≡ t q
 
 -- `move a b` makes t' of t
-abbrev pub Moves : Path → Path → Map → Map → Type 0
-Moves a b t t' = MayMove t a b × Renamed a b t t'
+abbrev pub AppliesMove : Path → Path → Map → Map → Type 0
+AppliesMove a b t t' = MayMove t a b × Renamed a b t t'
 
 -- p applies to t, and makes t' of it
 abbrev pub Applies : Prim → Map → Map → Type 0
 Applies (At p w) t t' = WorksAt p w t t'
-Applies (Move a b) t t' = Moves a b t t'
+Applies (Move a b) t t' = AppliesMove a b t t'
 
 -- a lawful map
 pub record LawfulMap : Type 0 where
@@ -73,9 +73,9 @@ pub record LawfulMap : Type 0 where
   pub lawful : IsLawful map
 
 -- p leads from one lawful map to another
-pub record Does (p : Prim) (s t : LawfulMap) : Type 0 where
+pub record Leads (p : Prim) (s t : LawfulMap) : Type 0 where
   pub applies : Applies p s.map t.map
 
 -- a list does, each on what the one before it made
-abbrev pub DoesAll : List Prim → LawfulMap → LawfulMap → Type 0
-DoesAll ps s t = Runs Does ps s t
+abbrev pub LeadsAll : List Prim → LawfulMap → LawfulMap → Type 0
+LeadsAll ps s t = InTurn Leads ps s t

@@ -53,26 +53,26 @@ pub record MoveThenMove (a b c d : Path) : Type 0 where
   pub b_not_in_d : Inside b d → ⊥
   pub not_both_inside : Inside a c → Inside d b → ⊥
 
--- `Row p q q' p'`: p then q are q' then p', each a row of the table. A move one of whose paths is, or contains, the other stands in none.
-pub data Row : Prim → Prim → Prim → Prim → Type 0 where
+-- `TableRow p q q' p'`: p then q are q' then p', each a row of the table. A move one of whose paths is, or contains, the other stands in none.
+pub data TableRow : Prim → Prim → Prim → Prim → Type 0 where
   -- hunks of one file, the first above the second: the second at line l2 - n1 + o1, the first as it was
   first_above : {f : Path} {l1 l2 l2' : ℕ} {o1 n1 o2 n2 : Lines} →
       LiesAbove (l1 + length n1) l2 (length o1) (length n1) (length o2) (length n2) → l2' + length n1 ≡ l2 + length o1 →
-      Row (At f (Hunk l1 o1 n1)) (At f (Hunk l2 o2 n2)) (At f (Hunk l2' o2 n2)) (At f (Hunk l1 o1 n1))
+      TableRow (At f (Hunk l1 o1 n1)) (At f (Hunk l2 o2 n2)) (At f (Hunk l2' o2 n2)) (At f (Hunk l1 o1 n1))
   -- hunks of one file, the second above the first: the second as it was, the first at line l1 + n2 - o2
   second_above : {f : Path} {l1 l2 l1' : ℕ} {o1 n1 o2 n2 : Lines} →
       LiesAbove (l2 + length o2) l1 (length o1) (length n1) (length o2) (length n2) → l1' + length o2 ≡ l1 + length n2 →
-      Row (At f (Hunk l1 o1 n1)) (At f (Hunk l2 o2 n2)) (At f (Hunk l2 o2 n2)) (At f (Hunk l1' o1 n1))
+      TableRow (At f (Hunk l1 o1 n1)) (At f (Hunk l2 o2 n2)) (At f (Hunk l2 o2 n2)) (At f (Hunk l1' o1 n1))
   -- work on f, then work on g: both as they were
   two_works : {f g : Path} {w v : Work} → WorkAndWork f w g v →
-      Row (At f w) (At g v) (At g v) (At f w)
+      TableRow (At f w) (At g v) (At g v) (At f w)
   -- work on f, then `move a b`: the move as it was, the work with f forward through it
   work_move : {f f' a b : Path} {w : Work} → WorkThenMove f w a b → f' ≡ forward a b f →
-      Row (At f w) (Move a b) (Move a b) (At f' w)
+      TableRow (At f w) (Move a b) (Move a b) (At f' w)
   -- `move a b`, then work on f: the work with f back through the move, which is forward through `move b a`; the move as it was
   move_work : {f f' a b : Path} {w : Work} → WorkThenMove f w b a → f' ≡ forward b a f →
-      Row (Move a b) (At f w) (At f' w) (Move a b)
+      TableRow (Move a b) (At f w) (At f' w) (Move a b)
   -- `move a b`, then `move c d`: the second with c and d back through the first, the first with a and b forward through that
   two_moves : {a b c d a' b' c' d' : Path} → MoveThenMove a b c d →
       c' ≡ forward b a c → d' ≡ forward b a d → a' ≡ forward c' d' a → b' ≡ forward c' d' b →
-      Row (Move a b) (Move c d) (Move c' d') (Move a' b')
+      TableRow (Move a b) (Move c d) (Move c' d') (Move a' b')

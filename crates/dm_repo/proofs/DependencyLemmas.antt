@@ -1,21 +1,21 @@
 -- What a new patch lacks.
 use Rattle.std.proofs.Common.{◌≡◌, ◌⊎◌, inl, inr, ℕ, zero, suc, ◌+◌, ◌<◌, ◌≤◌, Bool, true, false, List, length, take, get_or, slice_get, Some, refl, sym, ap, subst, ◌∙◌, arith}
 use Rattle.std.specs.List.{Contains}
-use Rattle.dm_info.specs.Parts.{Parts}
+use Rattle.dm_info.specs.PatchInfo.{PatchInfo}
 use Rattle.dm_named.specs.Patches.{Patch}
 use Rattle.dm_bundle.specs.Patches.{infos_of}
 use Rattle.dm_bundle.specs.Bundles.{Contents}
 use Rattle.dm_repo.specs.Repositories.{Holds}
 use Rattle.dm_repo.specs.CommonSets.{IsKnown, HasDependenciesAt, LacksDependency, LacksFirst, First}
-use Rattle.dm_repo.specs.Marks.{Marks}
+use Rattle.dm_repo.specs.MarkLists.{AreMarksOf}
 use Rattle.dm_repo.proofs.Members.{info_at}
 use Rattle.dm_repo.proofs.MarksLemmas.{at_place, some_same, in_take_at, within, read_at}
 
 -- a patch whose mark is set is held, and one whose mark isn't set isn't
-pub marked_held : (repo new : List Patch) (held : List Bool) (n : ℕ) (x : Patch) → Marks held (infos_of new) (Holds repo) → slice_get new n ≡ Some x → slice_get held n ≡ Some true → Holds repo x.info
+pub marked_held : (repo new : List Patch) (held : List Bool) (n : ℕ) (x : Patch) → AreMarksOf held (infos_of new) (Holds repo) → slice_get new n ≡ Some x → slice_get held n ≡ Some true → Holds repo x.info
 marked_held repo new held n x m e h = (m.at n x.info (info_at new n x (within new n e) (read_at new n x e))).0 h
 
-pub unmarked_new : (repo new : List Patch) (held : List Bool) (n : ℕ) (x : Patch) → Marks held (infos_of new) (Holds repo) → slice_get new n ≡ Some x → slice_get held n ≡ Some false → Holds repo x.info → ⊥
+pub unmarked_new : (repo new : List Patch) (held : List Bool) (n : ℕ) (x : Patch) → AreMarksOf held (infos_of new) (Holds repo) → slice_get new n ≡ Some x → slice_get held n ≡ Some false → Holds repo x.info → ⊥
 unmarked_new repo new held n x m e h k =
     let t : slice_get held n ≡ Some true = (m.at n x.info (info_at new n x (within new n e) (read_at new n x e))).1 k in
     let b : false ≡ true = some_same (sym h ∙ t) in
@@ -26,8 +26,8 @@ pub same_patch : (new : List Patch) (n : ℕ) (x y : Patch) → n < length new �
 same_patch new n x y l e f = some_same (sym (at_place new n x l e) ∙ f)
 
 -- the first dependency that isn't known
-pub first_unknown : (repo : List Patch) (b : Contents) (n d : ℕ) (x : Patch) (i : Parts) → n < length b.patches → x ≡ get_or b.patches n x → (Holds repo x.info → ⊥) → d < length x.deps → i ≡ get_or x.deps d i →
-    (IsKnown repo b n i → ⊥) → ((j : Parts) → Contains (take d x.deps) j → IsKnown repo b n j) → First (LacksDependency repo b n) d
+pub first_unknown : (repo : List Patch) (b : Contents) (n d : ℕ) (x : Patch) (i : PatchInfo) → n < length b.patches → x ≡ get_or b.patches n x → (Holds repo x.info → ⊥) → d < length x.deps → i ≡ get_or x.deps d i →
+    (IsKnown repo b n i → ⊥) → ((j : PatchInfo) → Contains (take d x.deps) j → IsKnown repo b n j) → First (LacksDependency repo b n) d
 first_unknown repo b n d x i l e new m f unknown known = (
   record { patch = x; dependency = i; patch_at = at_place b.patches n x l e; dependency_at = at_dep x.deps d i m f; is_new = new; unknown = unknown },
   λ k j q. let s : x ≡ q.patch = same_patch b.patches n x q.patch l e q.patch_at in
@@ -35,14 +35,14 @@ first_unknown repo b n d x i l e new m f unknown known = (
       q.unknown (known q.dependency (in_take_at x.deps d k j a)),
 )
   where
-    at_dep : (is : List Parts) (d : ℕ) (i : Parts) → d < length is → i ≡ get_or is d i → slice_get is d ≡ Some i
+    at_dep : (is : List PatchInfo) (d : ℕ) (i : PatchInfo) → d < length is → i ≡ get_or is d i → slice_get is d ≡ Some i
     at_dep is d i l e = at_place is d i l e
 
 -- a patch that has all it names lacks nothing
 pub has_no_lack : (repo : List Patch) (b : Contents) (n : ℕ) → HasDependenciesAt repo b n → (e : ℕ) × LacksDependency repo b n e → ⊥
 has_no_lack repo b n h (e, q) = q.unknown (h q.patch q.dependency q.patch_at q.is_new (contains_at q.patch.deps e q.dependency_at))
   where
-    contains_at : (is : List Parts) (k : ℕ) {i : Parts} → slice_get is k ≡ Some i → Contains is i
+    contains_at : (is : List PatchInfo) (k : ℕ) {i : PatchInfo} → slice_get is k ≡ Some i → Contains is i
     contains_at is k {i} f = (k, within is k f, sym (read_at is k i f))
 
 pub first_lacking : (repo : List Patch) (b : Contents) (n d : ℕ) → ((m : ℕ) → m < n → HasDependenciesAt repo b m) → First (LacksDependency repo b n) d → LacksFirst repo b n d

@@ -1,7 +1,7 @@
 -- The patch that stops a split or a merge is determined.
 use Rattle.std.proofs.Common.{◌≡◌, List, [], ◌∷◌, ◌++◌, refl, sym, ap, ◌∙◌}
 use Rattle.dm_repo.specs.Staircases.{PassStops, SplitStops}
-use Rattle.dm_repo.specs.Merging.{JoinStops, MergeStops}
+use Rattle.dm_repo.specs.Merging.{MergePastStops, MergeStops}
 use Rattle.dm_repo.proofs.Staircases.{split_one, pass_stops, split_stops, rect_one, join_stops, merge_stops}
 
 -- two places in one list
@@ -41,7 +41,7 @@ module _ (P : Type 0) (Square : P → P → P → P → Type 0) (square_one : (p
       go (before m e f) = absurd (split_stops P Square square_one In (record { before = s.before; after = m; front = s.front; rest = s.rest; at = e; so_far = s.so_far; in_set = s.in_set; stops = s.stops }) t.so_far)
       go (behind m e f) = absurd (split_stops P Square square_one In (record { before = t.before; after = m; front = t.front; rest = t.rest; at = e; so_far = t.so_far; in_set = t.in_set; stops = t.stops }) s.so_far)
 
-  pub join_stops_one : {xs : List P} {h r q : P} → JoinStops Square xs h r → JoinStops Square xs h q → r ≡ q
+  pub join_stops_one : {xs : List P} {h r q : P} → MergePastStops Square xs h r → MergePastStops Square xs h q → r ≡ q
   join_stops_one {xs} {h} {r} {q} s t = go (meet s.near r s.far t.near q t.far (sym s.at ∙ t.at))
     where
       go : Meet s.near r s.far t.near q t.far → r ≡ q
@@ -49,7 +49,7 @@ module _ (P : Type 0) (Square : P → P → P → P → Type 0) (square_one : (p
       go (before m e f) = absurd (join_stops P Square square_one (record { near = s.near; near' = s.near'; far = m; n1 = s.n1; at = e; joined = s.joined; stuck = s.stuck }) t.joined)
       go (behind m e f) = absurd (join_stops P Square square_one (record { near = t.near; near' = t.near'; far = m; n1 = t.n1; at = e; joined = t.joined; stuck = t.stuck }) s.joined)
 
-  joins_at : {rest1 rest2 : List P} {h k r q : P} → rest1 ≡ rest2 → h ≡ k → JoinStops Square rest1 h r → JoinStops Square rest2 k q → r ≡ q
+  joins_at : {rest1 rest2 : List P} {h k r q : P} → rest1 ≡ rest2 → h ≡ k → MergePastStops Square rest1 h r → MergePastStops Square rest2 k q → r ≡ q
   joins_at e f s t = join_stops_one s (rw (← e, ← f) at t)
 
   pub merge_stops_one : {rest xs : List P} {h r k q : P} → MergeStops Square rest xs h r → MergeStops Square rest xs k q → (h ≡ k) × (r ≡ q)

@@ -1,12 +1,12 @@
 -- The laws of the repository.
 use Rattle.std.proofs.Common.{◌≡◌, List, ◌++◌, refl}
-use Rattle.dm_prim.specs.Runs.{Runs}
+use Rattle.dm_prim.specs.InTurn.{InTurn}
 use Rattle.dm_prim.specs.Primitives.{LawfulMap}
 use Rattle.dm_named.specs.Patches.{Patch}
 use Rattle.dm_bundle.specs.Bundles.{Contents}
 use Rattle.dm_repo.specs.Staircases.{Split}
 use Rattle.dm_repo.specs.Squares.{Placed, placed, patches, PlacedCommutes, PlacedMerges}
-use Rattle.dm_repo.specs.Folds.{Fold, Grows}
+use Rattle.dm_repo.specs.Folds.{Fold, ShallowFold}
 use Rattle.dm_repo.specs.Weighing.{IsCommon}
 use Rattle.dm_repo.specs.Laws.{SplitFolds, FoldIsOne, MergeApplies, SplitIsOne, SplitStopsOnce, MergeIsOne, MergeStopsOnce}
 use Rattle.dm_repo.proofs.Staircases.{runs_on, runs_part, split_runs, split_back, rect_runs, split_one, split_stops, rect_one, merge_stops}
@@ -33,19 +33,19 @@ split_folds repo b front rest s t = (there, back)
 
 -- the tree of the front, and what it and the rest lead to
 record Base (repo : List Patch) (front rest : List Placed) (s : LawfulMap) (base : LawfulMap) : Type 0 where
-  runs : Runs PlacedLeads rest base s
+  runs : InTurn PlacedLeads rest base s
 
-base_of : (repo : List Patch) (b : Contents) (front rest : List Placed) (s base : LawfulMap) → Split PlacedCommutes (IsCommon repo b) (placed repo) front rest → Fold repo s → Grows (patches front) base → Base repo front rest s base
-base_of repo b front rest s base p fold grows =
+base_of : (repo : List Patch) (b : Contents) (front rest : List Placed) (s base : LawfulMap) → Split PlacedCommutes (IsCommon repo b) (placed repo) front rest → Fold repo s → ShallowFold (patches front) base → Base repo front rest s base
+base_of repo b front rest s base p fold folds =
     let a = (split_folds repo b front rest p s).0 fold in
     let q = runs_part (patches front) a.runs in
-    let e : q.0 ≡ base = fold_one (patches front) q.0 base (record { start = a.start; is_root = a.is_root; runs = q.1 }) (grows_fold (patches front) base grows) in
+    let e : q.0 ≡ base = fold_one (patches front) q.0 base (record { start = a.start; is_root = a.is_root; runs = q.1 }) (grows_fold (patches front) base folds) in
     record { runs = rw e at (within rest q.2) }
 
 pub merge_applies : MergeApplies
 merge_applies repo b rest chosen merged f (rest', g) s fold =
-    let p = base_of repo b f.front rest s f.base f.chooses.parted.split fold f.grows in
-    let z = rect_runs Placed LawfulMap PlacedMerges PlacedLeads merged_runs g p.runs (within chosen (runs_lead f.goes)) in
+    let p = base_of repo b f.front rest s f.base f.bundle_split.repo_split.split fold f.folds in
+    let z = rect_runs Placed LawfulMap PlacedMerges PlacedLeads merged_runs g p.runs (within chosen (runs_lead f.leads)) in
     (z.0, without z.1)
 
 pub split_is_one : SplitIsOne

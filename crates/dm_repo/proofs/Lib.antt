@@ -4,7 +4,7 @@ pub mod Inverses
 pub mod Squares
 pub mod Placed
 pub mod Members
-pub mod Rows
+pub mod RowSteps
 pub mod Applying
 pub mod Splits
 pub mod Keeps

@@ -7,40 +7,40 @@ use Rattle.dm_tree.specs.Trees as trees
 use Rattle.dm_tree.specs.Trees.{Dir, IsLawful, path_cmp}
 use Rattle.dm_tree.proofs.Trees.{path_total}
 use Rattle.dm_prim.specs.Primitives.{LawfulMap}
-use Rattle.dm_prim.specs.Runs.{Runs, done, step}
+use Rattle.dm_prim.specs.InTurn.{InTurn, done, step}
 use Rattle.dm_named.specs.Patches.{Patch}
 use Rattle.dm_repo.specs.Squares.{Placed, patches}
 use Rattle.dm_repo.specs.Weighing.{FitStops}
-use Rattle.dm_repo.specs.Folds.{IsRoot, GoesAll, Grows}
-use Rattle.dm_repo.specs.Repositories.{IsMapOf, Makes, IsRepo}
+use Rattle.dm_repo.specs.Folds.{IsRoot, PatchLeadsShallowly, ShallowFold}
+use Rattle.dm_repo.specs.Repositories.{IsMapOf, IsTreeOf, IsRepo}
 use Rattle.dm_repo.proofs.Staircases.{runs_on, runs_part}
 use Rattle.dm_repo.proofs.Trees.{root_one, runs_one, goes_all_one, fold_one, grows_fold}
-use Rattle.dm_repo.proofs.Rows.{around}
+use Rattle.dm_repo.proofs.RowSteps.{around}
 
 -- a new tree is the root alone
 pub new_root : (t : trees.Tree) → t ≡ map.insert map.empty [] Dir → IsLawful (map.get t) → (s : LawfulMap) × IsMapOf t s × IsRoot s
 new_root t e l =
     (record { map = map.get t; lawful = l }, refl, record { root = l.root; alone = λ n p. ap (λ z. map.get z (n ∷ p)) e ∙ get-insert path_total map.empty [] Dir (n ∷ p) ∙ get-empty path_cmp (n ∷ p) })
 
-pub new_makes : (t : trees.Tree) → t ≡ map.insert map.empty [] Dir → IsLawful (map.get t) → Makes [] t
+pub new_makes : (t : trees.Tree) → t ≡ map.insert map.empty [] Dir → IsLawful (map.get t) → IsTreeOf [] t
 new_makes t e l = let r = new_root t e l in (r.0, r.1, record { start = r.0; is_root = r.2; runs = done })
 
 -- where a patch goes nowhere, the list goes nowhere
-pub fit_stops_all : {s t : LawfulMap} {xs : List Placed} {x : Placed} → FitStops s xs x → Runs GoesAll (patches xs) s t → ⊥
+pub fit_stops_all : {s t : LawfulMap} {xs : List Placed} {x : Placed} → FitStops s xs x → InTurn PatchLeadsShallowly (patches xs) s t → ⊥
 fit_stops_all {s} {t} {x} f r = go (runs_part (patches f.before) (rw (ap patches f.at ∙ map-append (λ y. y.1) f.before (x ∷ f.after)) at r))
   where
-    go : (v : LawfulMap) × Runs GoesAll (patches f.before) s v × Runs GoesAll (x.1 ∷ patches f.after) v t → ⊥
-    go (v, q, step {u = w} i j) = let e : v ≡ f.tree = runs_one goes_all_one q f.goes in f.stops w (rw e at i)
+    go : (v : LawfulMap) × InTurn PatchLeadsShallowly (patches f.before) s v × InTurn PatchLeadsShallowly (x.1 ∷ patches f.after) v t → ⊥
+    go (v, q, step {u = w} i j) = let e : v ≡ f.tree = runs_one goes_all_one q f.leads in f.stops w (rw e at i)
 
-pub front_stops : {s t : LawfulMap} {xs : List Placed} {x : Placed} → IsRoot s → FitStops s xs x → Grows (patches xs) t → ⊥
+pub front_stops : {s t : LawfulMap} {xs : List Placed} {x : Placed} → IsRoot s → FitStops s xs x → ShallowFold (patches xs) t → ⊥
 front_stops {s} r f g = let e : g.start ≡ s = root_one g.start s g.is_root r in fit_stops_all f (rw e at g.runs)
 
 -- a list of patches makes one tree
-pub grows_one : (xs : List Patch) {s t : LawfulMap} → Grows xs s → Grows xs t → s ≡ t
+pub grows_one : (xs : List Patch) {s t : LawfulMap} → ShallowFold xs s → ShallowFold xs t → s ≡ t
 grows_one xs {s} {t} g h = fold_one xs s t (grows_fold xs s g) (grows_fold xs t h)
 
 -- what is appended to what was made
-pub makes_on : (xs ys : List Patch) {s t : LawfulMap} → Grows xs s → Runs GoesAll ys s t → Grows (xs ++ ys) t
+pub makes_on : (xs ys : List Patch) {s t : LawfulMap} → ShallowFold xs s → InTurn PatchLeadsShallowly ys s t → ShallowFold (xs ++ ys) t
 makes_on xs ys g r = record { start = g.start; is_root = g.is_root; runs = runs_on g.runs r }
 
 pub not_below : (a b : ℕ) → (a < b → ⊥) → b ≤ a
@@ -49,14 +49,14 @@ not_below zero (suc b) n = absurd (n (omega arith))
 not_below (suc a) (suc b) n = let l = not_below a b (λ h. n (omega (arith, h))) in omega (arith, l)
 
 -- one more patch
-pub makes_more : (xs : List Patch) (k : ℕ) (x : Patch) {s t : LawfulMap} → k < length xs → x ≡ get_or xs k x → Grows (take k xs) s → GoesAll x s t → Grows (take (k + 1) xs) t
+pub makes_more : (xs : List Patch) (k : ℕ) (x : Patch) {s t : LawfulMap} → k < length xs → x ≡ get_or xs k x → ShallowFold (take k xs) s → PatchLeadsShallowly x s t → ShallowFold (take (k + 1) xs) t
 makes_more xs k x l e g h = record { start = g.start; is_root = g.is_root; runs = rw (take_more xs k x l, ← e) (runs_on g.runs (step h done)) }
 
 -- a patch of a repository always goes on
-pub always_goes : (xs : List Patch) (k : ℕ) (x : Patch) {s : LawfulMap} → k < length xs → x ≡ get_or xs k x → IsRepo xs → Grows (take k xs) s → ((t : LawfulMap) → GoesAll x s t → ⊥) → ⊥
+pub always_goes : (xs : List Patch) (k : ℕ) (x : Patch) {s : LawfulMap} → k < length xs → x ≡ get_or xs k x → IsRepo xs → ShallowFold (take k xs) s → ((t : LawfulMap) → PatchLeadsShallowly x s t → ⊥) → ⊥
 always_goes xs k x {s} l e r g h =
-    let same : r.grows.start ≡ g.start = root_one r.grows.start g.start r.grows.is_root g.is_root in
-    go (runs_part (take k xs) (rw (around xs k x l e, same) at r.grows.runs))
+    let same : r.folds.start ≡ g.start = root_one r.folds.start g.start r.folds.is_root g.is_root in
+    go (runs_part (take k xs) (rw (around xs k x l e, same) at r.folds.runs))
   where
-    go : (v : LawfulMap) × Runs GoesAll (take k xs) g.start v × Runs GoesAll (x ∷ drop (k + 1) xs) v r.tree → ⊥
+    go : (v : LawfulMap) × InTurn PatchLeadsShallowly (take k xs) g.start v × InTurn PatchLeadsShallowly (x ∷ drop (k + 1) xs) v r.tree → ⊥
     go (v, q, step {u = w} i j) = let f : v ≡ s = runs_one goes_all_one q g.runs in h w (rw f at i)

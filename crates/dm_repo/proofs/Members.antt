@@ -2,7 +2,7 @@
 use Rattle.std.proofs.Common.{◌≡◌, ℕ, zero, suc, ◌+◌, ◌<◌, List, [], ◌∷◌, ◌++◌, length, take, drop, get_or, slice_get, Some, ◌⊎◌, inl, inr, refl, sym, ap, ap₂, ◌∙◌, arith, append_assoc, append-nil}
 use Rattle.std.proofs.lemmas.List.{take_more, drop_more}
 use Rattle.std.specs.List.{Contains}
-use Rattle.dm_info.specs.Parts.{Parts}
+use Rattle.dm_info.specs.PatchInfo.{PatchInfo}
 use Rattle.dm_named.specs.Patches.{Patch}
 use Rattle.dm_bundle.specs.Patches.{infos_of, Distinct}
 use Rattle.dm_repo.specs.Repositories.{Holds, NamesEarlier}
@@ -49,11 +49,11 @@ infos_of-append [] ys = refl
 infos_of-append (x ∷ xs) ys = ap (λ l. x.info ∷ l) (infos_of-append xs ys)
 
 -- the same of the informations of patches
-pub none_more_infos : (xs : List Patch) (k : ℕ) (x : Patch) (i : Parts) → k < length xs → x ≡ get_or xs k x → (Contains (infos_of (take k xs)) i → ⊥) → (x.info ≡ i → ⊥) →
+pub none_more_infos : (xs : List Patch) (k : ℕ) (x : Patch) (i : PatchInfo) → k < length xs → x ≡ get_or xs k x → (Contains (infos_of (take k xs)) i → ⊥) → (x.info ≡ i → ⊥) →
     Contains (infos_of (take (k + 1) xs)) i → ⊥
 none_more_infos xs k x i l e n f c = none_on (infos_of (take k xs)) x.info i n f (rw (take_more xs k x l, ← e, infos_of-append (take k xs) (x ∷ [])) at c)
 
-pub none_before_infos : (xs : List Patch) (k : ℕ) (x : Patch) (i : Parts) → k < length xs → x ≡ get_or xs k x → (Contains (infos_of (drop (k + 1) xs)) i → ⊥) → (x.info ≡ i → ⊥) →
+pub none_before_infos : (xs : List Patch) (k : ℕ) (x : Patch) (i : PatchInfo) → k < length xs → x ≡ get_or xs k x → (Contains (infos_of (drop (k + 1) xs)) i → ⊥) → (x.info ≡ i → ⊥) →
     Contains (infos_of (drop k xs)) i → ⊥
 none_before_infos xs k x i l e n f c = let d : drop k xs ≡ x ∷ drop (k + 1) xs = drop_more xs k x l ∙ ap (λ z. z ∷ drop (k + 1) xs) (sym e) in go (rw d at c)
   where
@@ -65,22 +65,22 @@ info_at [] k x l e = absurd (omega arith)
 info_at (y ∷ ys) zero x l e = ap (λ z. Some z.info) (sym e)
 info_at (y ∷ ys) (suc k) x l e = info_at ys k x (omega arith) e
 
-pub found_info : (xs : List Patch) (k : ℕ) (x : Patch) (i : Parts) → k < length xs → x ≡ get_or xs k x → x.info ≡ i → Contains (infos_of xs) i
+pub found_info : (xs : List Patch) (k : ℕ) (x : Patch) (i : PatchInfo) → k < length xs → x ≡ get_or xs k x → x.info ≡ i → Contains (infos_of xs) i
 found_info xs k x i l e f = rw f at (in_infos xs (found_at xs k x x l e refl))
 
 -- what a member names is held, or a member's name
-pub dep_held : (held : List Parts) (xs : List Patch) {x : Patch} {d : Parts} → NamesEarlier held xs → Contains xs x → Contains x.deps d → Contains (held ++ infos_of xs) d
+pub dep_held : (held : List PatchInfo) (xs : List Patch) {x : Patch} {d : PatchInfo} → NamesEarlier held xs → Contains xs x → Contains x.deps d → Contains (held ++ infos_of xs) d
 dep_held held [] n c k = absurd (none_of c)
 dep_held held (y ∷ ys) {x} {d} n c k = elim (one_of y ys c) [
   | inl e ↦ Contains-append_left held (y.info ∷ infos_of ys) d (n.0 d (rw (← e) at k))
   | inr m ↦ rw (append_assoc held (y.info ∷ []) (infos_of ys)) at (dep_held (held ++ y.info ∷ []) ys n.1 m k)
 ]
 
-pub earlier_on : (held : List Parts) (xs ys : List Patch) → NamesEarlier held xs → NamesEarlier (held ++ infos_of xs) ys → NamesEarlier held (xs ++ ys)
+pub earlier_on : (held : List PatchInfo) (xs ys : List Patch) → NamesEarlier held xs → NamesEarlier (held ++ infos_of xs) ys → NamesEarlier held (xs ++ ys)
 earlier_on held [] ys n m = rw (append-nil held) at m
 earlier_on held (x ∷ xs) ys n m = (n.0, earlier_on (held ++ x.info ∷ []) xs ys n.1 (rw (append_assoc held (x.info ∷ []) (infos_of xs)) m))
 
-pub distinct_on : (xs ys : List Parts) → Distinct xs → Distinct ys → ((i : Parts) → Contains xs i → Contains ys i → ⊥) → Distinct (xs ++ ys)
+pub distinct_on : (xs ys : List PatchInfo) → Distinct xs → Distinct ys → ((i : PatchInfo) → Contains xs i → Contains ys i → ⊥) → Distinct (xs ++ ys)
 distinct_on [] ys d e apart = e
 distinct_on (x ∷ xs) ys d e apart = (
   λ c. elim (Contains-append_cases xs ys x c) [ inl h ↦ d.0 h | inr h ↦ apart x (here x xs) h ],

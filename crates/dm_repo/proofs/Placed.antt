@@ -1,17 +1,17 @@
 -- Patches with their places.
 use Rattle.std.proofs.Common.{◌≡◌, ℕ, ◌+◌, List, [], ◌∷◌, refl, sym, ap, ◌∙◌}
-use Rattle.dm_prim.specs.Runs.{Runs, done, step}
+use Rattle.dm_prim.specs.InTurn.{InTurn, done, step}
 use Rattle.dm_prim.specs.Primitives.{LawfulMap}
 use Rattle.dm_named.specs.Patches.{Patch}
 use Rattle.dm_repo.specs.Squares.{Placed, placed_from, patches, PlacedCommutes, PlacedMerges}
-use Rattle.dm_repo.specs.Folds.{Leads}
+use Rattle.dm_repo.specs.Folds.{PatchLeads}
 use Rattle.dm_repo.proofs.Squares.{same_placed, named_back, named_runs, named_one, merges_one, merges_runs}
 
 pub placed_back : (x y y' x' : Placed) → PlacedCommutes x y y' x' → PlacedCommutes y' x' x y
 placed_back x y y' x' c = record { x_place = sym c.y_place; y_place = sym c.x_place; commutes = named_back x.1 y.1 y'.1 x'.1 c.commutes }
 
 abbrev pub PlacedLeads : Placed → LawfulMap → LawfulMap → Type 0
-PlacedLeads x s t = Leads x.1 s t
+PlacedLeads x s t = PatchLeads x.1 s t
 
 pub placed_runs : (x y y' x' : Placed) → PlacedCommutes x y y' x' → (s u z : LawfulMap) → PlacedLeads x s u → PlacedLeads y u z → (m : LawfulMap) × PlacedLeads y' s m × PlacedLeads x' m z
 placed_runs x y y' x' c s u z h k = named_runs x.1 y.1 y'.1 x'.1 c.commutes s u z h k
@@ -34,10 +34,10 @@ patches_placed n [] = refl
 patches_placed n (x ∷ xs) = ap (λ l. x ∷ l) (patches_placed (n + 1) xs)
 
 -- with and without places
-pub without : {xs : List Placed} {s t : LawfulMap} → Runs PlacedLeads xs s t → Runs Leads (patches xs) s t
+pub without : {xs : List Placed} {s t : LawfulMap} → InTurn PlacedLeads xs s t → InTurn PatchLeads (patches xs) s t
 without done = done
 without (step h r) = step h (without r)
 
-pub within : (xs : List Placed) {s t : LawfulMap} → Runs Leads (patches xs) s t → Runs PlacedLeads xs s t
+pub within : (xs : List Placed) {s t : LawfulMap} → InTurn PatchLeads (patches xs) s t → InTurn PlacedLeads xs s t
 within [] done = done
 within (x ∷ xs) (step h r) = step h (within xs r)

@@ -4,7 +4,7 @@ use Rattle.std.proofs.lemmas.List.{take-append-le, take_all}
 use Rattle.dm_named.specs.Patches.{Patch}
 use Rattle.dm_repo.specs.Staircases.{Passes, Split, PassStops, SplitStops}
 use Rattle.dm_repo.specs.Squares.{Placed, placed, placed_from, PlacedCommutes}
-use Rattle.dm_repo.specs.Rows.{AtPlaces, StopsAt, BlockedBy, blocked_at, IsMarked}
+use Rattle.dm_repo.specs.Stops.{AtPlaces, StopsAt, BlockedBy, blocked_at, IsMarked}
 use Rattle.dm_repo.specs.declared.stop.Stop.{Stop}
 use Rattle.dm_repo.specs.declared.stop.Stop.TheVariants.{At, NoMemory}
 use Rattle.dm_repo.proofs.Staircases.{split_in, split_out}

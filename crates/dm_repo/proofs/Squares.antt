@@ -6,7 +6,7 @@ use Rattle.dm_prim.specs.Primitives.{LawfulMap}
 use Rattle.dm_named.specs.Patches.{Patch}
 use Rattle.dm_named.specs.Commuting.{Stays, NamedCommutes}
 use Rattle.dm_repo.specs.Squares.{Merges, Placed}
-use Rattle.dm_repo.specs.Folds.{Leads}
+use Rattle.dm_repo.specs.Folds.{PatchLeads}
 use Rattle.dm_prim.proofs.LawProofs.{lists_end_alike, lists_back, list_inverses_lead_back}
 use Rattle.dm_repo.proofs.Inverses.{inv_all-inv_all}
 use Rattle.dm_prim.proofs.Single.{lists_one}
@@ -29,7 +29,7 @@ named_back x y y' x' c = record {
   prims = lists_back x.prims y.prims y'.prims x'.prims c.prims;
 }
 
-pub named_runs : (x y y' x' : Patch) → NamedCommutes x y y' x' → (s u z : LawfulMap) → Leads x s u → Leads y u z → (m : LawfulMap) × Leads y' s m × Leads x' m z
+pub named_runs : (x y y' x' : Patch) → NamedCommutes x y y' x' → (s u z : LawfulMap) → PatchLeads x s u → PatchLeads y u z → (m : LawfulMap) × PatchLeads y' s m × PatchLeads x' m z
 named_runs x y y' x' c s u z h k = lists_end_alike x.prims y.prims y'.prims x'.prims c.prims s u z h k
 
 pub named_one : (x y y1 x1 y2 x2 : Patch) → NamedCommutes x y y1 x1 → NamedCommutes x y y2 x2 → (y1 ≡ y2) × (x1 ≡ x2)
@@ -47,7 +47,7 @@ merges_one r n n1 r1 n2 r2 c d =
       same_named r1 r2 (c.r_stays.info ∙ sym d.r_stays.info) (c.r_stays.deps ∙ sym d.r_stays.deps) f,
     )
 
-pub merges_runs : (r n n' r' : Patch) → Merges r n n' r' → (s b a : LawfulMap) → Leads r s b → Leads n s a → (z : LawfulMap) × Leads n' b z × Leads r' a z
+pub merges_runs : (r n n' r' : Patch) → Merges r n n' r' → (s b a : LawfulMap) → PatchLeads r s b → PatchLeads n s a → (z : LawfulMap) × PatchLeads n' b z × PatchLeads r' a z
 merges_runs r n n' r' m s b a h k =
     let e = lists_end_alike (inv_all r.prims) n.prims n'.prims (inv_all r'.prims) m.prims b s a ((list_inverses_lead_back r.prims s b).0 h) k in
     (e.0, e.1, (list_inverses_lead_back r'.prims a e.0).1 e.2)

@@ -1,8 +1,8 @@
 -- Staircases: one answer, the same end, and the steps of a loop.
 use Rattle.std.proofs.Common.{◌≡◌, List, [], ◌∷◌, ◌++◌, refl, ap, ap₂}
 use Rattle.dm_prim.specs.Rectangles.{CellRow, none, next, empty, row}
-use Rattle.dm_repo.specs.Merging.{MergeRectangle, bare, over, Joins, JoinStops, Merge, MergeStops}
-use Rattle.dm_prim.specs.Runs.{Runs, done, step}
+use Rattle.dm_repo.specs.Merging.{MergeRectangle, bare, over, MergesPast, MergePastStops, Merge, MergeStops}
+use Rattle.dm_prim.specs.InTurn.{InTurn, done, step}
 use Rattle.dm_repo.specs.Staircases.{Passes, PassStops, Split, nothing, stays, yields, SplitStops}
 use Rattle.dm_prim.proofs.RectangleLemmas.{rectangle_one}
 
@@ -52,38 +52,38 @@ module _ (P : Type 0) (Square : P → P → P → P → Type 0) where
 
 -- lists in turn
 module _ {P S : Type 0} {Step : P → S → S → Type 0} where
-  pub runs_on : {xs ys : List P} {s u z : S} → Runs Step xs s u → Runs Step ys u z → Runs Step (xs ++ ys) s z
+  pub runs_on : {xs ys : List P} {s u z : S} → InTurn Step xs s u → InTurn Step ys u z → InTurn Step (xs ++ ys) s z
   runs_on done r = r
   runs_on (step h t) r = step h (runs_on t r)
 
-  pub runs_part : (xs : List P) {ys : List P} {s z : S} → Runs Step (xs ++ ys) s z → (u : S) × Runs Step xs s u × Runs Step ys u z
+  pub runs_part : (xs : List P) {ys : List P} {s z : S} → InTurn Step (xs ++ ys) s z → (u : S) × InTurn Step xs s u × InTurn Step ys u z
   runs_part [] r = (_, done, r)
   runs_part (x ∷ xs) (step h t) = let a = runs_part xs t in (a.0, step h a.1, a.2)
 
 -- the same end
 module _ (P S : Type 0) (Square : P → P → P → P → Type 0) (Step : P → S → S → Type 0)
     (square_runs : (p q q' p' : P) → Square p q q' p' → (s u z : S) → Step p s u → Step q u z → (m : S) × Step q' s m × Step p' m z) where
-  strip_runs : {x x' : P} {ys ys' : List P} {s u z : S} → CellRow Square x ys ys' x' → Step x s u → Runs Step ys u z → (m : S) × Runs Step ys' s m × Step x' m z
+  strip_runs : {x x' : P} {ys ys' : List P} {s u z : S} → CellRow Square x ys ys' x' → Step x s u → InTurn Step ys u z → (m : S) × InTurn Step ys' s m × Step x' m z
   strip_runs none h done = (_, done, h)
   strip_runs {s = s} (next {x} {y} {y'} {x1} c t) h (step {u = u} {z = z} k r) =
       let w : (m : S) × Step y' s m × Step x1 m _ = square_runs x y y' x1 c s _ _ h k in
       let a = strip_runs t w.2 r in (a.0, step w.1 a.1, a.2)
 
-  pub split_runs : (In : P → Type 0) {xs front rest : List P} {s z : S} → Split Square In xs front rest → Runs Step xs s z →
-      (u : S) × Runs Step front s u × Runs Step rest u z
+  pub split_runs : (In : P → Type 0) {xs front rest : List P} {s z : S} → Split Square In xs front rest → InTurn Step xs s z →
+      (u : S) × InTurn Step front s u × InTurn Step rest u z
   split_runs In nothing done = (_, done, done)
   split_runs In (stays i s) (step h r) = let a = split_runs In s r in (a.0, step h a.1, a.2)
   split_runs In (yields o s t) (step h r) =
       let a = split_runs In s r in let b = strip_runs t h a.1 in (b.0, b.1, step b.2 a.2)
 
   module _ (square_back : (p q q' p' : P) → Square p q q' p' → Square q' p' p q) where
-    strip_back : {x x' : P} {ys ys' : List P} {s m z : S} → CellRow Square x ys ys' x' → Runs Step ys' s m → Step x' m z → (u : S) × Step x s u × Runs Step ys u z
+    strip_back : {x x' : P} {ys ys' : List P} {s m z : S} → CellRow Square x ys ys' x' → InTurn Step ys' s m → Step x' m z → (u : S) × Step x s u × InTurn Step ys u z
     strip_back none done h = (_, h, done)
     strip_back (next {x} {y} {y'} {x1} c t) (step k r) h =
         let a = strip_back t r h in
         let w = square_runs y' x1 x y (square_back x y y' x1 c) _ _ _ k a.1 in (w.0, w.1, step w.2 a.2)
 
-    pub split_back : (In : P → Type 0) {xs front rest : List P} {s u z : S} → Split Square In xs front rest → Runs Step front s u → Runs Step rest u z → Runs Step xs s z
+    pub split_back : (In : P → Type 0) {xs front rest : List P} {s u z : S} → Split Square In xs front rest → InTurn Step front s u → InTurn Step rest u z → InTurn Step xs s z
     split_back In nothing done done = done
     split_back In (stays i s) (step h r) q = step h (split_back In s r q)
     split_back In (yields o s t) f (step h q) = let a = strip_back t f h in step a.1 (split_back In s a.2 q)
@@ -91,13 +91,13 @@ module _ (P S : Type 0) (Square : P → P → P → P → Type 0) (Step : P → 
 -- a merge always applies
 module _ (P S : Type 0) (Square : P → P → P → P → Type 0) (Step : P → S → S → Type 0)
     (square_runs : (r n n' r' : P) → Square r n n' r' → (s b a : S) → Step r s b → Step n s a → (z : S) × Step n' b z × Step r' a z) where
-  strip_joins : {x x' : P} {ys ys' : List P} {s u a : S} → CellRow Square x ys ys' x' → Step x s u → Runs Step ys s a → (v : S) × Runs Step ys' u v × Step x' a v
+  strip_joins : {x x' : P} {ys ys' : List P} {s u a : S} → CellRow Square x ys ys' x' → Step x s u → InTurn Step ys s a → (v : S) × InTurn Step ys' u v × Step x' a v
   strip_joins none h done = (_, done, h)
   strip_joins (next {x} {y} {y'} {x1} c t) h (step k r) =
       let w = square_runs x y y' x1 c _ _ _ h k in let a = strip_joins t w.2 r in (a.0, step w.1 a.1, a.2)
 
-  pub rect_runs : {rest new new' rest' : List P} {s b a : S} → MergeRectangle Square rest new new' rest' → Runs Step rest s b → Runs Step new s a →
-      (z : S) × Runs Step new' b z × Runs Step rest' a z
+  pub rect_runs : {rest new new' rest' : List P} {s b a : S} → MergeRectangle Square rest new new' rest' → InTurn Step rest s b → InTurn Step new s a →
+      (z : S) × InTurn Step new' b z × InTurn Step rest' a z
   rect_runs bare done r = (_, r, done)
   rect_runs (over t g) (step h r) n = let v = strip_joins t h n in let z = rect_runs g r v.1 in (z.0, z.1, step v.2 z.2)
 
@@ -157,12 +157,12 @@ module _ (P : Type 0) (Square : P → P → P → P → Type 0) where
 -- the merge
 module _ (P : Type 0) (Square : P → P → P → P → Type 0) where
   -- one more of the rest
-  pub join_more : {near near' : List P} {r r' n n1 n2 : P} → Joins Square near n n1 near' → Square r n1 n2 r' → Joins Square (near ++ r ∷ []) n n2 (near' ++ r' ∷ [])
+  pub join_more : {near near' : List P} {r r' n n1 n2 : P} → MergesPast Square near n n1 near' → Square r n1 n2 r' → MergesPast Square (near ++ r ∷ []) n n2 (near' ++ r' ∷ [])
   join_more bare c = over (next c none) bare
   join_more (over (next d none) g) c = over (next d none) (join_more g c)
 
-  pub join_part : (near : List P) {r n n' : P} (far : List P) {out : List P} → Joins Square (near ++ r ∷ far) n n' out →
-      (n1 : P) × (near' : List P) × (n2 : P) × (r' : P) × Joins Square near n n1 near' × Square r n1 n2 r'
+  pub join_part : (near : List P) {r n n' : P} (far : List P) {out : List P} → MergesPast Square (near ++ r ∷ far) n n' out →
+      (n1 : P) × (near' : List P) × (n2 : P) × (r' : P) × MergesPast Square near n n1 near' × Square r n1 n2 r'
   join_part [] far (over (next c none) g) = (_, [], _, _, bare, c)
   join_part (x ∷ near) far (over {r' = v} (next d none) g) = let a = join_part near far g in (a.0, v ∷ a.1, a.2, a.3, over (next d none) a.4, a.5)
 
@@ -184,7 +184,7 @@ module _ (P : Type 0) (Square : P → P → P → P → Type 0) where
     rect_one e (over t g) (over u h) =
         let a = strip_one P Square square_one refl e t u in let b = rect_one a.0 g h in (b.0, ap₂ (λ a b. a ∷ b) a.1 b.1)
 
-    pub join_stops : {rest rest' : List P} {n n' r : P} → JoinStops Square rest n r → Joins Square rest n n' rest' → ⊥
+    pub join_stops : {rest rest' : List P} {n n' r : P} → MergePastStops Square rest n r → MergesPast Square rest n n' rest' → ⊥
     join_stops s g =
         let a = join_part s.near s.far (rw s.at at g) in
         let e = rect_one refl s.joined a.4 in
@@ -194,10 +194,10 @@ module _ (P : Type 0) (Square : P → P → P → P → Type 0) where
         inj : (x y : P) → x ∷ [] ≡ y ∷ [] → x ≡ y
         inj x y e = cc
 
-    alone_stops : {rest out rest' : List P} {n n' r : P} → JoinStops Square rest n r → MergeRectangle Square rest (n ∷ []) out rest' → out ≡ n' ∷ [] → ⊥
+    alone_stops : {rest out rest' : List P} {n n' r : P} → MergePastStops Square rest n r → MergeRectangle Square rest (n ∷ []) out rest' → out ≡ n' ∷ [] → ⊥
     alone_stops s g e = join_stops s (rw e at g)
 
-    clash : {rest1 rest2 after out rest' : List P} {n r : P} → rest1 ≡ rest2 → JoinStops Square rest1 n r → MergeRectangle Square rest2 (n ∷ after) out rest' → ⊥
+    clash : {rest1 rest2 after out rest' : List P} {n r : P} → rest1 ≡ rest2 → MergePastStops Square rest1 n r → MergeRectangle Square rest2 (n ∷ after) out rest' → ⊥
     clash {after} {n} e s g =
         let b = rect_part (n ∷ []) after refl (rw (← e) at g) in
         let c = single b.3 in

@@ -1,7 +1,7 @@
 -- From marks, stops and blocks to what weighing answers.
 use Rattle.std.proofs.Common.{◌≡◌, ◌↔◌, ℕ, zero, suc, ◌+◌, ◌<◌, Bool, true, false, List, [], ◌∷◌, ◌++◌, length, map, get_or, slice_get, Some, Result, Ok, Err, MatchResult, ◌⊎◌, inl, inr, refl, sym, ap, ap₂, subst, ◌∙◌, arith, add-zero}
 use Rattle.std.specs.List.{All, Contains}
-use Rattle.dm_info.specs.Parts.{Parts}
+use Rattle.dm_info.specs.PatchInfo.{PatchInfo}
 use Rattle.dm_named.specs.Patches.{Patch}
 use Rattle.dm_bundle.specs.Patches.{infos_of}
 use Rattle.dm_bundle.specs.Bundles.{Contents}
@@ -13,12 +13,12 @@ use Rattle.dm_repo.specs.declared.stop.Blocked.{Blocked}
 use Rattle.dm_repo.specs.declared.stop.Blocked.TheVariants as blocks
 use Rattle.dm_repo.specs.Staircases.{SplitStops}
 use Rattle.dm_repo.specs.Squares.{Placed, placed, placed_from, undone}
-use Rattle.dm_repo.specs.Rows.{AtPlaces, StopsAt, BlockedBy, IsMarked, refusal_of, refusal_between}
+use Rattle.dm_repo.specs.Stops.{AtPlaces, StopsAt, BlockedBy, IsMarked, refusal_of, refusal_between}
 use Rattle.dm_repo.specs.Repositories.{Holds}
 use Rattle.dm_repo.specs.CommonSets.{HoldsAll}
-use Rattle.dm_repo.specs.Marks.{Marks}
+use Rattle.dm_repo.specs.MarkLists.{AreMarksOf}
 use Rattle.dm_repo.specs.Marking.{RefusesContext}
-use Rattle.dm_repo.specs.Weighing.{MergeIsFull, Refuses}
+use Rattle.dm_repo.specs.Weighing.{MergeIsFull, RefusesBundle}
 use Rattle.dm_repo.specs.Weighed.{FullFor}
 use Rattle.dm_prim.specs.Primitives.{Prim}
 use Rattle.dm_repo.proofs.Inverses.{inv_all-inv_all}
@@ -43,7 +43,7 @@ context_to_split repo b (DoesNotFit n) h = absurd h
 context_to_split repo b (Conflicts n d) h = absurd h
 context_to_split repo b Full h = absurd h
 
-pub context_to_weigh : (repo : List Patch) (b : Contents) (why : Refusal) → RefusesContext repo b why → Refuses repo b why
+pub context_to_weigh : (repo : List Patch) (b : Contents) (why : Refusal) → RefusesContext repo b why → RefusesBundle repo b why
 context_to_weigh repo b (MissingContext c) h = h
 context_to_weigh repo b NoMemory h = tt
 context_to_weigh repo b (MissingDependency n d) h = absurd h
@@ -63,7 +63,7 @@ of_place Q why S (stops.At k) n f (x, e, s) = subst (λ (j : ℕ). Q (why j)) (s
 of_place Q why S stops.NoMemory n f s = n
 
 -- marks tell of each patch of a list whether it is in the set
-alike_from : (marks : List Bool) (Q : Parts → Type 0) (n : ℕ) (xs : List Patch) → ((k : ℕ) (x : Patch) → slice_get xs k ≡ Some x → (slice_get marks (n + k) ≡ Some true) ↔ Q x.info) →
+alike_from : (marks : List Bool) (Q : PatchInfo → Type 0) (n : ℕ) (xs : List Patch) → ((k : ℕ) (x : Patch) → slice_get xs k ≡ Some x → (slice_get marks (n + k) ≡ Some true) ↔ Q x.info) →
     Alike (IsMarked marks) (λ x. Q x.1.info) (placed_from n xs)
 alike_from marks Q n [] f = no_more
 alike_from marks Q n (x ∷ xs) f =
@@ -79,7 +79,7 @@ info_from (y ∷ ys) zero e = ap (λ z. Some z.info) (some_is e)
     some_is e = cc
 info_from (y ∷ ys) (suc k) e = info_from ys k e
 
-pub alike_placed : (marks : List Bool) (Q : Parts → Type 0) (xs : List Patch) → Marks marks (infos_of xs) Q → Alike (IsMarked marks) (λ x. Q x.1.info) (placed xs)
+pub alike_placed : (marks : List Bool) (Q : PatchInfo → Type 0) (xs : List Patch) → AreMarksOf marks (infos_of xs) Q → Alike (IsMarked marks) (λ x. Q x.1.info) (placed xs)
 alike_placed marks Q xs m = alike_from marks Q 0 xs (λ k x e. let z : 0 + k ≡ k = omega arith in rw z (m.at k x.info (info_from xs k e)))
 
 -- the same of where a split stops
@@ -107,12 +107,12 @@ blocked_map (blocks.By j k) f (x, y, e, g, s) = (x, y, e, g, f x y s)
 blocked_map blocks.NoMemory f s = tt
 
 -- where all marks are set, Q holds of all
-pub all_marked : (infos : List Parts) (Q : Parts → Type 0) (marks : List Bool) → Marks marks infos Q → All (λ mark. mark ≡ true) marks → (i : Parts) → Contains infos i → Q i
+pub all_marked : (infos : List PatchInfo) (Q : PatchInfo → Type 0) (marks : List Bool) → AreMarksOf marks infos Q → All (λ mark. mark ≡ true) marks → (i : PatchInfo) → Contains infos i → Q i
 all_marked infos Q marks m a i (k, l, e) =
     let n : k < length marks = omega (arith, l, m.length_is) in
     (m.at k i (at_place infos k i l (sym e))).0 (mark_at marks k true false n (a k false n))
 
-pub not_all_held : (repo new : List Patch) (held : List Bool) → Marks held (infos_of new) (Holds repo) → HoldsAll repo (infos_of new) → All (λ mark. mark ≡ true) held
+pub not_all_held : (repo new : List Patch) (held : List Bool) → AreMarksOf held (infos_of new) (Holds repo) → HoldsAll repo (infos_of new) → All (λ mark. mark ≡ true) held
 not_all_held repo new held m h k d l =
     let x = some_at (infos_of new) k (omega (arith, l, m.length_is)) in
     let n = within (infos_of new) k x.1 in
@@ -137,7 +137,7 @@ undone_twice (x ∷ xs) = ap₂ (λ a b. a ∷ b) (same x) (undone_twice xs)
     same x = ap (λ (ps : List Prim). (x.0, record { info = x.1.info; deps = x.1.deps; prims = ps })) (inv_all-inv_all x.1.prims)
 
 -- a repository that is full
-pub full_refuses : (repo : List Patch) (b : Contents) (P : Type 0) (why : Refusal) → (P → MergeIsFull repo b) → FullFor why P → Refuses repo b why
+pub full_refuses : (repo : List Patch) (b : Contents) (P : Type 0) (why : Refusal) → (P → MergeIsFull repo b) → FullFor why P → RefusesBundle repo b why
 full_refuses repo b P Full f h = inr (f h)
 full_refuses repo b P NoMemory f h = tt
 full_refuses repo b P (MissingContext c) f h = absurd h

@@ -7,10 +7,10 @@ use mathlib.Core.HLevel.{is_prop→PathP}
 use Rattle.dm_tree.specs.Paths.{Name, Path}
 use Rattle.dm_tree.specs.Trees.{Map, Lines, Entry, Dir, File, IsLawful}
 use Rattle.dm_prim.specs.Primitives.{Prim}
-use Rattle.dm_prim.specs.Runs.{Runs, done, step}
-use Rattle.dm_prim.specs.Primitives.{LawfulMap, Does}
+use Rattle.dm_prim.specs.InTurn.{InTurn, done, step}
+use Rattle.dm_prim.specs.Primitives.{LawfulMap, Leads}
 use Rattle.dm_named.specs.Patches.{Patch}
-use Rattle.dm_repo.specs.Folds.{Leads, IsRoot, Fold, Goes, GoesAll, Grows}
+use Rattle.dm_repo.specs.Folds.{PatchLeads, IsRoot, Fold, LeadsShallowly, PatchLeadsShallowly, ShallowFold}
 use Rattle.dm_repo.specs.Repositories.{IsRepo}
 use Rattle.dm_prim.proofs.Single.{applies_one, same_map}
 
@@ -30,37 +30,37 @@ root_one s t r q = tree_same s t (same_map s.map t.map at)
     at [] = r.root ∙ sym q.root
     at (n ∷ p) = r.alone n p ∙ sym (q.alone n p)
 
-pub does_one : (p : Prim) (s t u : LawfulMap) → Does p s t → Does p s u → t ≡ u
+pub does_one : (p : Prim) (s t u : LawfulMap) → Leads p s t → Leads p s u → t ≡ u
 does_one p s t u h k = tree_same t u (same_map t.map u.map (applies_one p s.map t.map u.map s.lawful h.applies k.applies))
 
 -- one end, where each step has one
 module _ {P S : Type 0} {Step : P → S → S → Type 0} (step_one : (p : P) (s t u : S) → Step p s t → Step p s u → t ≡ u) where
-  pub runs_one : {xs : List P} {s t u : S} → Runs Step xs s t → Runs Step xs s u → t ≡ u
+  pub runs_one : {xs : List P} {s t u : S} → InTurn Step xs s t → InTurn Step xs s u → t ≡ u
   runs_one done done = refl
   runs_one (step {p} {s} {u = v} h r) (step {u = w} k q) = let e : v ≡ w = step_one p s v w h k in runs_one r (rw (← e) at q)
 
-pub leads_one : (x : Patch) (s t u : LawfulMap) → Leads x s t → Leads x s u → t ≡ u
+pub leads_one : (x : Patch) (s t u : LawfulMap) → PatchLeads x s t → PatchLeads x s u → t ≡ u
 leads_one x s t u h k = runs_one does_one h k
 
 pub fold_one : (xs : List Patch) (s t : LawfulMap) → Fold xs s → Fold xs t → s ≡ t
 fold_one xs s t f g = let e = root_one f.start g.start f.is_root g.is_root in runs_one leads_one (rw e at f.runs) g.runs
 
-pub goes_one : (p : Prim) (s t u : LawfulMap) → Goes p s t → Goes p s u → t ≡ u
-goes_one p s t u h k = does_one p s t u h.does k.does
+pub goes_one : (p : Prim) (s t u : LawfulMap) → LeadsShallowly p s t → LeadsShallowly p s u → t ≡ u
+goes_one p s t u h k = does_one p s t u h.leads k.leads
 
-pub goes_all_one : (x : Patch) (s t u : LawfulMap) → GoesAll x s t → GoesAll x s u → t ≡ u
+pub goes_all_one : (x : Patch) (s t u : LawfulMap) → PatchLeadsShallowly x s t → PatchLeadsShallowly x s u → t ≡ u
 goes_all_one x s t u h k = runs_one goes_one h k
 
 -- what goes, leads
-runs_go : {ps : List Prim} {s t : LawfulMap} → Runs Goes ps s t → Runs Does ps s t
+runs_go : {ps : List Prim} {s t : LawfulMap} → InTurn LeadsShallowly ps s t → InTurn Leads ps s t
 runs_go done = done
-runs_go (step h r) = step h.does (runs_go r)
+runs_go (step h r) = step h.leads (runs_go r)
 
-pub runs_lead : {xs : List Patch} {s t : LawfulMap} → Runs GoesAll xs s t → Runs Leads xs s t
+pub runs_lead : {xs : List Patch} {s t : LawfulMap} → InTurn PatchLeadsShallowly xs s t → InTurn PatchLeads xs s t
 runs_lead done = done
 runs_lead (step h r) = step (runs_go h) (runs_lead r)
 
-pub grows_fold : (xs : List Patch) (t : LawfulMap) → Grows xs t → Fold xs t
+pub grows_fold : (xs : List Patch) (t : LawfulMap) → ShallowFold xs t → Fold xs t
 grows_fold xs t g = record { start = g.start; is_root = g.is_root; runs = runs_lead g.runs }
 
 -- the map of the root alone is lawful
@@ -88,4 +88,4 @@ root = record {
 
 -- the repository without patches
 pub empty_repo : IsRepo []
-empty_repo = record { distinct = tt; earlier = tt; tree = root; grows = record { start = root; is_root = record { root = refl; alone = λ n p. refl }; runs = done } }
+empty_repo = record { distinct = tt; earlier = tt; tree = root; folds = record { start = root; is_root = record { root = refl; alone = λ n p. refl }; runs = done } }

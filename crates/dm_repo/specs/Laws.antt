@@ -1,13 +1,13 @@
 -- What holds of all repositories and bundles.
 use Rattle.std.specs.Prelude.{◌≡◌, ◌↔◌, List, ◌++◌}
-use Rattle.dm_prim.specs.Runs.{Runs}
+use Rattle.dm_prim.specs.InTurn.{InTurn}
 use Rattle.dm_prim.specs.Primitives.{LawfulMap}
 use Rattle.dm_named.specs.Patches.{Patch}
 use Rattle.dm_bundle.specs.Bundles.{Contents}
 use Rattle.dm_repo.specs.Staircases.{Split, SplitStops}
 use Rattle.dm_repo.specs.Merging.{Merge, MergeStops}
 use Rattle.dm_repo.specs.Squares.{Placed, placed, patches, PlacedCommutes, PlacedMerges}
-use Rattle.dm_repo.specs.Folds.{Leads, Fold}
+use Rattle.dm_repo.specs.Folds.{PatchLeads, Fold}
 use Rattle.dm_bundle.specs.Patches.{infos_of, Distinct}
 use Rattle.dm_repo.specs.Repositories.{IsRepo}
 use Rattle.dm_repo.specs.Weighing.{IsCommon, Fits, IsMergeOf}
@@ -26,7 +26,7 @@ FoldIsOne = (xs : List Patch) (s t : LawfulMap) → Fold xs s → Fold xs t → 
 abbrev pub MergeApplies : Type 0
 MergeApplies = (repo : List Patch) (b : Contents) (rest new merged : List Placed) →
     Fits repo b rest new → Merge PlacedMerges rest new merged →
-    (s : LawfulMap) → Fold repo s → (t : LawfulMap) × Runs Leads (patches merged) s t
+    (s : LawfulMap) → Fold repo s → (t : LawfulMap) × InTurn PatchLeads (patches merged) s t
 
 -- a repository is split in one way
 abbrev pub SplitIsOne : Type 0

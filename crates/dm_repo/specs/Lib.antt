@@ -1,8 +1,8 @@
 pub mod Staircases
 pub mod Merging
 pub mod Squares
-pub mod Rows
-pub mod Marks
+pub mod Stops
+pub mod MarkLists
 pub mod Folds
 pub mod Repositories
 pub mod CommonSets

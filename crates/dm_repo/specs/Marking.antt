@@ -7,13 +7,13 @@ use Rattle.dm_repo.specs.declared.refusal.Refusal.{Refusal}
 use Rattle.dm_repo.specs.declared.refusal.Refusal.TheVariants.{MissingContext, NoMemory}
 use Rattle.dm_repo.specs.Repositories.{Holds}
 use Rattle.dm_repo.specs.CommonSets.{Common, KnowsContext, First, LacksAt}
-use Rattle.dm_repo.specs.Marks.{Marks}
+use Rattle.dm_repo.specs.MarkLists.{AreMarksOf}
 
 -- the context is held, and the marks say which held patches are common and which new ones are held
 pub record AreMarked (repo : List Patch) (b : Contents) (common held : List Bool) : Type 0 where
   pub knows : KnowsContext repo b
-  pub common_is : Marks common (infos_of repo) (Common repo b)
-  pub held_is : Marks held (infos_of b.patches) (Holds repo)
+  pub common_is : AreMarksOf common (infos_of repo) (Common repo b)
+  pub held_is : AreMarksOf held (infos_of b.patches) (Holds repo)
 
 -- the context isn't held; want of memory may come at any time
 abbrev pub RefusesContext : List Patch → Contents → Refusal → Type 0

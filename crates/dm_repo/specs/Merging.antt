@@ -11,17 +11,17 @@ pub data MergeRectangle {P : Type 0} (Square : P → P → P → P → Type 0) :
       MergeRectangle Square rest between new' rest' → MergeRectangle Square (r ∷ rest) new new' (r' ∷ rest')
 
 -- n is n' after rest: it is merged with each of rest, the first of them first
-abbrev pub Joins : {P : Type 0} → (P → P → P → P → Type 0) → List P → P → P → List P → Type 0
-Joins Square rest n n' rest' = MergeRectangle Square rest (n ∷ []) (n' ∷ []) rest'
+abbrev pub MergesPast : {P : Type 0} → (P → P → P → P → Type 0) → List P → P → P → List P → Type 0
+MergesPast Square rest n n' rest' = MergeRectangle Square rest (n ∷ []) (n' ∷ []) rest'
 
 -- n is merged with what stands before r, and then has no square with r
-pub record JoinStops {P : Type 0} (Square : P → P → P → P → Type 0) (rest : List P) (n r : P) : Type 0 where
+pub record MergePastStops {P : Type 0} (Square : P → P → P → P → Type 0) (rest : List P) (n r : P) : Type 0 where
   pub near : List P
   pub near' : List P
   pub far : List P
   pub n1 : P
   pub at : rest ≡ near ++ r ∷ far
-  pub joined : Joins Square near n n1 near'
+  pub joined : MergesPast Square near n n1 near'
   pub stuck : (n' r' : P) → Square r n1 n' r' → ⊥
 
 -- new is new' after rest
@@ -36,4 +36,4 @@ pub record MergeStops {P : Type 0} (Square : P → P → P → P → Type 0) (re
   pub rest1 : List P
   pub at : new ≡ before ++ n ∷ after
   pub so_far : MergeRectangle Square rest before before' rest1
-  pub stops : JoinStops Square rest1 n r
+  pub stops : MergePastStops Square rest1 n r

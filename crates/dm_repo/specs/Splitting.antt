@@ -7,11 +7,11 @@ use Rattle.dm_repo.specs.declared.refusal.Refusal.TheVariants.{MissingContext, C
 use Rattle.dm_repo.specs.Staircases.{Split, SplitStops}
 use Rattle.dm_repo.specs.Squares.{Placed, placed, PlacedCommutes}
 use Rattle.dm_repo.specs.CommonSets.{KnowsContext, First, LacksAt}
-use Rattle.dm_repo.specs.Rows.{AtPlaces}
+use Rattle.dm_repo.specs.Stops.{AtPlaces}
 use Rattle.dm_repo.specs.Weighing.{IsCommon}
 
 -- the context is held, and these are the common patches in front, and the rest
-pub record Parts (repo : List Patch) (b : Contents) (front rest : List Placed) : Type 0 where
+pub record SplitsInto (repo : List Patch) (b : Contents) (front rest : List Placed) : Type 0 where
   pub knows : KnowsContext repo b
   pub split : Split PlacedCommutes (IsCommon repo b) (placed repo) front rest
 

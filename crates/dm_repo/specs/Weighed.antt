@@ -6,19 +6,19 @@ use Rattle.dm_repo.specs.declared.refusal.Refusal.{Refusal}
 use Rattle.dm_repo.specs.declared.refusal.Refusal.TheVariants as refusals
 use Rattle.dm_repo.specs.declared.weighed.Weighed.{Weighed}
 use Rattle.dm_repo.specs.declared.weighed.Weighed.TheVariants.{NothingNew, Merged}
-use Rattle.dm_repo.specs.Repositories.{IsRepo, Makes}
+use Rattle.dm_repo.specs.Repositories.{IsRepo, IsTreeOf}
 use Rattle.dm_repo.specs.Marking.{AreMarked}
-use Rattle.dm_repo.specs.Weighing.{IsLinked, IsNothingNew, IsMergeOf}
+use Rattle.dm_repo.specs.Weighing.{HasPrerequisites, IsNothingNew, IsMergeOf}
 
 -- the bundle's names were looked up, and the marks say what was found
 pub record IsLookedUp (repo : List Patch) (b : Contents) (common held : List Bool) : Type 0 where
-  pub linked : IsLinked repo b
+  pub prerequisites : HasPrerequisites repo b
   pub marked : AreMarked repo b common held
 
 -- nothing is new, or these are the merged patches and the tree after them
 abbrev pub Weighs : {Z : Type 0} → List Patch → Contents → Weighed Z → Type 0
 Weighs repo b NothingNew = IsNothingNew repo b
-Weighs repo b (Merged m) = IsMergeOf repo b m.patches.items × Makes (repo ++ m.patches.items) m.tree
+Weighs repo b (Merged m) = IsMergeOf repo b m.patches.items × IsTreeOf (repo ++ m.patches.items) m.tree
 
 -- with the merged patches the repository is one again
 abbrev pub LeavesRepo : {Z : Type 0} → List Patch → Weighed Z → Type 0

@@ -1,7 +1,7 @@
 -- What weighing a bundle against a repository answers (`darcs apply --no-allow-conflicts`; the order of the refusals and the limits are
 -- this project's). Each step, and each refusal, holds what the steps before it found.
 use Rattle.std.specs.Prelude.{◌≡◌, ℕ, ◌+◌, ◌≤◌, ◌<◌, List, ◌∷◌, ◌++◌, length, ◌⊎◌}
-use Rattle.dm_prim.specs.Runs.{Runs}
+use Rattle.dm_prim.specs.InTurn.{InTurn}
 use Rattle.dm_prim.specs.Primitives.{LawfulMap}
 use Rattle.dm_named.specs.Patches.{Patch}
 use Rattle.dm_bundle.specs.Bundles.{Contents}
@@ -11,8 +11,8 @@ use Rattle.dm_repo.specs.declared.refusal.Refusal.TheVariants.{DoesNotFit, Confl
 use Rattle.dm_repo.specs.Staircases.{Split, SplitStops}
 use Rattle.dm_repo.specs.Merging.{Merge, MergeStops}
 use Rattle.dm_repo.specs.Squares.{Placed, placed, patches, PlacedCommutes, PlacedMerges}
-use Rattle.dm_repo.specs.Rows.{AtPlaces}
-use Rattle.dm_repo.specs.Folds.{GoesAll, Grows}
+use Rattle.dm_repo.specs.Stops.{AtPlaces}
+use Rattle.dm_repo.specs.Folds.{PatchLeadsShallowly, ShallowFold}
 use Rattle.dm_repo.specs.Repositories.{Holds}
 use Rattle.dm_repo.specs.CommonSets.{Common, KnowsContext, HasAll, HasDependencies, First, LacksAt, LacksFirst}
 
@@ -29,19 +29,19 @@ abbrev pub most_patches : ℕ
 most_patches = 100000
 
 -- the context is held, something is new, and no dependency is missing
-pub record IsLinked (repo : List Patch) (b : Contents) : Type 0 where
+pub record HasPrerequisites (repo : List Patch) (b : Contents) : Type 0 where
   pub knows : KnowsContext repo b
   pub is_new : HasAll repo b → ⊥
   pub has_dependencies : HasDependencies repo b
 
 -- and the repository is split: the common patches in front, and the rest, the others
-pub record IsParted (repo : List Patch) (b : Contents) (front rest : List Placed) : Type 0 where
-  pub linked : IsLinked repo b
+pub record IsRepoSplit (repo : List Patch) (b : Contents) (front rest : List Placed) : Type 0 where
+  pub prerequisites : HasPrerequisites repo b
   pub split : Split PlacedCommutes (IsCommon repo b) (placed repo) front rest
 
 -- and the bundle is split: the new patches that are held, and the others, which are to be merged
-pub record Chooses (repo : List Patch) (b : Contents) (front rest new : List Placed) : Type 0 where
-  pub parted : IsParted repo b front rest
+pub record IsBundleSplit (repo : List Patch) (b : Contents) (front rest new : List Placed) : Type 0 where
+  pub repo_split : IsRepoSplit repo b front rest
   pub held : List Placed
   pub split : Split PlacedCommutes (IsHeld repo) (placed b.patches) held new
 
@@ -51,28 +51,28 @@ pub record FitStops (s : LawfulMap) (xs : List Placed) (x : Placed) : Type 0 whe
   pub after : List Placed
   pub tree : LawfulMap
   pub at : xs ≡ before ++ x ∷ after
-  pub goes : Runs GoesAll (patches before) s tree
-  pub stops : (t : LawfulMap) → GoesAll x.1 tree t → ⊥
+  pub leads : InTurn PatchLeadsShallowly (patches before) s tree
+  pub stops : (t : LawfulMap) → PatchLeadsShallowly x.1 tree t → ⊥
 
 -- and the front makes a tree to which the patches to merge apply
 pub record Fits (repo : List Patch) (b : Contents) (rest new : List Placed) : Type 0 where
   pub front : List Placed
-  pub chooses : Chooses repo b front rest new
+  pub bundle_split : IsBundleSplit repo b front rest new
   pub base : LawfulMap
-  pub grows : Grows (patches front) base
+  pub folds : ShallowFold (patches front) base
   pub fitted : LawfulMap
-  pub goes : Runs GoesAll (patches new) base fitted
+  pub leads : InTurn PatchLeadsShallowly (patches new) base fitted
 
 -- the merged patches go nowhere from the repository's tree, or are too many
 abbrev pub IsFull : List Patch → List Placed → Type 0
 IsFull repo merged = (most_patches < length repo + length merged) ⊎
-    ((s t : LawfulMap) → Grows repo s → Runs GoesAll (patches merged) s t → ⊥)
+    ((s t : LawfulMap) → ShallowFold repo s → InTurn PatchLeadsShallowly (patches merged) s t → ⊥)
 
 -- the front goes nowhere from the root alone
 abbrev pub FrontIsFull : List Patch → Contents → Type 0
 FrontIsFull repo b =
     (front : List Placed) × (rest : List Placed) × (new : List Placed) ×
-    Chooses repo b front rest new × ((t : LawfulMap) → Grows (patches front) t → ⊥)
+    IsBundleSplit repo b front rest new × ((t : LawfulMap) → ShallowFold (patches front) t → ⊥)
 
 -- the bundle is merged, and then the repository is too full for it
 abbrev pub MergeIsFull : List Patch → Contents → Type 0
@@ -81,21 +81,21 @@ MergeIsFull repo b =
     Fits repo b rest new × Merge PlacedMerges rest new merged × IsFull repo merged
 
 -- when each refusal comes, in the order of the steps: the place or the pair is the first; want of memory may come at any time
-abbrev pub Refuses : List Patch → Contents → Refusal → Type 0
-Refuses repo b (MissingContext c) = First (LacksAt repo b.context) c
-Refuses repo b (MissingDependency n d) =
+abbrev pub RefusesBundle : List Patch → Contents → Refusal → Type 0
+RefusesBundle repo b (MissingContext c) = First (LacksAt repo b.context) c
+RefusesBundle repo b (MissingDependency n d) =
     KnowsContext repo b × (HasAll repo b → ⊥) × LacksFirst repo b n d
-Refuses repo b (ContextDepends h r) = IsLinked repo b × AtPlaces (SplitStops PlacedCommutes (IsCommon repo b) (placed repo)) h r
-Refuses repo b (HeldDepends h n) =
-    (front : List Placed) × (rest : List Placed) × IsParted repo b front rest ×
+RefusesBundle repo b (ContextDepends h r) = HasPrerequisites repo b × AtPlaces (SplitStops PlacedCommutes (IsCommon repo b) (placed repo)) h r
+RefusesBundle repo b (HeldDepends h n) =
+    (front : List Placed) × (rest : List Placed) × IsRepoSplit repo b front rest ×
     AtPlaces (SplitStops PlacedCommutes (IsHeld repo) (placed b.patches)) h n
-Refuses repo b (DoesNotFit n) =
-    (front : List Placed) × (rest : List Placed) × (new : List Placed) × Chooses repo b front rest new ×
-    ((base : LawfulMap) × (x : Placed) × (n ≡ x.0) × Grows (patches front) base × FitStops base new x)
-Refuses repo b (Conflicts n r) =
+RefusesBundle repo b (DoesNotFit n) =
+    (front : List Placed) × (rest : List Placed) × (new : List Placed) × IsBundleSplit repo b front rest new ×
+    ((base : LawfulMap) × (x : Placed) × (n ≡ x.0) × ShallowFold (patches front) base × FitStops base new x)
+RefusesBundle repo b (Conflicts n r) =
     (rest : List Placed) × (new : List Placed) × Fits repo b rest new × AtPlaces (MergeStops PlacedMerges rest new) n r
-Refuses repo b Full = FrontIsFull repo b ⊎ MergeIsFull repo b
-Refuses repo b NoMemory = Unit {0}
+RefusesBundle repo b Full = FrontIsFull repo b ⊎ MergeIsFull repo b
+RefusesBundle repo b NoMemory = Unit {0}
 
 -- there is nothing to do: the context and every new patch are held
 pub record IsNothingNew (repo : List Patch) (b : Contents) : Type 0 where
@@ -107,8 +107,8 @@ pub record Appends (repo new : List Patch) : Type 0 where
   pub few : length repo + length new ≤ most_patches
   pub tree : LawfulMap
   pub after : LawfulMap
-  pub grows : Grows repo tree
-  pub goes : Runs GoesAll new tree after
+  pub folds : ShallowFold repo tree
+  pub leads : InTurn PatchLeadsShallowly new tree after
 
 -- these are the bundle's patches, merged so that they apply after the repository
 pub record IsMergeOf (repo : List Patch) (b : Contents) (merged : List Patch) : Type 0 where

@@ -1,14 +1,17 @@
 //! Applying patches to a tree, up to the first that goes nowhere.
-ghost use Rattle.std.specs.Prelude.{IfOk, MatchBool, MatchResult};
+ghost use Rattle.std.specs.Prelude.{List, IfOk, MatchBool, MatchResult};
 ghost use Rattle.dm_prim.specs.Primitives.{LawfulMap};
 ghost use Rattle.dm_prim.specs.Prims.{prim_of};
-ghost use Rattle.dm_prim.specs.Runs.{Runs};
-ghost use Rattle.dm_repo.specs.Folds.{Goes, GoesAll};
-ghost use Rattle.dm_repo.specs.Squares.{patches};
+ghost use Rattle.dm_prim.specs.InTurn.{InTurn};
+ghost use Rattle.dm_named.specs.Patches.{Patch};
+ghost use Rattle.dm_bundle.specs.Bundles.{Contents};
+ghost use Rattle.dm_repo.specs.Folds.{LeadsShallowly, PatchLeadsShallowly};
+ghost use Rattle.dm_repo.specs.Squares.{Placed, patches};
 ghost use Rattle.dm_repo.specs.Repositories.{IsMapOf};
-ghost use Rattle.dm_repo.specs.Weighing.{FitStops};
-ghost use Rattle.dm_repo.specs.Rows.{StopsAt};
+ghost use Rattle.dm_repo.specs.Weighing.{FitStops, Fits, IsBundleSplit, RefusesBundle};
+ghost use Rattle.dm_repo.specs.Stops.{StopsAt};
 
+use crate::refusal::Refusal;
 use crate::stop::Stop;
 use dm_named::Named;
 use dm_prim::{Prim, apply};
@@ -17,13 +20,13 @@ use dm_tree::{Tree, TreeFault};
 use std::alloc::{AllocError, Allocator};
 
 /// Applies a primitive, and says whether it goes: else it doesn't apply, or makes a path that is too deep.
-fn goes<A: Allocator, B: Allocator + Copy>(
+fn apply_prim<A: Allocator, B: Allocator + Copy>(
     prim: &Prim<A>,
     tree: &mut Tree<B>,
 ) -> Result<bool, AllocError>
-    ensures { (s : LawfulMap) → IsMapOf tree.old s → IfOk result (λ goes. MatchBool goes
-        ((t : LawfulMap) × IsMapOf tree.new t × Goes (prim_of prim.now) s t)
-        ((t : LawfulMap) → Goes (prim_of prim.now) s t → ⊥)) }
+    ensures { (s : LawfulMap) → IsMapOf tree.old s → IfOk result (λ leads. MatchBool leads
+        ((t : LawfulMap) × IsMapOf tree.new t × LeadsShallowly (prim_of prim.now) s t)
+        ((t : LawfulMap) → LeadsShallowly (prim_of prim.now) s t → ⊥)) }
 {
     let answer = apply(prim, tree);
     tree_is_lawful(tree);
@@ -35,16 +38,16 @@ fn goes<A: Allocator, B: Allocator + Copy>(
 }
 
 /// Applies the primitives of a patch in turn, and says whether all go.
-pub(crate) fn goes_all<A: Allocator, B: Allocator + Copy>(
+pub(crate) fn apply_patch<A: Allocator, B: Allocator + Copy>(
     patch: &Named<A>,
     tree: &mut Tree<B>,
 ) -> Result<bool, AllocError>
-    ensures { (s : LawfulMap) → IsMapOf tree.old s → IfOk result (λ goes. MatchBool goes
-        ((t : LawfulMap) × IsMapOf tree.new t × GoesAll patch.now s t)
-        ((t : LawfulMap) → GoesAll patch.now s t → ⊥)) }
+    ensures { (s : LawfulMap) → IsMapOf tree.old s → IfOk result (λ leads. MatchBool leads
+        ((t : LawfulMap) × IsMapOf tree.new t × PatchLeadsShallowly patch.now s t)
+        ((t : LawfulMap) → PatchLeadsShallowly patch.now s t → ⊥)) }
 {
     for prim in patch.prims() {
-        if !goes(prim, tree)? {
+        if !apply_prim(prim, tree)? {
             return Ok(false);
         }
     }
@@ -57,13 +60,35 @@ pub(crate) fn fit<A: Allocator, B: Allocator + Copy>(
     tree: &mut Tree<B>,
 ) -> Result<(), Stop>
     ensures { (s : LawfulMap) → IsMapOf tree.old s → MatchResult result
-        (λ _. (t : LawfulMap) × IsMapOf tree.new t × Runs GoesAll (patches list.now) s t)
+        (λ _. (t : LawfulMap) × IsMapOf tree.new t × InTurn PatchLeadsShallowly (patches list.now) s t)
         (λ stop. StopsAt stop (FitStops s list.now)) }
 {
     for patch in list {
-        if !goes_all(&patch.1, tree)? {
+        if !apply_patch(&patch.1, tree)? {
             return Err(Stop::At(patch.0));
         }
     }
     Ok(())
+}
+
+/// Applies the front, and the patches to merge after it.
+pub(crate) fn check_fit<A: Allocator + Copy>(
+    alloc: A,
+    front: &[(usize, Named<A>)],
+    new: &[(usize, Named<A>)],
+) -> Result<(), Refusal>
+    ensures { (repo : List Patch) (b : Contents) (rest : List Placed) → IsBundleSplit repo b front.now rest new.now → MatchResult result
+        (λ _. Fits repo b rest new.now)
+        (λ why. RefusesBundle repo b why) }
+{
+    let mut tree = Tree::new(alloc);
+    tree_is_lawful(&tree);
+    match fit(front, &mut tree) {
+        Ok(()) => {}
+        Err(stop) => return Err(stop.full()),
+    }
+    match fit(new, &mut tree) {
+        Ok(()) => Ok(()),
+        Err(stop) => Err(stop.does_not_fit()),
+    }
 }

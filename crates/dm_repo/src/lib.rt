@@ -14,12 +14,13 @@
 mod dependencies;
 mod fit;
 pub mod laws;
+mod lookup;
 mod marks;
 mod merge;
 mod parted;
+mod passing;
 mod refusal;
 mod repo;
-mod row;
 mod square;
 mod stop;
 mod weighed;

@@ -1,8 +1,8 @@
 //! Which held patches are common to a repository and a bundle, and which new patches are held.
-ghost use Rattle.std.specs.Prelude.{◌≡◌, length, Contains, MatchResult};
+ghost use Rattle.std.specs.Prelude.{◌≡◌, ◌↔◌, true, length, All, Contains, IsTrue, MatchResult};
 ghost use Rattle.dm_bundle.specs.Patches.{infos_of, Distinct};
 ghost use Rattle.dm_repo.specs.CommonSets.{Closed, First, HoldsAll, KnowsContext, LacksAt};
-ghost use Rattle.dm_repo.specs.Marks.{Marks as MarksOf, MarksAlso};
+ghost use Rattle.dm_repo.specs.MarkLists.{AreMarksOf, AddsMarks};
 ghost use Rattle.dm_repo.specs.Marking.{AreMarked, RefusesContext};
 
 use crate::refusal::Refusal;
@@ -18,6 +18,13 @@ pub(crate) struct Marks<A: Allocator> {
     pub held: Vec<bool, A>,
 }
 
+/// Whether all marks are set.
+pub(crate) fn are_set(marks: &[bool]) -> bool
+    ensures { IsTrue result ↔ All (λ mark. mark ≡ true) marks.now }
+{
+    marks.iter().all(|mark| *mark)
+}
+
 /// Marks the patches of these names, or answers the place of the first that isn't held.
 fn mark<A: Allocator, B: Allocator>(
     repo: &Repo<A>,
@@ -27,7 +34,7 @@ fn mark<A: Allocator, B: Allocator>(
     requires marks { length marks.old ≡ length repo.now.patches }
     requires distinct { Distinct (infos_of repo.now.patches) }
     ensures { MatchResult result
-        (λ _. MarksAlso marks.old marks.new (infos_of repo.now.patches) infos.now × HoldsAll repo.now.patches infos.now)
+        (λ _. AddsMarks marks.old marks.new (infos_of repo.now.patches) infos.now × HoldsAll repo.now.patches infos.now)
         (λ c. First (LacksAt repo.now.patches infos.now) c) }
 {
     for c in 0..infos.len() {
@@ -46,7 +53,7 @@ fn context_marks<A: Allocator, B: Allocator + Copy>(
     bundle: &Bundle<B>,
 ) -> Result<Vec<bool, B>, Refusal>
     ensures { MatchResult result
-        (λ marks. KnowsContext repo.now.patches bundle.now × MarksOf marks.items (infos_of repo.now.patches) (Contains bundle.now.context))
+        (λ marks. KnowsContext repo.now.patches bundle.now × AreMarksOf marks.items (infos_of repo.now.patches) (Contains bundle.now.context))
         (λ why. RefusesContext repo.now.patches bundle.now why) }
 {
     let mut marks = vec![in alloc; false; repo.len()]?;
@@ -64,7 +71,7 @@ fn closed_marks<A: Allocator, B: Allocator + Copy>(
 ) -> Result<Vec<bool, B>, Refusal>
     ensures { MatchResult result
         (λ marks. KnowsContext repo.now.patches bundle.now ×
-        MarksOf marks.items (infos_of repo.now.patches) (Closed repo.now.patches bundle.now.context))
+        AreMarksOf marks.items (infos_of repo.now.patches) (Closed repo.now.patches bundle.now.context))
         (λ why. RefusesContext repo.now.patches bundle.now why) }
 {
     let mut marks = context_marks(alloc, repo, bundle)?;

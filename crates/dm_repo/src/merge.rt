@@ -1,17 +1,28 @@
 //! Merging patches that start where the rest of a repository does.
-ghost use Rattle.std.specs.Prelude.{◌≡◌, map, MatchResult};
+ghost use Rattle.std.specs.Prelude.{◌≡◌, ◌↔◌, ◌+◌, ◌<◌, ◌++◌, [], length, map, IfOk, IsTrue, MatchResult};
+ghost use Rattle.dm_bundle.specs.Bundles.{Contents};
 ghost use Rattle.dm_repo.specs.Merging.{MergeRectangle, MergeStops};
-ghost use Rattle.dm_repo.specs.Squares.{PlacedMerges, undone};
-ghost use Rattle.dm_repo.specs.Rows.{AtPlaces, BlockedBy};
+ghost use Rattle.dm_repo.specs.Squares.{PlacedMerges, patches, placed, undone};
+ghost use Rattle.dm_repo.specs.Repositories.{IsTreeOf};
+ghost use Rattle.dm_repo.specs.Weighing.{Appends, Fits, IsBundleSplit, IsFull, IsMergeOf, RefusesBundle, most_patches};
+ghost use Rattle.dm_repo.specs.Weighed.{FullFor};
+ghost use Rattle.dm_repo.specs.Stops.{AtPlaces, BlockedBy};
 
-use crate::row::join;
+use crate::fit::fit;
+use crate::passing::merge_past;
+use crate::refusal::Refusal;
+use crate::repo::Repo;
 use crate::stop::Blocked;
+use crate::weighed::Merged;
 use dm_named::Named;
 use dm_prim::invert_all;
-use std::alloc::Allocator;
+use std::alloc::{AllocError, Allocator};
+
+/// A repository holds at most so many patches.
+const MOST_PATCHES: usize = 100_000;
 
 /// Each patch gets the inverse of its primitives.
-pub(crate) fn undo_all<A: Allocator + Copy>(alloc: A, patches: &mut [(usize, Named<A>)])
+fn undo_all<A: Allocator + Copy>(alloc: A, patches: &mut [(usize, Named<A>)])
     ensures { patches.new ≡ map undone patches.old }
 {
     for k in 0..patches.len() {
@@ -22,7 +33,7 @@ pub(crate) fn undo_all<A: Allocator + Copy>(alloc: A, patches: &mut [(usize, Nam
 }
 
 /// Each of `new`, from left to right, is merged with all of `rest`, each of which is undone.
-pub(crate) fn merge_all<A: Allocator + Copy>(
+fn merge_all<A: Allocator + Copy>(
     alloc: A,
     rest: &mut [(usize, Named<A>)],
     new: &mut [(usize, Named<A>)],
@@ -34,10 +45,99 @@ pub(crate) fn merge_all<A: Allocator + Copy>(
     for k in 0..new.len() {
         let patch = &mut new[k];
         let place = patch.0;
-        match join(alloc, rest, patch) {
+        match merge_past(alloc, rest, patch) {
             Ok(()) => {}
             Err(stop) => return Err(stop.blocked(place)),
         }
     }
     Ok(())
+}
+
+/// Whether a repository of so many patches is too full for so many more.
+fn is_too_many(held: usize, more: usize) -> bool
+    ensures { IsTrue result ↔ (most_patches < held + more) }
+{
+    if held > MOST_PATCHES {
+        return true;
+    }
+    more > MOST_PATCHES - held
+}
+
+/// The patches without their places.
+fn without_places<A: Allocator + Copy>(
+    alloc: A,
+    placed: Vec<(usize, Named<A>), A>,
+) -> Result<Vec<Named<A>, A>, AllocError>
+    ensures { IfOk result (λ list. list.items ≡ patches placed.items) }
+{
+    let mut list = Vec::with_capacity(alloc, placed.len())?;
+    for (_, patch) in placed {
+        list.push(patch)?;
+    }
+    Ok(list)
+}
+
+/// Applies the merged patches to the repository's tree.
+fn append<A: Allocator, B: Allocator + Copy>(
+    alloc: B,
+    repo: &Repo<A>,
+    merged: Vec<(usize, Named<B>), B>,
+) -> Result<Merged<B>, Refusal>
+    ensures { MatchResult result
+        (λ m. (m.patches.items ≡ patches merged.items) × Appends repo.now.patches m.patches.items ×
+        IsTreeOf (repo.now.patches ++ m.patches.items) m.tree)
+        (λ why. FullFor why (IsFull repo.now.patches merged.items)) }
+{
+    if is_too_many(repo.len(), merged.len()) {
+        return Err(Refusal::Full);
+    }
+    let mut tree = repo.tree_copy(alloc)?;
+    match fit(&merged, &mut tree) {
+        Ok(()) => {}
+        Err(stop) => return Err(stop.full()),
+    }
+    let patches = without_places(alloc, merged)?;
+    Ok(Merged { patches, tree })
+}
+
+/// Merges the patches that fit with the rest of the repository.
+pub(crate) fn merge<A: Allocator, B: Allocator + Copy>(
+    alloc: B,
+    repo: &Repo<A>,
+    rest: Vec<(usize, Named<B>), B>,
+    new: Vec<(usize, Named<B>), B>,
+) -> Result<Merged<B>, Refusal>
+    ensures { (b : Contents) → Fits repo.now.patches b rest.items new.items → MatchResult result
+        (λ m. IsMergeOf repo.now.patches b m.patches.items × IsTreeOf (repo.now.patches ++ m.patches.items) m.tree)
+        (λ why. RefusesBundle repo.now.patches b why) }
+{
+    let mut rest = rest;
+    let mut new = new;
+    undo_all(alloc, rest.as_mut_slice());
+    match merge_all(alloc, rest.as_mut_slice(), new.as_mut_slice()) {
+        Ok(()) => append(alloc, repo, new),
+        Err(blocked) => Err(blocked.conflicts()),
+    }
+}
+
+/// Applies the patches to merge to the tree of a repository that is common as a whole: nothing stands in their way.
+pub(crate) fn append_to_whole<A: Allocator, B: Allocator + Copy>(
+    alloc: B,
+    repo: &Repo<A>,
+    new: Vec<(usize, Named<B>), B>,
+) -> Result<Merged<B>, Refusal>
+    ensures { (b : Contents) → IsBundleSplit repo.now.patches b (placed repo.now.patches) [] new.items → MatchResult result
+        (λ m. IsMergeOf repo.now.patches b m.patches.items × IsTreeOf (repo.now.patches ++ m.patches.items) m.tree)
+        (λ why. RefusesBundle repo.now.patches b why) }
+{
+    let mut tree = repo.tree_copy(alloc)?;
+    match fit(&new, &mut tree) {
+        Ok(()) => {}
+        Err(stop) => return Err(stop.does_not_fit()),
+    }
+    if is_too_many(repo.len(), new.len()) {
+        return Err(Refusal::Full);
+    }
+    let patches = without_places(alloc, new)?;
+    Ok(Merged { patches, tree })
 }

@@ -5,19 +5,20 @@ ghost use Rattle.dm_named.specs.Patches.{Patch};
 ghost use Rattle.dm_bundle.specs.Patches.{infos_of};
 ghost use Rattle.dm_bundle.specs.Bundles.{Contents};
 ghost use Rattle.dm_repo.specs.Staircases.{Split, SplitStops};
-ghost use Rattle.dm_repo.specs.Squares.{patches, placed, PlacedCommutes};
+ghost use Rattle.dm_repo.specs.Squares.{Placed, patches, placed, PlacedCommutes};
 ghost use Rattle.dm_repo.specs.Folds.{Fold};
 ghost use Rattle.dm_repo.specs.Repositories.{Holds};
 ghost use Rattle.dm_repo.specs.CommonSets.{Common};
-ghost use Rattle.dm_repo.specs.Marks.{Marks as MarksOf};
-ghost use Rattle.dm_repo.specs.Weighing.{IsCommon, IsHeld};
-ghost use Rattle.dm_repo.specs.Splitting.{Parts, RefusesToSplit};
-ghost use Rattle.dm_repo.specs.Rows.{AtPlaces, BlockedBy, IsMarked};
+ghost use Rattle.dm_repo.specs.MarkLists.{AreMarksOf};
+ghost use Rattle.dm_repo.specs.Weighing.{IsBundleSplit, IsCommon, IsHeld, IsRepoSplit, RefusesBundle};
+ghost use Rattle.dm_repo.specs.Weighed.{IsLookedUp};
+ghost use Rattle.dm_repo.specs.Splitting.{SplitsInto, RefusesToSplit};
+ghost use Rattle.dm_repo.specs.Stops.{AtPlaces, BlockedBy, IsMarked};
 
-use crate::marks::common_marks;
+use crate::marks::{Marks, common_marks};
 use crate::refusal::Refusal;
 use crate::repo::{Repo, copy_patches};
-use crate::row::pass;
+use crate::passing::pass;
 use crate::stop::Blocked;
 use dm_bundle::Bundle;
 use dm_named::Named;
@@ -61,13 +62,13 @@ fn split_by<A: Allocator + Copy>(
 }
 
 /// Splits the repository, whose patches are copied: the common ones in front.
-pub(crate) fn split_repo<A: Allocator, B: Allocator + Copy>(
+fn split_repo<A: Allocator, B: Allocator + Copy>(
     alloc: B,
     repo: &Repo<A>,
     common: &[bool],
 ) -> Result<Parted<B>, Blocked>
     requires { length common.now ≡ length repo.now.patches }
-    ensures { (b : Contents) → MarksOf common.now (infos_of repo.now.patches) (Common repo.now.patches b) → MatchResult result
+    ensures { (b : Contents) → AreMarksOf common.now (infos_of repo.now.patches) (Common repo.now.patches b) → MatchResult result
         (λ p. Split PlacedCommutes (IsCommon repo.now.patches b) (placed repo.now.patches) p.front.items p.rest.items)
         (λ w. BlockedBy w (AtPlaces (SplitStops PlacedCommutes (IsCommon repo.now.patches b) (placed repo.now.patches)))) }
 {
@@ -76,17 +77,52 @@ pub(crate) fn split_repo<A: Allocator, B: Allocator + Copy>(
 }
 
 /// Splits the new patches of a bundle: those that are held in front.
-pub(crate) fn split_new<A: Allocator + Copy>(
+fn split_new<A: Allocator + Copy>(
     alloc: A,
     new: Vec<Named<A>, A>,
     held: &[bool],
 ) -> Result<Parted<A>, Blocked>
     requires { length held.now ≡ length new.items }
-    ensures { (repo : List Patch) → MarksOf held.now (infos_of new.items) (Holds repo) → MatchResult result
+    ensures { (repo : List Patch) → AreMarksOf held.now (infos_of new.items) (Holds repo) → MatchResult result
         (λ p. Split PlacedCommutes (IsHeld repo) (placed new.items) p.front.items p.rest.items)
         (λ w. BlockedBy w (AtPlaces (SplitStops PlacedCommutes (IsHeld repo) (placed new.items)))) }
 {
     split_by(alloc, new, held)
+}
+
+/// Splits a repository by the marks of a bundle that was looked up: the common patches in front.
+pub(crate) fn split_common<A: Allocator, B: Allocator + Copy>(
+    alloc: B,
+    repo: &Repo<A>,
+    marks: &Marks<B>,
+) -> Result<Parted<B>, Refusal>
+    requires { length marks.now.common.items ≡ length repo.now.patches }
+    ensures { (b : Contents) → IsLookedUp repo.now.patches b marks.now.common.items marks.now.held.items → MatchResult result
+        (λ parted. IsRepoSplit repo.now.patches b parted.front.items parted.rest.items)
+        (λ why. RefusesBundle repo.now.patches b why) }
+{
+    match split_repo(alloc, repo, &marks.common) {
+        Ok(parted) => Ok(parted),
+        Err(blocked) => Err(blocked.context_depends()),
+    }
+}
+
+/// Splits the new patches of a bundle that was looked up: what is answered are those to merge.
+pub(crate) fn split_held<A: Allocator + Copy>(
+    alloc: A,
+    new: Vec<Named<A>, A>,
+    marks: &Marks<A>,
+) -> Result<Vec<(usize, Named<A>), A>, Refusal>
+    requires { length marks.now.held.items ≡ length new.items }
+    ensures { (repo : List Patch) (b : Contents) (front rest : List Placed) → b.patches ≡ new.items →
+        IsLookedUp repo b marks.now.common.items marks.now.held.items → IsRepoSplit repo b front rest → MatchResult result
+        (λ chosen. IsBundleSplit repo b front rest chosen.items)
+        (λ why. RefusesBundle repo b why) }
+{
+    match split_new(alloc, new, &marks.held) {
+        Ok(parted) => Ok(parted.rest),
+        Err(blocked) => Err(blocked.held_depends()),
+    }
 }
 
 /// Splits a repository by a bundle: the common patches, moved to the front, and the rest.
@@ -98,15 +134,12 @@ pub fn split<A: Allocator, B: Allocator + Copy>(
     repo: &Repo<A>,
     bundle: &Bundle<B>,
 ) -> Result<Parted<B>, Refusal>
-    ensures parts { IfOk result (λ parted. Parts repo.now.patches bundle.now parted.front.items parted.rest.items) }
+    ensures parts { IfOk result (λ parted. SplitsInto repo.now.patches bundle.now parted.front.items parted.rest.items) }
     ensures folds { IfOk result (λ parted. (t : LawfulMap) →
         Fold repo.now.patches t ↔ Fold (patches parted.front.items ++ patches parted.rest.items) t) }
     ensures refusal { IfErr result (RefusesToSplit repo.now.patches bundle.now) }
 {
-    let marks = match common_marks(alloc, repo, bundle) {
-        Ok(marks) => marks,
-        Err(why) => return Err(why),
-    };
+    let marks = common_marks(alloc, repo, bundle)?;
     match split_repo(alloc, repo, &marks.common) {
         Ok(parted) => Ok(parted),
         Err(blocked) => Err(blocked.context_depends()),

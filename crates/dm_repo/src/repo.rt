@@ -1,9 +1,9 @@
 //! A repository: its patches, oldest first.
 ghost use Rattle.std.specs.Prelude.{◌≡◌, ◌<◌, ◌≤◌, [], ◌++◌, length, IfOk, slice_get, Some, MatchOption};
 ghost use Rattle.dm_bundle.specs.Patches.{infos_of};
-ghost use Rattle.dm_repo.specs.Repositories.{Holds, IsRepo, Makes};
+ghost use Rattle.dm_repo.specs.Repositories.{Holds, IsRepo, IsTreeOf};
 
-use crate::fit::goes_all;
+use crate::fit::apply_patch;
 use crate::weighed::Merged;
 use dm_bundle::Bundle;
 use dm_info::Info;
@@ -91,12 +91,12 @@ impl<A: Allocator> Repo<A> {
 
     /// The tree that the patches make, folded anew from the root alone.
     pub fn tree_copy<B: Allocator + Copy>(&self, alloc: B) -> Result<Tree<B>, AllocError>
-        ensures { IfOk result (Makes self.now.patches) }
+        ensures { IfOk result (IsTreeOf self.now.patches) }
     {
         let mut tree = Tree::new(alloc);
         tree_is_lawful(&tree);
         for patch in self.patches() {
-            if !goes_all(patch, &mut tree)? {
+            if !apply_patch(patch, &mut tree)? {
                 unreachable!();
             }
         }
@@ -143,7 +143,7 @@ impl<A: Allocator> Repo<A> {
 }
 
 impl<A: Allocator + Copy> Repo<A> {
-    /// Makes the room for the merged patches, and copies them. The repository reads as before.
+    /// IsTreeOf the room for the merged patches, and copies them. The repository reads as before.
     ///
     /// `merged` was weighed against this repository as it stands.
     pub fn prepare<B: Allocator>(&mut self, merged: &Merged<B>) -> Result<Ready<A>, AllocError>

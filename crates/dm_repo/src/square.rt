@@ -43,10 +43,10 @@ pub(crate) fn commute_square<A: Allocator + Copy>(
         (NamedCommutes x.old y.old y.new x.new)
         ((y' x' : Patch) → NamedCommutes x.old y.old y' x' → ⊥)) }
 {
-    if y.names(x.info()) {
+    if y.depends_on(x.info()) {
         return Ok(false);
     }
-    if x.names(y.info()) {
+    if x.depends_on(y.info()) {
         return Ok(false);
     }
     let commutes = commute_prims(alloc, x, y)?;

@@ -1,6 +1,6 @@
 //! Why rows of squares end early.
 ghost use Rattle.std.specs.Prelude.{◌≡◌};
-ghost use Rattle.dm_repo.specs.Rows.{blocked_at, refusal_of, refusal_between};
+ghost use Rattle.dm_repo.specs.Stops.{blocked_at, refusal_of, refusal_between};
 ghost use Rattle.dm_repo.specs.declared.refusal.Refusal.TheVariants.{ContextDepends, HeldDepends, DoesNotFit, Conflicts, Full};
 ghost use Rattle.dm_repo.specs.declared.stop.Stop.TheVariants as stops;
 ghost use Rattle.dm_repo.specs.declared.stop.Blocked.TheVariants as blocks;

@@ -7,7 +7,7 @@ use Rattle.dm_bundle.specs.Patches.{AreFew}
 use Rattle.dm_bundle.specs.Bundles.{Contents, BundleText}
 use Rattle.dm_bundle.specs.Faults.{FaultAt}
 use Rattle.dm_repo.specs.declared.refusal.Refusal.TheVariants.{NoMemory}
-use Rattle.dm_repo.specs.Weighing.{IsNothingNew, IsMergeOf, Refuses}
+use Rattle.dm_repo.specs.Weighing.{IsNothingNew, IsMergeOf, RefusesBundle}
 use Rattle.dm_scratch.specs.declared.verdict.Verdict.{Verdict}
 use Rattle.dm_scratch.specs.declared.verdict.Verdict.TheVariants.{Taken, NothingNew, Malformed, Refused}
 
@@ -28,7 +28,7 @@ pub record Appended (repo : List Patch) (b : Contents) (count : ℕ) (after : Li
 abbrev pub TakesBundle : List Patch → Contents → Verdict → List Patch → Type 0
 TakesBundle repo b (Taken count) after = Appended repo b count after
 TakesBundle repo b NothingNew after = IsNothingNew repo b × (after ≡ repo)
-TakesBundle repo b (Refused why) after = Refuses repo b why × (after ≡ repo)
+TakesBundle repo b (Refused why) after = RefusesBundle repo b why × (after ≡ repo)
 TakesBundle repo b (Malformed fault) after = ⊥
 
 -- What taking a text does: its bundle is taken; or it has a fault, or memory is wanting, and the repository stays as it was.

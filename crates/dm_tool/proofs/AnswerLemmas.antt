@@ -3,7 +3,7 @@ use Rattle.std.proofs.Common.{◌≡◌, ◌≢◌, ◌⊎◌, ℕ, Bool, true, 
 use Rattle.dm_tree.specs.Trees.{Tree}
 use Rattle.dm_named.specs.Patches.{Patch}
 use Rattle.dm_repo.specs.declared.refusal.Refusal.TheVariants as refusals
-use Rattle.dm_repo.specs.Repositories.{Makes}
+use Rattle.dm_repo.specs.Repositories.{IsTreeOf}
 use Rattle.dm_scratch.specs.declared.verdict.Verdict.{Verdict}
 use Rattle.dm_scratch.specs.declared.verdict.Verdict.TheVariants.{Taken, NothingNew, Malformed, Refused}
 use Rattle.dm_scratch.specs.Taking.{Takes, bundle, malformed, no_memory, IsAccepted}
@@ -29,6 +29,6 @@ pub refuses_base : (text : List ℕ) (v : Verdict) (after : List Patch) (e : Too
 refuses_base text v after e refused t (inl x) = rw x.1 tt
 refuses_base text v after e refused t (inr x) = rw x.1 (refused, x.0, subst (Takes [] text v) (refused_keeps [] text v after refused t) t)
 
-pub prints_listing : (as_bundle : Bool) (v : Verdict) (repo : List Patch) (tree : Tree) (out : List ℕ) → as_bundle ≡ false → Makes repo tree →
+pub prints_listing : (as_bundle : Bool) (v : Verdict) (repo : List Patch) (tree : Tree) (out : List ℕ) → as_bundle ≡ false → IsTreeOf repo tree →
     out ≡ line_of (verdict_text v) ++ listing_text tree → Prints as_bundle v repo out
 prints_listing as_bundle v repo tree out e makes is = rw e (record { shown = listing_text tree; shows = (tree, makes, refl); bytes = is })

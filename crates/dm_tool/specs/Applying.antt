@@ -4,7 +4,7 @@ use Rattle.dm_tree.specs.Trees.{Tree}
 use Rattle.dm_named.specs.Patches.{Patch}
 use Rattle.dm_bundle.specs.Canonical.{bundle_text}
 use Rattle.dm_repo.specs.declared.refusal.Refusal.TheVariants as refusals
-use Rattle.dm_repo.specs.Repositories.{Makes}
+use Rattle.dm_repo.specs.Repositories.{IsTreeOf}
 use Rattle.dm_scratch.specs.declared.verdict.Verdict.{Verdict}
 use Rattle.dm_scratch.specs.declared.verdict.Verdict.TheVariants.{Refused}
 use Rattle.dm_scratch.specs.Taking.{Takes, IsAccepted}
@@ -28,7 +28,7 @@ RefusesBase text other = ⊥
 -- what is shown of a repository: its canonical bundle with an empty context, or the listing of its tree
 abbrev pub Shows : Bool → List Patch → List ℕ → Type 0
 Shows true repo shown = shown ≡ bundle_text (record { patches = repo; context = [] })
-Shows false repo shown = (tree : Tree) × Makes repo tree × (shown ≡ listing_text tree)
+Shows false repo shown = (tree : Tree) × IsTreeOf repo tree × (shown ≡ listing_text tree)
 
 -- these bytes are the line of the verdict, and what is shown of the repository
 pub record Prints (as_bundle : Bool) (verdict : Verdict) (repo : List Patch) (out : List ℕ) : Type 0 where

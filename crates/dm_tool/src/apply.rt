@@ -7,7 +7,7 @@ ghost use Rattle.dm_tool.specs.Streams.{Gives};
 ghost use Rattle.dm_tool.specs.Applying.{Answers, IsBase, RefusesBase};
 
 use crate::fault::ToolFault;
-use crate::print::print_taken;
+use crate::print::answer_text;
 use crate::status::status_of;
 use crate::streams::{read_text, write_text};
 use bumpalo::Bump;
@@ -62,7 +62,7 @@ pub fn apply_over<R: Read, W: Write>(
     let mut repo = repo_of(alloc, &mut arena, base)?;
     let bundle = read_text(alloc, reader)?;
     let verdict = take(&mut repo, &mut arena, &bundle);
-    let text = print_taken(alloc, verdict, &repo, as_bundle)?;
+    let text = answer_text(alloc, verdict, &repo, as_bundle)?;
     write_text(&text, writer)?;
     Ok(status_of(verdict))
 }

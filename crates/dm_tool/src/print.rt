@@ -53,7 +53,7 @@ pub fn push_listing(tree: &Tree<Global>, out: &mut Vec<u8>) -> Result<(), AllocE
 
 /// What is printed for a verdict: its line; then the canonical bundle of the repository with an empty context, or the listing
 /// of its tree.
-pub fn print_taken(
+pub fn answer_text(
     alloc: Global,
     verdict: Verdict,
     repo: &Repo<Global>,

@@ -9,7 +9,7 @@ use Rattle.std.specs.Cmp.Lexicographic.{nat_list_cmp_total}
 use Rattle.std.specs.FinMap.{find, slice_cmp-IsAntisymmetric, nat_cmp-IsAntisymmetric}
 use Rattle.dm_tree.specs.Paths.{Name, Path, Under}
 use Rattle.dm_tree.specs.Trees.{Entry, name_cmp, path_cmp}
-use Rattle.dm_tree.specs.Children.{Rows, Child, below, all, flatten, look, AllAbove, IsRising, IsAt, IsGap}
+use Rattle.dm_tree.specs.Children.{PathEntries, Child, below, all, flatten, look, AllAbove, IsRising, IsAt, IsGap}
 use Rattle.dm_tree.specs.Walks.{Grafts, SetsAt}
 
 pub same_name : (m n : Name) → name_cmp m n ≡ Equal → m ≡ n
@@ -49,7 +49,7 @@ or_else-cond : (b : Bool) (x y : Option Entry) (e : Entry) → or_else (cond b (
 or_else-cond true x y e = refl
 or_else-cond false x y e = refl
 
-find-append : (q : Path) (xs ys : Rows) → find path_cmp q (xs ++ ys) ≡ or_else (find path_cmp q xs) (find path_cmp q ys)
+find-append : (q : Path) (xs ys : PathEntries) → find path_cmp q (xs ++ ys) ≡ or_else (find path_cmp q xs) (find path_cmp q ys)
 find-append q [] ys = refl
 find-append q (x ∷ xs) ys = ap (cond (eq_by_cmp path_cmp q x.0) (Some x.1)) (find-append q xs ys) ∙ sym (or_else-cond (eq_by_cmp path_cmp q x.0) (find path_cmp q xs) (find path_cmp q ys) x.1)
 
@@ -58,7 +58,7 @@ either true x = refl
 either false x = refl
 
 -- a path that begins with the name is found among the child's rows
-find-below : (m n : Name) (q : Path) (rs : Rows) → find path_cmp (m ∷ q) (below n rs) ≡ cond (is_eq (name_cmp m n)) (find path_cmp q rs) None
+find-below : (m n : Name) (q : Path) (rs : PathEntries) → find path_cmp (m ∷ q) (below n rs) ≡ cond (is_eq (name_cmp m n)) (find path_cmp q rs) None
 find-below m n q [] = either (is_eq (name_cmp m n)) None
 find-below m n q (r ∷ rs) =
     ap (cond (is_eq (ordering_then (name_cmp m n) (path_cmp q r.0))) (Some r.1)) (find-below m n q rs)
@@ -96,7 +96,7 @@ pub find-flatten_root : (ks : List Child) → find path_cmp [] (flatten ks) ≡ 
 find-flatten_root [] = refl
 find-flatten_root (k ∷ ks) = find-append [] (below k.name (all k)) (flatten ks) ∙ ap (λ x. or_else x (find path_cmp [] (flatten ks))) (root_below k.name (all k)) ∙ find-flatten_root ks
   where
-    root_below : (n : Name) (rs : Rows) → find path_cmp [] (below n rs) ≡ None
+    root_below : (n : Name) (rs : PathEntries) → find path_cmp [] (below n rs) ≡ None
     root_below n [] = refl
     root_below n (r ∷ rs) = root_below n rs
 

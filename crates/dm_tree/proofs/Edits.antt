@@ -8,7 +8,7 @@ use Rattle.dm_tree.specs.Paths.{Name, Path}
 use Rattle.dm_tree.specs.declared.fault.TreeFault.{TreeFault}
 use Rattle.dm_tree.specs.declared.fault.TreeFault.TheVariants.{NoParent, Occupied, Missing, NotFile, NotDir, NotEmpty, IntoItself, LineRange, OldDiffers, NoLines, TooDeep, NoMemory}
 use Rattle.dm_tree.specs.Trees.{Lines, Dir, File, Map, path_cmp}
-use Rattle.dm_tree.specs.Changes.{Edits, EditsFile}
+use Rattle.dm_tree.specs.Changes.{ReplacesLines, EditAnswers}
 use Rattle.dm_tree.specs.Children.{Child, IsRising, IsAt, IsTree, look}
 use Rattle.dm_tree.specs.Walks.{SetsAt, RefusesEdit, CanSplice, spliced}
 use Rattle.dm_tree.proofs.Trees.{cases_at}
@@ -55,7 +55,7 @@ module _ (ls : Lines) (n : ℕ) (old new : Lines) (some : 0 < n) (within : n - 1
   whole r e = sym (take-append-drop (n - 1) ls) ∙ ap (λ x. take (n - 1) ls ++ x) e
 
   -- the lines can be replaced, where one is left
-  pub edits_by : Stand n old ls → (length old ≡ length ls → 0 < length new) → (ls' : Lines) × Edits n old new ls ls'
+  pub edits_by : Stand n old ls → (length old ≡ length ls → 0 < length new) → (ls' : Lines) × ReplacesLines n old new ls ls'
   edits_by (r, e) left = (take (n - 1) ls ++ (new ++ r), record { front = take (n - 1) ls; back = r; at = omega (arith, front_length); before = whole r e; after = refl; left = not_all })
     where
       not_all : take (n - 1) ls ++ (new ++ r) ≢ []
@@ -88,7 +88,7 @@ pub some_lines : (x : Lines) → x ≢ [] → 0 < length x
 some_lines [] h = absurd (h refl)
 some_lines (y ∷ x) h = omega arith
 
-module _ (ls ls' : Lines) (n : ℕ) (old new : Lines) (e : Edits n old new ls ls') where
+module _ (ls ls' : Lines) (n : ℕ) (old new : Lines) (e : ReplacesLines n old new ls ls') where
   -- a replacement is a splice
   pub edits_splice : splice ls (n - 1) (n - 1 + length old) new ≡ ls'
   edits_splice =
@@ -137,7 +137,7 @@ module _ (ks new : List Child) (p : Path) (ls ls' : Lines) (s : SetsAt (look ks)
 
 module _ (m : Map) (p : Path) (n : ℕ) (old new ls : Lines) (file : m p ≡ Some (File ls)) where
   -- why the lines of the file may not be edited
-  pub edit_refused : (e : TreeFault) → RefusesEdit ls n old new (Some e) → EditsFile {T = Unit {0}} m p n old new (Err e)
+  pub edit_refused : (e : TreeFault) → RefusesEdit ls n old new (Some e) → EditAnswers {T = Unit {0}} m p n old new (Err e)
   edit_refused LineRange h = (ls, file, h)
   edit_refused OldDiffers h = (ls, file, h.0, h.1)
   edit_refused NoLines h = (ls, file, h.0, h.1, h.2)

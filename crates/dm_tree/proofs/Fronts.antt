@@ -3,8 +3,8 @@ use Rattle.std.proofs.Common.{◌≡◌, ℕ, ◌+◌, ◌-◌, ◌<◌, ◌≤�
 use Rattle.std.proofs.lemmas.List.{take_all, take_rest}
 use Rattle.std.proofs.lemmas.List.Prefix.{front_rest}
 use Rattle.dm_tree.specs.Paths.{Path, Under, Inside, forward}
-use Rattle.dm_tree.specs.Parts.{IsGoodPath}
-use Rattle.dm_tree.proofs.Parts.{good_moved}
+use Rattle.dm_tree.specs.Validity.{IsGoodPath}
+use Rattle.dm_tree.proofs.ValidityLemmas.{good_moved}
 use Rattle.dm_tree.proofs.Paths.{forward-under}
 
 pub refuted : {P : Type 0} → (IsTrue false ↔ P) → P → ⊥

@@ -4,12 +4,12 @@ pub mod Edits
 pub mod Fronts
 pub mod Listings
 pub mod Moved
-pub mod Parts
+pub mod ValidityLemmas
 pub mod Paths
 pub mod Removes
 pub mod Renames
 pub mod Search
-pub mod Shifts
+pub mod MoveLemmas
 pub mod Sorted
 pub mod Steps
 pub mod Trees

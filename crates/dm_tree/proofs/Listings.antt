@@ -3,15 +3,15 @@ use Rattle.std.proofs.Common.{◌≡◌, ℕ, zero, suc, ◌+◌, ◌<◌, ◌�
 use Rattle.std.specs.Ordering.{eq_by_cmp}
 use Rattle.std.specs.FinMap.{find, entries, from_sorted, entries-from_sorted, get-from_sorted, get-from_entries, same_map}
 use Rattle.dm_tree.specs.Paths.{Name, Path}
-use Rattle.dm_tree.specs.Parts.{IsGoodPath}
+use Rattle.dm_tree.specs.Validity.{IsGoodPath}
 use Rattle.dm_tree.specs.Trees.{Entry, Dir, path_cmp}
-use Rattle.dm_tree.specs.Listings.{kind_of, row_of}
-use Rattle.dm_tree.specs.Children.{Rows, Child, IsTree, below, all, flatten, look}
+use Rattle.dm_tree.specs.Listings.{kind_of, listed_entry}
+use Rattle.dm_tree.specs.Children.{PathEntries, Child, IsTree, below, all, flatten, look}
 use Rattle.dm_tree.specs.Walks.{listed, AreGood, Later, InOrder}
 use Rattle.dm_tree.specs.declared.listing.Kind.TheVariants as kind
 use Rattle.dm_tree.specs.declared.listing.Listed.{Listed}
 use Rattle.dm_tree.proofs.Children.{find-flatten_root}
-use Rattle.dm_tree.proofs.Shifts.{self_equal}
+use Rattle.dm_tree.proofs.MoveLemmas.{self_equal}
 use Rattle.dm_tree.proofs.Sorted.{AllSorted, Later-append, sorted_test}
 use Rattle.dm_tree.proofs.Steps.{not_none}
 use Rattle.dm_tree.proofs.Trees.{path_total, path_same, tree_of}
@@ -20,11 +20,11 @@ pub if_ok : {T E : Type 0} (r : Result T E) (P Q : T → Type 0) → ((x : T) �
 if_ok (Ok x) P Q f h = f x h
 if_ok (Err e) P Q f h = h
 
-good_left : (above : Path) (xs ys : Rows) → AreGood above (xs ++ ys) → AreGood above xs
+good_left : (above : Path) (xs ys : PathEntries) → AreGood above (xs ++ ys) → AreGood above xs
 good_left above [] ys g = tt
 good_left above (x ∷ xs) ys g = (g.0, good_left above xs ys g.1)
 
-good_right : (above : Path) (xs ys : Rows) → AreGood above (xs ++ ys) → AreGood above ys
+good_right : (above : Path) (xs ys : PathEntries) → AreGood above (xs ++ ys) → AreGood above ys
 good_right above [] ys g = g
 good_right above (x ∷ xs) ys g = good_right above xs ys g.1
 
@@ -33,7 +33,7 @@ good_at above [] i d lt g = absurd (omega arith)
 good_at above (k ∷ ks) zero d lt g = good_left above (below k.name (all k)) (flatten ks) g
 good_at above (k ∷ ks) (suc i) d lt g = good_at above ks i d (omega arith) (good_right above (below k.name (all k)) (flatten ks) g)
 
-pub good_below : (above : Path) (n : Name) (rs : Rows) → AreGood above (below n rs) → AreGood (above ++ n ∷ []) rs
+pub good_below : (above : Path) (n : Name) (rs : PathEntries) → AreGood above (below n rs) → AreGood (above ++ n ∷ []) rs
 good_below above n [] g = tt
 good_below above n (r ∷ rs) g = (subst IsGoodPath (sym (append_assoc above (n ∷ []) r.0)) g.0, good_below above n rs g.1)
 
@@ -43,17 +43,17 @@ flatten_take (k ∷ ks) zero d lt = append-nil (below k.name (all k))
 flatten_take (k ∷ ks) (suc i) d lt = ap (λ l. below k.name (all k) ++ l) (flatten_take ks i d (omega arith)) ∙ sym (append_assoc (below k.name (all k)) (flatten (take i ks)) (below (get_or ks i d).name (all (get_or ks i d))))
 
 module _ {A : Type 0} where
-  listed_append : (above : Path) (xs ys : Rows) → listed {A = A} above (xs ++ ys) ≡ listed above xs ++ listed above ys
+  listed_append : (above : Path) (xs ys : PathEntries) → listed {A = A} above (xs ++ ys) ≡ listed above xs ++ listed above ys
   listed_append above [] ys = refl
   listed_append above (x ∷ xs) ys = ap (λ l. record { path = above ++ x.0; kind = kind_of x.1 } ∷ l) (listed_append above xs ys)
 
-  listed_below : (above : Path) (n : Name) (rs : Rows) → listed {A = A} (above ++ n ∷ []) rs ≡ listed above (below n rs)
+  listed_below : (above : Path) (n : Name) (rs : PathEntries) → listed {A = A} (above ++ n ∷ []) rs ≡ listed above (below n rs)
   listed_below above n [] = refl
   listed_below above n (r ∷ rs) = ap (λ p. record { path = p; kind = kind_of r.1 } ∷ listed (above ++ n ∷ []) rs) (append_assoc above (n ∷ []) r.0) ∙ ap (λ l. record { path = above ++ n ∷ r.0; kind = kind_of r.1 } ∷ l) (listed_below above n rs)
 
-  pub listed_root : (rs : Rows) → listed {A = A} [] rs ≡ map row_of rs
+  pub listed_root : (rs : PathEntries) → listed {A = A} [] rs ≡ map listed_entry rs
   listed_root [] = refl
-  listed_root (r ∷ rs) = ap (λ l. row_of r ∷ l) (listed_root rs)
+  listed_root (r ∷ rs) = ap (λ l. listed_entry r ∷ l) (listed_root rs)
 
   pub more_rows : (old mid new : List (Listed A)) (above : Path) (ks : List Child) (i : ℕ) (d k : Child) → i < length ks → k ≡ get_or ks i d → mid ≡ old ++ listed above (flatten (take i ks)) → new ≡ mid ++ listed above (below k.name (all k)) → new ≡ old ++ listed above (flatten (take (i + 1) ks))
   more_rows old mid new above ks i d k lt is e f =
@@ -62,7 +62,7 @@ module _ {A : Type 0} where
       ∙ ap (λ (x : Child). old ++ listed above (flatten (take i ks) ++ below x.name (all x))) is
       ∙ ap (λ l. old ++ listed above l) (sym (flatten_take ks i d lt)) ∙ ap (λ j. old ++ listed above (flatten (take j ks))) (sym (add-one i))
 
-  pub dir_rows : (old mid new : List (Listed A)) (above name here names : Path) (n : Name) (e : Entry) (rows under : Rows) → e ≡ Dir → here ≡ above ++ n ∷ [] → names ≡ above ++ n ∷ [] → rows ≡ under → mid ≡ old ++ record { path = here; kind = kind.Dir } ∷ [] → new ≡ mid ++ listed names rows → new ≡ old ++ record { path = above ++ n ∷ []; kind = kind_of e } ∷ listed above (below n under)
+  pub dir_rows : (old mid new : List (Listed A)) (above name here names : Path) (n : Name) (e : Entry) (rows under : PathEntries) → e ≡ Dir → here ≡ above ++ n ∷ [] → names ≡ above ++ n ∷ [] → rows ≡ under → mid ≡ old ++ record { path = here; kind = kind.Dir } ∷ [] → new ≡ mid ++ listed names rows → new ≡ old ++ record { path = above ++ n ∷ []; kind = kind_of e } ∷ listed above (below n under)
   dir_rows old mid new above name here names n e rows under is p q r m f =
       f ∙ ap (λ l. l ++ listed names rows) m ∙ append_assoc old (record { path = here; kind = kind.Dir } ∷ []) (listed names rows)
       ∙ ap (λ x. old ++ record { path = x; kind = kind.Dir } ∷ listed names rows) p
@@ -84,7 +84,7 @@ sorted_all [] i le s = tt
 sorted_all (k ∷ ks) zero le s = absurd (omega arith)
 sorted_all (k ∷ ks) (suc i) le s = (s.0, sorted_all ks i (omega arith) s.1)
 
-later_below : (n : Name) (rs : Rows) → Later [] (below n rs)
+later_below : (n : Name) (rs : PathEntries) → Later [] (below n rs)
 later_below n [] = tt
 later_below n (r ∷ rs) = (refl, later_below n rs)
 
@@ -96,7 +96,7 @@ pub dir_sorted : (k : Child) (ks ks' : List Child) → k.under ≡ flatten ks �
 dir_sorted k ks ks' is e o = subst (λ u. InOrder (([], k.entry) ∷ u)) (sym is) (later_flatten ks, subst (λ l. InOrder (flatten l)) e o)
 
 -- every row of a tree may stand in a listing
-good_rows : (rs : Rows) → ((q : Path) → IsSome (find path_cmp q rs) → IsGoodPath q) → AreGood [] rs
+good_rows : (rs : PathEntries) → ((q : Path) → IsSome (find path_cmp q rs) → IsGoodPath q) → AreGood [] rs
 good_rows [] h = tt
 good_rows (r ∷ rs) h = (h r.0 (subst IsSome (sym (ap (λ b. cond b (Some r.1) (find path_cmp r.0 rs)) (self_equal r.0))) refl), good_rows rs (λ q some. h q (keep q some)))
   where
@@ -112,6 +112,6 @@ good_tree ks t = good_rows (flatten ks) each
 
 pub entries_tree : (ks : List Child) → InOrder (flatten ks) → entries (tree_of ks) ≡ ([], Dir) ∷ flatten ks
 entries_tree ks o =
-    let rows : Rows = ([], Dir) ∷ flatten ks in
+    let rows : PathEntries = ([], Dir) ∷ flatten ks in
     let test = sorted_test rows (later_flatten ks, o) in
     ap entries (same_map path_total path_same (tree_of ks) (from_sorted rows) (λ q. get-from_entries path_total rows q ∙ sym (get-from_sorted path_cmp rows q test))) ∙ entries-from_sorted path_cmp rows test

@@ -1,14 +1,14 @@
 -- What a rename leaves: the children of a tree.
 use Rattle.std.proofs.Common.{◌≡◌, ◌≢◌, ◌≤◌, List, [], ◌∷◌, ◌++◌, length, Option, Some, None, sym, ap, subst, ◌∙◌, arith, append-nil, append_assoc, length-append, refl}
 use Rattle.dm_tree.specs.Paths.{Name, Path, Under, Apart}
-use Rattle.dm_tree.specs.Parts.{IsGoodPath}
+use Rattle.dm_tree.specs.Validity.{IsGoodPath}
 use Rattle.dm_tree.specs.Trees.{Lines, Entry, Dir, File, Map, HasParent, IsLawful}
 use Rattle.dm_tree.specs.Changes.{MayMove, Renamed}
 use Rattle.dm_tree.specs.Children.{Child, IsRising, IsTree, look}
-use Rattle.dm_tree.proofs.Parts.{good_moved}
+use Rattle.dm_tree.proofs.ValidityLemmas.{good_moved}
 use Rattle.dm_tree.proofs.Paths.{Place, in_left, in_right, outside, place}
 use Rattle.dm_tree.proofs.Removes.{snoc}
-use Rattle.dm_tree.proofs.Shifts.{may_apart}
+use Rattle.dm_tree.proofs.MoveLemmas.{may_apart}
 use Rattle.dm_tree.proofs.Trees.{snoc_inj}
 
 root_off : (a b : Path) → (Under b a → ⊥) → Under [] a → ⊥

@@ -4,14 +4,14 @@ use Rattle.std.specs.Ordering.{eq_by_cmp}
 use Rattle.std.specs.FinMap.{remove, get-remove, same_map}
 use Rattle.std.proofs.lemmas.Bool.{eqb-true}
 use Rattle.dm_tree.specs.Paths.{Name, Path, Under}
-use Rattle.dm_tree.specs.Parts.{IsGoodPath}
+use Rattle.dm_tree.specs.Validity.{IsGoodPath}
 use Rattle.dm_tree.specs.Trees.{Lines, Entry, Dir, File, Map, IsLawful, path_cmp}
 use Rattle.dm_tree.specs.Children.{Child, look, IsRising, IsTree}
 use Rattle.dm_tree.specs.Walks.{SetsAt, Grafts, nothing}
 use Rattle.dm_tree.proofs.Children.{name_self}
 use Rattle.dm_tree.proofs.Paths.{under_dec}
 use Rattle.dm_tree.proofs.Trees.{path_total, path_same, equal_by, tree_of, get-tree_of}
-use Rattle.dm_tree.proofs.Shifts.{under_absent, self_equal}
+use Rattle.dm_tree.proofs.MoveLemmas.{under_absent, self_equal}
 
 first_inside : (k : Child) (ks : List Child) → look (k ∷ ks) (k.name ∷ []) ≡ Some k.entry
 first_inside k ks = rw (name_self k.name) refl

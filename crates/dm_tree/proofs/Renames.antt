@@ -9,11 +9,11 @@ use Rattle.dm_tree.specs.declared.fault.TreeFault.TheVariants.{NoParent, Occupie
 use Rattle.dm_tree.specs.declared.node.Body.{Body}
 use Rattle.dm_tree.specs.Paths.{Name, Path, Under}
 use Rattle.dm_tree.specs.Trees.{Entry, Dir, Map, HasParent, path_cmp}
-use Rattle.dm_tree.specs.Changes.{Adds, Renames}
-use Rattle.dm_tree.specs.Children.{Rows, Child, below, all, flatten, look}
+use Rattle.dm_tree.specs.Changes.{AddAnswers, RenameAnswers}
+use Rattle.dm_tree.specs.Children.{PathEntries, Child, below, all, flatten, look}
 use Rattle.dm_tree.specs.Nested.{under_of}
 use Rattle.dm_tree.specs.Walks.{RefusesAdd, are_short, part_of}
-use Rattle.dm_tree.proofs.Shifts.{self_equal}
+use Rattle.dm_tree.proofs.MoveLemmas.{self_equal}
 use Rattle.dm_tree.proofs.Steps.{some_of, not_none}
 use Rattle.dm_tree.proofs.Trees.{equal_by, snoc_inj}
 
@@ -21,14 +21,14 @@ and-assoc : (a b e : Bool) → (a && (b && e)) ≡ ((a && b) && e)
 and-assoc true b e = refl
 and-assoc false b e = refl
 
-short-append : (n : ℕ) (xs ys : Rows) → are_short n (xs ++ ys) ≡ (are_short n xs && are_short n ys)
+short-append : (n : ℕ) (xs ys : PathEntries) → are_short n (xs ++ ys) ≡ (are_short n xs && are_short n ys)
 short-append n [] ys = refl
 short-append n (x ∷ xs) ys = ap (λ b. nat_le (length x.0) n && b) (short-append n xs ys) ∙ and-assoc (nat_le (length x.0) n) (are_short n xs) (are_short n ys)
 
 one_less : (a n : ℕ) → 0 < n → nat_le (suc a) n ≡ nat_le a (n - 1)
 one_less a n lt = grind (arith, nat_tests)
 
-short-below : (n : ℕ) (m : Name) (rs : Rows) → 0 < n → are_short n (below m rs) ≡ are_short (n - 1) rs
+short-below : (n : ℕ) (m : Name) (rs : PathEntries) → 0 < n → are_short n (below m rs) ≡ are_short (n - 1) rs
 short-below n m [] lt = refl
 short-below n m (r ∷ rs) lt = ap (λ b. b && are_short n (below m rs)) (one_less (length r.0) n lt) ∙ ap (λ b. nat_le (length r.0) (n - 1) && b) (short-below n m rs lt)
 
@@ -44,7 +44,7 @@ fits-step ks i d n lt at =
     ∙ ap (λ b. b && are_short n (flatten rest)) (short-below n k.name (all k) lt ∙ ap (λ b. b && are_short (n - 1) k.under) (zero_le (n - 1)))
     ∙ ap (λ j. are_short (n - 1) k.under && are_short n (flatten (drop j ks))) (sym (add-one i))
 
-pub fits_more : (ks : List Child) (i : ℕ) (d : Child) (n : ℕ) (u : Rows) (b : Bool) → 0 < n → i < length ks → u ≡ (get_or ks i d).under → b ≡ are_short (n - 1) u → are_short n (flatten ks) ≡ are_short n (flatten (drop i ks)) → are_short n (flatten ks) ≡ (b && are_short n (flatten (drop (i + 1) ks)))
+pub fits_more : (ks : List Child) (i : ℕ) (d : Child) (n : ℕ) (u : PathEntries) (b : Bool) → 0 < n → i < length ks → u ≡ (get_or ks i d).under → b ≡ are_short (n - 1) u → are_short n (flatten ks) ≡ are_short n (flatten (drop i ks)) → are_short n (flatten ks) ≡ (b && are_short n (flatten (drop (i + 1) ks)))
 fits_more ks i d n u b lt at is e so_far = so_far ∙ fits-step ks i d n lt at ∙ ap (λ t. t && are_short n (flatten (drop (i + 1) ks))) (sym (e ∙ ap (are_short (n - 1)) is))
 
 le_of : (a n : ℕ) → nat_le a n ≡ true → a ≤ n
@@ -60,7 +60,7 @@ both false b h = cc
 no_some : IsSome {T = Entry} None → ⊥
 no_some h = cc
 
-pub short_true : (n : ℕ) (rs : Rows) → are_short n rs ≡ true → (q : Path) → IsSome (find path_cmp q rs) → length q ≤ n
+pub short_true : (n : ℕ) (rs : PathEntries) → are_short n rs ≡ true → (q : Path) → IsSome (find path_cmp q rs) → length q ≤ n
 short_true n [] h q some = absurd (no_some some)
 short_true n (r ∷ rs) h q some =
     let b = both (nat_le (length r.0) n) (are_short n rs) h in
@@ -69,7 +69,7 @@ short_true n (r ∷ rs) h q some =
       | false ↦ λ e s. short_true n rs b.1 q s
     ] refl some
 
-pub short_false : (n : ℕ) (rs : Rows) → are_short n rs ≡ false → (q : Path) × (IsSome (find path_cmp q rs) × (n < length q))
+pub short_false : (n : ℕ) (rs : PathEntries) → are_short n rs ≡ false → (q : Path) × (IsSome (find path_cmp q rs) × (n < length q))
 short_false n [] h = cc
 short_false n (r ∷ rs) h =
     elim (nat_le (length r.0) n) as (λ t. nat_le (length r.0) n ≡ t → (t && are_short n rs) ≡ false → (q : Path) × (IsSome (find path_cmp q (r ∷ rs)) × (n < length q))) [
@@ -100,7 +100,7 @@ module _ (m : Map) (a b : Path) where
   overflows_by part n is le s = let lt = s.1.1 in (s.0, not_none (m (a ++ s.0)) (subst IsSome (is s.0) s.1.0), omega (arith, lt, length-append b s.0))
 
   -- why nothing may be added at the new place
-  pub refused_by : m a ≢ None → (Under b a → ⊥) → (e : TreeFault) → RefusesAdd m b (Some e) → Renames {T = Unit {0}} m a b (Err e)
+  pub refused_by : m a ≢ None → (Under b a → ⊥) → (e : TreeFault) → RefusesAdd m b (Some e) → RenameAnswers {T = Unit {0}} m a b (Err e)
   refused_by there off NoParent h = (there, off, h)
   refused_by there off Occupied h = (there, off, h.0, h.1)
   refused_by there off Missing h = absurd h
@@ -114,7 +114,7 @@ module _ (m : Map) (a b : Path) where
   refused_by there off TooDeep h = absurd h
   refused_by there off NoMemory h = absurd h
 
-pub adds_refused : (m : Map) (p : Path) (e : TreeFault) → RefusesAdd m p (Some e) → Adds {T = Unit {0}} m p (Err e)
+pub adds_refused : (m : Map) (p : Path) (e : TreeFault) → RefusesAdd m p (Some e) → AddAnswers {T = Unit {0}} m p (Err e)
 adds_refused m p NoParent h = h
 adds_refused m p Occupied h = h
 adds_refused m p Missing h = absurd h
@@ -150,5 +150,5 @@ there_by e o is h = let f : Some e ≡ None = is ∙ h in cc
 pub refuses_add_of : (m : Map) (ks ks' : List Child) (p p' : Path) (r : Option TreeFault) → look ks ≡ m → ks' ≡ ks → p' ≡ p → RefusesAdd (look ks') p' r → RefusesAdd m p r
 refuses_add_of m ks ks' p p' r e f g h = subst (λ x. RefusesAdd x p r) e (subst (λ k. RefusesAdd (look k) p r) f (subst (λ q. RefusesAdd (look ks') q r) g h))
 
-pub renames_of : (m : Map) (ks ks' : List Child) (a a' b b' : Path) (r : Result (Unit {0}) TreeFault) → look ks ≡ m → ks' ≡ ks → a' ≡ a → b' ≡ b → Renames (look ks') a' b' r → Renames m a b r
-renames_of m ks ks' a a' b b' r e f g i h = subst (λ n. Renames n a b r) e (subst (λ k. Renames (look k) a b r) f (subst (λ x. Renames (look ks') x b r) g (subst (λ y. Renames (look ks') a' y r) i h)))
+pub renames_of : (m : Map) (ks ks' : List Child) (a a' b b' : Path) (r : Result (Unit {0}) TreeFault) → look ks ≡ m → ks' ≡ ks → a' ≡ a → b' ≡ b → RenameAnswers (look ks') a' b' r → RenameAnswers m a b r
+renames_of m ks ks' a a' b b' r e f g i h = subst (λ n. RenameAnswers n a b r) e (subst (λ k. RenameAnswers (look k) a b r) f (subst (λ x. RenameAnswers (look ks') x b r) g (subst (λ y. RenameAnswers (look ks') a' y r) i h)))

@@ -10,11 +10,11 @@ use Rattle.std.specs.FinMap.{get, insert, from_entries, get-from_entries, get-in
 use Rattle.dm_tree.specs.declared.node.Leaf.{Leaf}
 use Rattle.dm_tree.specs.declared.node.Leaf.TheVariants.{Folder, Empty}
 use Rattle.dm_tree.specs.Paths.{Name, Path}
-use Rattle.dm_tree.specs.Parts.{IsGoodPath}
+use Rattle.dm_tree.specs.Validity.{IsGoodPath}
 use Rattle.dm_tree.specs.Trees.{Lines, Entry, Dir, File, Map, Tree, HasParent, IsLawful, Deep, path_cmp}
 use Rattle.dm_tree.specs.Children.{Child, flatten, look, IsRising, IsTree}
 use Rattle.dm_tree.specs.Walks.{SetsAt, leaf_entry}
-use Rattle.dm_tree.proofs.Parts.{good_parts}
+use Rattle.dm_tree.proofs.ValidityLemmas.{good_parts}
 
 pub path_total : IsTotalOrder path_cmp
 path_total = lists_total nat_list_cmp_total

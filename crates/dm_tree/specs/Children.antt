@@ -3,30 +3,30 @@ use Rattle.std.specs.Prelude.{◌≡◌, ◌≢◌, ℕ, zero, suc, List, [], �
 use Rattle.std.specs.FinMap.{find}
 use Rattle.std.specs.declared.cmp.Ordering.TheVariants.{Less}
 use Rattle.dm_tree.specs.Paths.{Name, Path}
-use Rattle.dm_tree.specs.Parts.{IsGoodPath}
+use Rattle.dm_tree.specs.Validity.{IsGoodPath}
 use Rattle.dm_tree.specs.Trees.{Entry, Dir, IsLawful, name_cmp, path_cmp}
 
 -- paths with their entries
-abbrev pub Rows : Type 0
-Rows = List (Path × Entry)
+abbrev pub PathEntries : Type 0
+PathEntries = List (Path × Entry)
 
 -- what a directory sees of a child: its name, its entry, and the rows inside it
 pub record Child : Type 0 where
   pub name : Name
   pub entry : Entry
-  pub under : Rows
+  pub under : PathEntries
 
 -- the rows once they stand under the name n
-abbrev pub below : Name → Rows → Rows
+abbrev pub below : Name → PathEntries → PathEntries
 below n [] = []
 below n (r ∷ rs) = (n ∷ r.0, r.1) ∷ below n rs
 
 -- a child's rows, itself first
-abbrev pub all : Child → Rows
+abbrev pub all : Child → PathEntries
 all k = ([], k.entry) ∷ k.under
 
 -- the rows inside a directory with these children
-abbrev pub flatten : List Child → Rows
+abbrev pub flatten : List Child → PathEntries
 flatten [] = []
 flatten (k ∷ ks) = below k.name (all k) ++ flatten ks
 

@@ -1,5 +1,5 @@
 pub mod Paths
-pub mod Parts
+pub mod Validity
 pub mod Trees
 pub mod Changes
 pub mod Listings

@@ -16,5 +16,5 @@ kind_of Dir = kind.Dir
 kind_of (File ls) = kind.File (file_size ls)
 
 -- a path and its entry as a row
-abbrev pub row_of : {A : Type 0} → Path × Entry → Listed A
-row_of r = record { path = r.0; kind = kind_of r.1 }
+abbrev pub listed_entry : {A : Type 0} → Path × Entry → Listed A
+listed_entry r = record { path = r.0; kind = kind_of r.1 }

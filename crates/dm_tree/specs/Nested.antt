@@ -3,7 +3,7 @@ use Rattle.std.specs.Prelude.{◌<◌, [], length}
 use Rattle.dm_tree.specs.declared.node.Body.{Body}
 use Rattle.dm_tree.specs.declared.node.Body.TheVariants.{Text, Children}
 use Rattle.dm_tree.specs.Trees.{Entry, Dir, File}
-use Rattle.dm_tree.specs.Children.{Rows, IsRising, flatten}
+use Rattle.dm_tree.specs.Children.{PathEntries, IsRising, flatten}
 
 -- the entry that a node is
 abbrev pub entry_of : {A : Type 0} → Body A → Entry
@@ -11,7 +11,7 @@ entry_of (Text lines) = File lines.items
 entry_of (Children children) = Dir
 
 -- the rows inside a node
-abbrev pub under_of : {A : Type 0} → Body A → Rows
+abbrev pub under_of : {A : Type 0} → Body A → PathEntries
 under_of (Text lines) = []
 under_of (Children children) = flatten children.items
 

@@ -6,11 +6,11 @@ use Rattle.dm_tree.specs.Paths.{Name}
 use Rattle.dm_tree.specs.declared.node.Body.{Body}
 use Rattle.dm_tree.specs.declared.node.Body.TheVariants.{Text, Children}
 use Rattle.dm_tree.specs.declared.node.Node.TheDeep.{deep-Body}
-use Rattle.dm_tree.specs.Children.{Rows, Child, below, flatten}
+use Rattle.dm_tree.specs.Children.{PathEntries, Child, below, flatten}
 use Rattle.dm_tree.specs.Nested.{under_of}
 use denote.Param.Weighed.{most}
 
-pub length-below : (n : Name) (rs : Rows) → length (below n rs) ≡ length rs
+pub length-below : (n : Name) (rs : PathEntries) → length (below n rs) ≡ length rs
 length-below n [] = refl
 length-below n (r ∷ rs) = omega (arith, length-below n rs)
 

@@ -11,11 +11,11 @@ use Rattle.dm_tree.specs.declared.node.Body.{Body}
 use Rattle.dm_tree.specs.declared.node.Leaf.{Leaf}
 use Rattle.dm_tree.specs.declared.node.Leaf.TheVariants.{Folder, Empty}
 use Rattle.dm_tree.specs.Paths.{Path, Under}
-use Rattle.dm_tree.specs.Parts.{IsGoodPath}
+use Rattle.dm_tree.specs.Validity.{IsGoodPath}
 use Rattle.dm_tree.specs.Trees.{Lines, Entry, Dir, File, Map, HasParent, empty_file, path_cmp}
-use Rattle.dm_tree.specs.Changes.{InRange, Edits}
+use Rattle.dm_tree.specs.Changes.{InRange, ReplacesLines}
 use Rattle.dm_tree.specs.Listings.{kind_of}
-use Rattle.dm_tree.specs.Children.{Rows}
+use Rattle.dm_tree.specs.Children.{PathEntries}
 use Rattle.dm_tree.specs.Nested.{entry_of, under_of}
 
 -- what a new leaf is at its path
@@ -49,7 +49,7 @@ RefusesAdd m p (Some e) = ⊥
 
 -- why the lines may not be edited, if that is so
 abbrev pub RefusesEdit : Lines → ℕ → Lines → Lines → Option TreeFault → Type 0
-RefusesEdit ls n old new None = (ls' : Lines) × Edits n old new ls ls'
+RefusesEdit ls n old new None = (ls' : Lines) × ReplacesLines n old new ls ls'
 RefusesEdit ls n old new (Some LineRange) = InRange n (length old) (length ls) → ⊥
 RefusesEdit ls n old new (Some OldDiffers) = InRange n (length old) (length ls) × (take (length old) (drop (n - 1) ls) ≢ old)
 RefusesEdit ls n old new (Some NoLines) = (ls ≡ old) × (n ≡ 1) × (new ≡ [])
@@ -68,26 +68,26 @@ CanSplice (Some Dir) i j new = ⊥
 CanSplice (Some (File ls)) i j new = (i ≤ j) × ((j ≤ length ls) × (0 < length (splice ls i j new)))
 
 -- no path of the rows has more than n names
-abbrev pub are_short : ℕ → Rows → Bool
+abbrev pub are_short : ℕ → PathEntries → Bool
 are_short n [] = true
 are_short n (r ∷ rs) = nat_le (length r.0) n && are_short n rs
 
 -- the listing of a part of a tree whose own path is above
-abbrev pub listed : {A : Type 0} → Path → Rows → List (Listed A)
+abbrev pub listed : {A : Type 0} → Path → PathEntries → List (Listed A)
 listed above [] = []
 listed above (r ∷ rs) = record { path = above ++ r.0; kind = kind_of r.1 } ∷ listed above rs
 
 -- the paths that the rows have there may stand in a listing
-abbrev pub AreGood : Path → Rows → Type 0
+abbrev pub AreGood : Path → PathEntries → Type 0
 AreGood above [] = Unit {0}
 AreGood above (r ∷ rs) = IsGoodPath (above ++ r.0) × AreGood above rs
 
 -- each path of the rows comes after p
-abbrev pub Later : Path → Rows → Type 0
+abbrev pub Later : Path → PathEntries → Type 0
 Later p [] = Unit {0}
 Later p (r ∷ rs) = (path_cmp p r.0 ≡ Less) × Later p rs
 
 -- the paths of the rows rise
-abbrev pub InOrder : Rows → Type 0
+abbrev pub InOrder : PathEntries → Type 0
 InOrder [] = Unit {0}
 InOrder (r ∷ rs) = Later r.0 rs × InOrder rs

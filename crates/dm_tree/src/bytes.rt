@@ -1,6 +1,6 @@
 //! A list of bytes that is owned: a name, or a line.
 ghost use Rattle.std.specs.Prelude.{◌≡◌, ◌↔◌, [], IfOk, IsTrue};
-ghost use Rattle.dm_tree.specs.Parts.{is_name};
+ghost use Rattle.dm_tree.specs.Validity.{is_name};
 
 use std::alloc::{AllocError, Allocator};
 use std::marker::Model;

@@ -1,6 +1,6 @@
 //! A list of lines, none of which has a newline.
 ghost use Rattle.std.specs.Prelude.{◌≡◌, ◌<◌, ◌++◌, ◌∷◌, [], length, IfOk, OnOk, OnErr, slice_index_or};
-ghost use Rattle.dm_tree.specs.Parts.{AnswersLine, ArePlain, IsPlain, line_fault};
+ghost use Rattle.dm_tree.specs.Validity.{AnswersLine, ArePlain, IsPlain, line_fault};
 
 use crate::bytes::{Bytes, copy_all};
 use crate::fault::LineFault;
@@ -15,7 +15,7 @@ pub struct Lines<A: Allocator> {
 
 impl<A: Allocator> Model for Lines<A> {
     ghost use Rattle.std.specs.Prelude.{List, ℕ};
-    ghost use Rattle.dm_tree.specs.Parts.{ArePlain};
+    ghost use Rattle.dm_tree.specs.Validity.{ArePlain};
 
     ghost Value = { List (List ℕ) };
 

@@ -1,6 +1,6 @@
 //! The path of an entry: 1 to 32 names.
 ghost use Rattle.std.specs.Prelude.{◌≡◌, ◌<◌, ◌≤◌, ◌↔◌, [], length, map, IfOk, IfSome, IsTrue, MatchOption, Some, slice_index_or};
-ghost use Rattle.dm_tree.specs.Parts.{AnswersPath, IsGoodPath, is_bad_name, path_fault, path_fault_of};
+ghost use Rattle.dm_tree.specs.Validity.{AnswersPath, IsGoodPath, is_bad_name, path_fault, path_fault_of};
 ghost use Rattle.dm_tree.specs.Paths.{Inside, Under, forward};
 
 use crate::bytes::{Bytes, copy_all, is_same};
@@ -18,7 +18,7 @@ pub struct Path<A: Allocator> {
 
 impl<A: Allocator> Model for Path<A> {
     ghost use Rattle.std.specs.Prelude.{List, ℕ};
-    ghost use Rattle.dm_tree.specs.Parts.{IsGoodPath};
+    ghost use Rattle.dm_tree.specs.Validity.{IsGoodPath};
 
     ghost Value = { List (List ℕ) };
 

@@ -1,7 +1,7 @@
 //! The checks before a path is added or moved, and the move of a node with all inside it.
 ghost use Rattle.std.specs.Prelude.{◌≡◌, ◌<◌, ◌≤◌, length, OnOk, OnErr};
 ghost use Rattle.dm_tree.specs.Trees.{IsLawful};
-ghost use Rattle.dm_tree.specs.Changes.{MayMove, Renamed, Renames};
+ghost use Rattle.dm_tree.specs.Changes.{MayMove, Renamed, RenameAnswers};
 ghost use Rattle.dm_tree.specs.Children.{IsRising, flatten, look};
 ghost use Rattle.dm_tree.specs.Nested.{under_of};
 ghost use Rattle.dm_tree.specs.Walks.{RefusesAdd, are_short};
@@ -43,7 +43,7 @@ pub(crate) fn rename_allowed<A: Allocator, B: Allocator, C: Allocator>(
     requires to_named { 0 < length to.now }
     requires not_deep { length to.now ≤ 32 }
     requires rising { IsRising children.now }
-    ensures { Renames (look children.now) from.now to.now result }
+    ensures { RenameAnswers (look children.now) from.now to.now result }
 {
     let Some(body) = find(children, from) else {
         return Err(TreeFault::Missing);
@@ -54,41 +54,41 @@ pub(crate) fn rename_allowed<A: Allocator, B: Allocator, C: Allocator>(
     if let Some(fault) = add_refused(children, to) {
         return Err(fault);
     }
-    if !body_fits(body, 32 - to.len()) {
+    if !is_short(body, 32 - to.len()) {
         return Err(TreeFault::TooDeep);
     }
     Ok(())
 }
 
 /// Whether no path inside these children has more than `room` names.
-#[cycle(fits)]
-fn fits<A: Allocator>(children: &[Node<A>], room: usize) -> bool
+#[cycle(short)]
+fn are_short<A: Allocator>(children: &[Node<A>], room: usize) -> bool
     ensures { result ≡ are_short room (flatten children.now) }
 {
     for child in children {
         if room == 0 {
             return false;
         }
-        if !body_fits(&child.body, room - 1) {
+        if !is_short(&child.body, room - 1) {
             return false;
         }
     }
     true
 }
 
-#[cycle(fits)]
-fn body_fits<A: Allocator>(body: &Body<A>, room: usize) -> bool
+#[cycle(short)]
+fn is_short<A: Allocator>(body: &Body<A>, room: usize) -> bool
     ensures { result ≡ are_short room (under_of body.now) }
 {
     match body {
         Body::Text(_) => true,
-        Body::Children(children) => fits(children, room),
+        Body::Children(children) => are_short(children, room),
     }
 }
 
 /// Moves what stands at one path, with all inside it, to another: a directory is added at the new
 /// place, which is all that may want memory, and then gives its place to the node.
-pub(crate) fn shift<A: Allocator + Copy, B: Allocator, C: Allocator>(
+pub(crate) fn move_node<A: Allocator + Copy, B: Allocator, C: Allocator>(
     children: &mut Vec<Node<A>, A>,
     alloc: A,
     from: &[Bytes<B>],

@@ -5,8 +5,8 @@ ghost use Rattle.std.specs.Option.{option_map};
 ghost use Rattle.std.specs.FinMap as map;
 ghost use Rattle.dm_tree.specs.Paths.{Path as Names};
 ghost use Rattle.dm_tree.specs.Trees.{Deep, Dir, IsLawful, empty_file};
-ghost use Rattle.dm_tree.specs.Changes.{Adds, Edited, EditsFile, RemovesDir, RemovesFile, Renamed, Renames};
-ghost use Rattle.dm_tree.specs.Listings.{row_of};
+ghost use Rattle.dm_tree.specs.Changes.{AddAnswers, Edited, EditAnswers, RemoveDirAnswers, RemoveFileAnswers, Renamed, RenameAnswers};
+ghost use Rattle.dm_tree.specs.Listings.{listed_entry};
 ghost use Rattle.dm_tree.specs.Seen.{seen};
 ghost use Rattle.dm_tree.specs.Nested.{entry_of};
 ghost use Rattle.dm_tree.specs.Walks.{leaf_entry, part_of};
@@ -19,7 +19,7 @@ use crate::lines::Lines;
 use crate::listing::{Listed, list_children};
 use crate::node::{Body, Leaf, Node, add, copy_children, cut, find};
 use crate::path::Path;
-use crate::rename::{add_refused, rename_allowed, shift};
+use crate::rename::{add_refused, rename_allowed, move_node};
 use std::alloc::{AllocError, Allocator};
 use std::marker::Model;
 
@@ -62,11 +62,11 @@ impl<A: Allocator> Tree<A> {
 }
 
 impl<A: Allocator + Copy> Tree<A> {
-    /// Adds an empty file (`addfile`): one empty line.
+    /// AddAnswers an empty file (`addfile`): one empty line.
     ///
     /// Errors: [`TreeFault::NoParent`], [`TreeFault::Occupied`], [`TreeFault::NoMemory`].
     pub fn add_file<B: Allocator>(&mut self, path: &Path<B>) -> Result<(), TreeFault>
-        ensures fault { Adds (map.get self.old) path.now result }
+        ensures fault { AddAnswers (map.get self.old) path.now result }
         ensures ok { OnOk result (self.new ≡ map.insert self.old path.now empty_file) }
         ensures err { OnErr result (self.new ≡ self.old) }
     {
@@ -78,7 +78,7 @@ impl<A: Allocator + Copy> Tree<A> {
     /// Errors: [`TreeFault::Missing`], [`TreeFault::NotFile`], [`TreeFault::NotEmpty`] for a file
     /// that is not one empty line.
     pub fn remove_file<B: Allocator>(&mut self, path: &Path<B>) -> Result<(), TreeFault>
-        ensures fault { RemovesFile (map.get self.old) path.now result }
+        ensures fault { RemoveFileAnswers (map.get self.old) path.now result }
         ensures ok { OnOk result (self.new ≡ map.remove self.old path.now) }
         ensures err { OnErr result (self.new ≡ self.old) }
     {
@@ -95,11 +95,11 @@ impl<A: Allocator + Copy> Tree<A> {
         Ok(())
     }
 
-    /// Adds a directory (`adddir`).
+    /// AddAnswers a directory (`adddir`).
     ///
     /// Errors: [`TreeFault::NoParent`], [`TreeFault::Occupied`], [`TreeFault::NoMemory`].
     pub fn add_dir<B: Allocator>(&mut self, path: &Path<B>) -> Result<(), TreeFault>
-        ensures fault { Adds (map.get self.old) path.now result }
+        ensures fault { AddAnswers (map.get self.old) path.now result }
         ensures ok { OnOk result (self.new ≡ map.insert self.old path.now Dir) }
         ensures err { OnErr result (self.new ≡ self.old) }
     {
@@ -110,7 +110,7 @@ impl<A: Allocator + Copy> Tree<A> {
     ///
     /// Errors: [`TreeFault::Missing`], [`TreeFault::NotDir`], [`TreeFault::NotEmpty`].
     pub fn remove_dir<B: Allocator>(&mut self, path: &Path<B>) -> Result<(), TreeFault>
-        ensures fault { RemovesDir (map.get self.old) path.now result }
+        ensures fault { RemoveDirAnswers (map.get self.old) path.now result }
         ensures ok { OnOk result (self.new ≡ map.remove self.old path.now) }
         ensures err { OnErr result (self.new ≡ self.old) }
     {
@@ -138,7 +138,7 @@ impl<A: Allocator + Copy> Tree<A> {
         from: &Path<B>,
         to: &Path<C>,
     ) -> Result<(), TreeFault>
-        ensures fault { Renames (map.get self.old) from.now to.now result }
+        ensures fault { RenameAnswers (map.get self.old) from.now to.now result }
         ensures ok { OnOk result (Renamed from.now to.now (map.get self.old) (map.get self.new)) }
         ensures err { OnErr result (self.new ≡ self.old) }
     {
@@ -146,7 +146,7 @@ impl<A: Allocator + Copy> Tree<A> {
             return Err(fault);
         }
         let alloc = *self.children.allocator();
-        shift(&mut self.children, alloc, from.names(), to.names())?;
+        move_node(&mut self.children, alloc, from.names(), to.names())?;
         Ok(())
     }
 
@@ -163,7 +163,7 @@ impl<A: Allocator + Copy> Tree<A> {
         old: &Lines<C>,
         new: &Lines<C>,
     ) -> Result<(), TreeFault>
-        ensures fault { EditsFile (map.get self.old) path.now line old.now new.now result }
+        ensures fault { EditAnswers (map.get self.old) path.now line old.now new.now result }
         ensures ok { OnOk result (Edited path.now line old.now new.now self.old self.new) }
         ensures err { OnErr result (self.new ≡ self.old) }
     {
@@ -184,9 +184,9 @@ impl<A: Allocator + Copy> Tree<A> {
         Ok(())
     }
 
-    /// Adds a directory with nothing in it, or an empty file.
+    /// AddAnswers a directory with nothing in it, or an empty file.
     fn add_leaf<B: Allocator>(&mut self, path: &Path<B>, leaf: Leaf) -> Result<(), TreeFault>
-        ensures fault { Adds (map.get self.old) path.now result }
+        ensures fault { AddAnswers (map.get self.old) path.now result }
         ensures ok { OnOk result (self.new ≡ map.insert self.old path.now (leaf_entry leaf)) }
         ensures err { OnErr result (self.new ≡ self.old) }
     {
@@ -223,7 +223,7 @@ impl<A: Allocator> Tree<A> {
     /// Every entry but the root, in the order of the lists of names, names in that of their
     /// bytes; so a directory comes right before what is inside it.
     pub fn listing<B: Allocator + Copy>(&self, alloc: B) -> Result<Vec<Listed<B>, B>, AllocError>
-        ensures { IfOk result (λ v. v.items ≡ map_list row_of (drop 1 (map.entries self.now))) }
+        ensures { IfOk result (λ v. v.items ≡ map_list listed_entry (drop 1 (map.entries self.now))) }
     {
         let mut out = Vec::new(alloc);
         let root = Vec::new(alloc);

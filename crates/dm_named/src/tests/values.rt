@@ -66,8 +66,8 @@ fn copies(rt: HostRuntime) -> Result<(), Fail> {
     let text = canonical(alloc, &copy)?;
     assert_eq!(rt; text.as_slice(), WHOLE.as_bytes(), "a copy");
     let named = read(alloc, b"[b\np**d]")?;
-    assert!(rt; copy.names(named.info()), "a dependency is named");
-    assert!(rt; !copy.names(patch.info()), "its own information is not");
+    assert!(rt; copy.depends_on(named.info()), "a dependency is named");
+    assert!(rt; !copy.depends_on(patch.info()), "its own information is not");
     Ok(())
 }
 

@@ -1,8 +1,8 @@
 use Rattle.std.proofs.Common.{sym, subst, List}
 use Rattle.std.proofs.lemmas.List.{take_all}
-use Rattle.dm_info.specs.Parts.{Parts}
+use Rattle.dm_info.specs.PatchInfo.{PatchInfo}
 use Rattle.dm_bundle.specs.Patches.{infos_of}
-use Rattle.dm_bundle.specs.Context.{Apart}
+use Rattle.dm_bundle.specs.Context.{AreDisjoint}
 use Rattle.dm_bundle.proofs.Members.{apart_further}
 use Rattle.dm_bundle.proofs.bundle.are_mixed.Goals as goal
 
@@ -13,4 +13,4 @@ pub loop-info-preserved : goal.loop-info-preserved
 loop-info-preserved g c = apart_further (infos_of c.args.patches.now) c.args.context.now c.loop-info.info-index c.info-item.result c.loop-info-test.true c.info-item.is c.loop-info.invariant c.if-is_among.ensures
 
 pub returns : goal.returns
-returns g c = subst (λ (is : List Parts). Apart (infos_of c.args.patches.now) is) (take_all c.loop-info.info-index c.args.context.now c.loop-info-test.false) c.loop-info.invariant
+returns g c = subst (λ (is : List PatchInfo). AreDisjoint (infos_of c.args.patches.now) is) (take_all c.loop-info.info-index c.args.context.now c.loop-info-test.false) c.loop-info.invariant

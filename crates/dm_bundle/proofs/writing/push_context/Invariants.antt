@@ -1,6 +1,6 @@
 use Rattle.std.proofs.Common.{◌≡◌, ◌++◌, take}
 use Rattle.std.specs.List.{AllByRecursion, flat_map}
-use Rattle.dm_info.specs.Parts.{IsInfo}
+use Rattle.dm_info.specs.PatchInfo.{IsInfo}
 use Rattle.dm_named.specs.Canonical.{info_line}
 use Rattle.dm_bundle.proofs.writing.push_context.Given as goal
 

@@ -1,6 +1,6 @@
 use Rattle.std.proofs.Common.{◌≡◌, ◌+◌, get_or}
 use Rattle.std.proofs.lemmas.List.{take_rest}
-use Rattle.dm_info.specs.Parts.{is_newline}
+use Rattle.dm_info.specs.PatchInfo.{is_newline}
 use Rattle.dm_info.proofs.Cuts.{cut_found, cut_missed, byte_is}
 use Rattle.dm_info.proofs.reading.line_of.Goals as goal
 

@@ -1,7 +1,7 @@
 use Rattle.std.proofs.Common.{arith}
 use Rattle.std.proofs.lemmas.List.{take_all}
 use Rattle.std.proofs.lemmas.Grind.{common_steps}
-use Rattle.dm_info.specs.Parts.{IsInfo}
+use Rattle.dm_info.specs.PatchInfo.{IsInfo}
 use Rattle.dm_named.proofs.NamedLemmas.{all_more}
 use Rattle.dm_named.proofs.writing.push_deps.Goals as goal
 

@@ -1,4 +1,4 @@
-use Rattle.dm_prim.specs.Runs.{done}
+use Rattle.dm_prim.specs.InTurn.{done}
 use Rattle.dm_prim.proofs.ApplyLemmas.{one_more, stops_at}
 use Rattle.dm_prim.proofs.effect.apply_each.Goals as goal
 

@@ -1,5 +1,5 @@
 use Rattle.std.proofs.Common.{subst}
-use Rattle.dm_tree.specs.Parts.{IsGoodPath}
+use Rattle.dm_tree.specs.Validity.{IsGoodPath}
 use Rattle.dm_tree.proofs.Fronts.{refuted}
 use Rattle.dm_prim.specs.Prims.{prim_of}
 use Rattle.dm_prim.proofs.TableLemmas.{no_move_work, long_move_work, moved_after}

@@ -1,5 +1,5 @@
 use Rattle.std.proofs.Common.{subst}
-use Rattle.dm_tree.specs.Parts.{IsGoodPath}
+use Rattle.dm_tree.specs.Validity.{IsGoodPath}
 use Rattle.dm_tree.proofs.Fronts.{refuted}
 use Rattle.dm_prim.proofs.TableLemmas.{no_move_both, both_moved, long_from, long_to, long_first_from, long_first_to}
 use Rattle.dm_prim.proofs.pair.commute_moves.Goals as goal

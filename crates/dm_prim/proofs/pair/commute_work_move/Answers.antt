@@ -1,5 +1,5 @@
 use Rattle.std.proofs.Common.{subst}
-use Rattle.dm_tree.specs.Parts.{IsGoodPath}
+use Rattle.dm_tree.specs.Validity.{IsGoodPath}
 use Rattle.dm_tree.proofs.Fronts.{refuted}
 use Rattle.dm_prim.specs.Prims.{prim_of}
 use Rattle.dm_prim.proofs.TableLemmas.{no_work_move, long_work_move, moved_before}

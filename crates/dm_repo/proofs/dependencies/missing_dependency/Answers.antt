@@ -2,7 +2,7 @@ use Rattle.std.proofs.Common.{◌≡◌, ◌<◌, true, false, refl, sym, ◌∙
 use Rattle.std.specs.Prelude.{Contains}
 use Rattle.std.proofs.lemmas.List.{take_all, length-map}
 use Rattle.std.proofs.lemmas.Bool.{false≢true}
-use Rattle.dm_info.specs.Parts.{Parts}
+use Rattle.dm_info.specs.PatchInfo.{PatchInfo}
 use Rattle.dm_named.specs.Patches.{Patch}
 use Rattle.dm_bundle.specs.Patches.{infos_of}
 use Rattle.dm_repo.specs.CommonSets.{IsKnown}
@@ -47,5 +47,5 @@ returns g c = λ x d f n k.
     let y = c.index-new_patches-n.result in
     let e : y ≡ get_or b.patches c.args.n y = rw c.new_patches.ensures.value at c.index-new_patches-n.is in
     let s = same_patch b.patches c.args.n y x c.requires.place e f in
-    let all : (i : Parts) → Contains y.deps i → IsKnown c.args.repo.now.patches b c.args.n i = rw (take_all c.loop-d.d c.deps-dependencies.result.now c.loop-d-test.false, c.deps-dependencies.ensures) at c.loop-d.invariant in
+    let all : (i : PatchInfo) → Contains y.deps i → IsKnown c.args.repo.now.patches b c.args.n i = rw (take_all c.loop-d.d c.deps-dependencies.result.now c.loop-d-test.false, c.deps-dependencies.ensures) at c.loop-d.invariant in
     all d (subst (λ (p : Patch). Contains p.deps d) (sym s) k)

@@ -1,9 +1,9 @@
 use Rattle.std.proofs.Common.{rules, refl, map, length, ◌≤◌}
 use Rattle.std.proofs.lemmas.List.{take_all}
-use Rattle.dm_repo.specs.Merging.{JoinStops, MergeStops}
+use Rattle.dm_repo.specs.Merging.{MergePastStops, MergeStops}
 use Rattle.dm_repo.specs.Squares.{Placed, PlacedMerges, undone}
 use Rattle.dm_repo.proofs.Staircases.{merge_narrow}
-use Rattle.dm_repo.proofs.Rows.{merge_step, merge_stop}
+use Rattle.dm_repo.proofs.RowSteps.{merge_step, merge_stop}
 use Rattle.dm_repo.proofs.Splits.{blocks_at}
 use Rattle.dm_repo.proofs.merge.merge_all.Goals as goal
 
@@ -12,13 +12,13 @@ loop-k-init g c = record { merged = merge_narrow Placed PlacedMerges (map undone
 
 pub loop-k-preserved : goal.loop-k-preserved
 loop-k-preserved g c =
-    let s = merge_step PlacedMerges c.args.new.now c.loop-k.new c.loop-k.k c.index-new-k.result c.join.new.patch (search rules) (search rules) c.loop-k.invariant.ahead c.index-new-k.is c.loop-k.invariant.merged (rw (← c.index-new-k.is) at c.in-Ok.ensures) in
+    let s = merge_step PlacedMerges c.args.new.now c.loop-k.new c.loop-k.k c.index-new-k.result c.merge_past.new.patch (search rules) (search rules) c.loop-k.invariant.ahead c.index-new-k.is c.loop-k.invariant.merged (rw (← c.index-new-k.is) at c.in-Ok.ensures) in
     record { merged = s.0; ahead = s.1 }
 
 pub returns-in-Err : goal.returns-in-Err
 returns-in-Err g c =
     rw (c.blocked.ensures, ← c.index-new-k.is)
-    (blocks_at c.index-new-k.result (JoinStops PlacedMerges (map undone c.loop-k.rest) c.index-new-k.result) (MergeStops PlacedMerges (map undone c.args.rest.now) c.args.new.now) c.in-Err.stop
+    (blocks_at c.index-new-k.result (MergePastStops PlacedMerges (map undone c.loop-k.rest) c.index-new-k.result) (MergeStops PlacedMerges (map undone c.args.rest.now) c.args.new.now) c.in-Err.stop
     (λ r s. merge_stop PlacedMerges c.args.new.now c.loop-k.new c.loop-k.k c.index-new-k.result r (search rules) (search rules) c.loop-k.invariant.ahead c.index-new-k.is c.loop-k.invariant.merged s)
     (rw (← c.index-new-k.is) at c.in-Err.ensures))
 

@@ -1,7 +1,7 @@
 use Rattle.std.proofs.Common.{rules, length, ◌≤◌, get_or}
 use Rattle.std.proofs.lemmas.List.{take_all}
 use Rattle.dm_repo.specs.Squares.{Placed, undone}
-use Rattle.dm_repo.proofs.Rows.{map_step, undone_is}
+use Rattle.dm_repo.proofs.RowSteps.{map_step, undone_is}
 use Rattle.dm_repo.proofs.merge.undo_all.Goals as goal
 
 pub loop-k-preserved : goal.loop-k-preserved

@@ -1,7 +1,7 @@
 use Rattle.std.proofs.Common.{rules, ◌∙◌, refl, sym, drop, false, length}
 use Rattle.dm_repo.specs.Staircases.{nothing, PassStops, SplitStops}
 use Rattle.dm_repo.specs.Squares.{placed, PlacedCommutes}
-use Rattle.dm_repo.specs.Rows.{IsMarked}
+use Rattle.dm_repo.specs.Stops.{IsMarked}
 use Rattle.dm_repo.proofs.Splits.{whole, one_taken, one_counted, is_below, split_more_in, split_more_out, split_stop, blocks_at}
 use Rattle.dm_repo.proofs.parted.split_by.Goals as goal
 

@@ -1,7 +1,7 @@
 use Rattle.std.proofs.Common.{◌≡◌, ◌++◌, length}
 use Rattle.dm_repo.specs.Staircases.{Split}
 use Rattle.dm_repo.specs.Squares.{placed, placed_from, PlacedCommutes}
-use Rattle.dm_repo.specs.Rows.{IsMarked}
+use Rattle.dm_repo.specs.Stops.{IsMarked}
 use Rattle.dm_repo.proofs.parted.split_by.Given as goal
 
 abbrev pub invariant-loop-k : goal.invariant-loop-k

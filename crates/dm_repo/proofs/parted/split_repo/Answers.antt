@@ -1,5 +1,5 @@
 use Rattle.dm_repo.specs.Squares.{PlacedCommutes}
-use Rattle.dm_repo.specs.Rows.{IsMarked}
+use Rattle.dm_repo.specs.Stops.{IsMarked}
 use Rattle.dm_repo.specs.CommonSets.{Common}
 use Rattle.dm_repo.specs.Weighing.{IsCommon}
 use Rattle.dm_repo.proofs.Alike.{split_alike}

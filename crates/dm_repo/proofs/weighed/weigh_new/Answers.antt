@@ -14,7 +14,7 @@ pub returns-then-are_set : goal.returns-then-are_set
 returns-then-are_set g c = λ b e found.
     let repo = c.args.repo.now.patches in
     let parted = parted_whole repo b (rw c.deref.ensures.value at (c.if-are_set.ensures.0 refl)) found in
-    c.follow.ensures b (c.in_ok-chosen.ensures repo b (placed repo) [] e found parted)
+    c.append_to_whole.ensures b (c.in_ok-chosen.ensures repo b (placed repo) [] e found parted)
 
 pub returns-in_err-parted : goal.returns-in_err-parted
 returns-in_err-parted g c = λ b e found. let p = err_from_is_err_and c.from_residual-in_err-parted.result c.from_residual-in_err-parted.ensures.1 in rw (p.1, p.2) (c.in_err-parted.ensures b found)
@@ -24,16 +24,16 @@ returns-in_err-chosen-2 g c = λ b e found.
     let p = err_from_is_err_and c.from_residual-in_err-chosen-2.result c.from_residual-in_err-chosen-2.ensures.1 in rw (p.1, p.2)
     (c.in_err-chosen-2.ensures c.args.repo.now.patches b c.in_ok-parted.parted.front.items c.in_ok-parted.parted.rest.items e found (c.in_ok-parted.ensures b found))
 
-pub returns-in_err-fits : goal.returns-in_err-fits
-returns-in_err-fits g c = λ b e found.
+pub returns-in_err-check_fit : goal.returns-in_err-check_fit
+returns-in_err-check_fit g c = λ b e found.
     let repo = c.args.repo.now.patches in
     let rest = c.in_ok-parted.parted.rest.items in
     let chosen = c.in_ok-chosen-2.ensures repo b c.in_ok-parted.parted.front.items rest e found (c.in_ok-parted.ensures b found) in
-    let p = err_from_is_err_and c.from_residual-in_err-fits.result c.from_residual-in_err-fits.ensures.1 in rw (p.1, p.2) (c.in_err-fits.ensures repo b rest (rw (c.deref-2.ensures.value, c.deref-3.ensures.value) chosen))
+    let p = err_from_is_err_and c.from_residual-in_err-check_fit.result c.from_residual-in_err-check_fit.ensures.1 in rw (p.1, p.2) (c.in_err-check_fit.ensures repo b rest (rw (c.deref-2.ensures.value, c.deref-3.ensures.value) chosen))
 
 pub returns : goal.returns
 returns g c = λ b e found.
     let repo = c.args.repo.now.patches in
     let rest = c.in_ok-parted.parted.rest.items in
     let chosen = c.in_ok-chosen-2.ensures repo b c.in_ok-parted.parted.front.items rest e found (c.in_ok-parted.ensures b found) in
-    c.merge.ensures b (rw c.deref-3.ensures.value at (c.in_ok-fits.ensures repo b rest (rw (c.deref-2.ensures.value, c.deref-3.ensures.value) chosen)))
+    c.merge.ensures b (rw c.deref-3.ensures.value at (c.in_ok-check_fit.ensures repo b rest (rw (c.deref-2.ensures.value, c.deref-3.ensures.value) chosen)))

@@ -1,6 +1,6 @@
 use Rattle.std.proofs.Common.{◌≡◌, ◌∙◌, sym, ap}
 use Rattle.std.specs.Ordering.{is_eq}
-use Rattle.dm_tree.specs.Parts.{is_name}
+use Rattle.dm_tree.specs.Validity.{is_name}
 use Rattle.dm_tree.proofs.Children.{name_equal, name_self}
 use Rattle.dm_tree.proofs.bytes.is_same.Goals as goal
 

@@ -1,6 +1,6 @@
 use Rattle.std.proofs.Common.{arith, ◌≡◌, ◌<◌, ◌∙◌, ◌++◌, ◌∷◌, [], length, sym, ap, subst, get_or}
 use Rattle.dm_tree.specs.Trees.{Entry}
-use Rattle.dm_tree.specs.Children.{Child, Rows, all, below, flatten, IsRising}
+use Rattle.dm_tree.specs.Children.{Child, PathEntries, all, below, flatten, IsRising}
 use Rattle.dm_tree.specs.Nested.{IsGood}
 use Rattle.dm_tree.specs.Walks.{AreGood}
 use Rattle.dm_tree.specs.NodeFalls.{one_le}
@@ -36,7 +36,7 @@ list_node-list_children-requires g t c κs within =
     let view : dir_child c.node.inside.name c.in-Children.children.items ≡ k = rw c.in-Children.is at c.node.view_is in
     let under : flatten c.in-Children.children.items ≡ k.under = ap (λ (x : Child). x.under) view in
     let children : c.deref-in-Children-2.result.now ≡ c.in-Children.children.items = c.deref-in-Children-2.ensures.value in
-    let size : length (flatten c.deref-in-Children-2.result.now) ≡ length k.under = ap (λ l. length (flatten l)) children ∙ ap (λ (u : Rows). length u) under in
+    let size : length (flatten c.deref-in-Children-2.result.now) ≡ length k.under = ap (λ l. length (flatten l)) children ∙ ap (λ (u : PathEntries). length u) under in
     let rising : IsRising c.in-Children.children.items = subst IsGood c.in-Children.is c.node.invariant in
     let names = c.deref-in-Children-3.ensures.value ∙ c.in_ok-names-in-Children.ensures ∙ ap (λ n. c.args.above.now ++ n ∷ []) c.name-in-Children.ensures in
     let good = good_below c.args.above.now k.name k.under c.requires.good.1 in

@@ -1,7 +1,7 @@
 use Rattle.std.proofs.Common.{refl, sym, ap, subst, ◌∙◌, ◌≡◌, Some, None}
 use Rattle.std.specs.FinMap as map
 use Rattle.std.specs.FinMap.{get}
-use Rattle.dm_tree.specs.Changes.{Adds}
+use Rattle.dm_tree.specs.Changes.{AddAnswers}
 use Rattle.dm_tree.specs.Children.{look}
 use Rattle.dm_tree.specs.Walks.{SetsAt, leaf_entry}
 use Rattle.dm_tree.proofs.Renames.{adds_refused, refuses_add_of}
@@ -31,7 +31,7 @@ returns-in_err-add-clause-fault g c =
     let ks = c.self.inside.children.items in
     let p = c.args.path.now in
     let is_map : look ks ≡ get c.args.self.now = sym (get-tree_of ks) ∙ ap get c.self.view_is in
-    err_memory (Adds (get c.args.self.now) p) c.from_residual.result c.from_residual.ensures.1 (refuses_add_of (get c.args.self.now) ks _ p _ None is_map c.deref.ensures.value c.names.ensures.value c.in_default.ensures)
+    err_memory (AddAnswers (get c.args.self.now) p) c.from_residual.result c.from_residual.ensures.1 (refuses_add_of (get c.args.self.now) ks _ p _ None is_map c.deref.ensures.value c.names.ensures.value c.in_default.ensures)
 
 pub invariant_of-self-2 : goal.invariant_of-self-2
 invariant_of-self-2 g c =

@@ -2,7 +2,7 @@ use Rattle.std.proofs.Common.{sym, ap, subst, ◌∙◌, ◌≡◌, ◌+◌, ◌
 use Rattle.std.specs.FinMap.{get, insert}
 use Rattle.std.specs.List.{splice}
 use Rattle.dm_tree.specs.Trees.{Lines, File}
-use Rattle.dm_tree.specs.Changes.{EditsFile}
+use Rattle.dm_tree.specs.Changes.{EditAnswers}
 use Rattle.dm_tree.specs.Children.{look}
 use Rattle.dm_tree.specs.Nested.{entry_of}
 use Rattle.dm_tree.specs.Walks.{SetsAt, CanSplice, spliced}
@@ -36,7 +36,7 @@ returns-in_err-fresh-clause-fault g c =
     let new = c.args.new.now in
     let at_file : get c.args.self.now p ≡ Some (File ls) = sym c.in-Some-Text.ensures.value ∙ ap (λ b. Some (entry_of b)) c.in-Some-Text.field-0-is in
     let edits = refuses_edit_of ls _ n old _ new _ None c.deref.ensures.value c.lines.ensures.value c.lines-in-Some-Text.ensures.value c.in_default.ensures in
-    err_memory (EditsFile (get c.args.self.now) p n old new) c.from_residual.result c.from_residual.ensures.1 (ls, edits.0, at_file, edits.1)
+    err_memory (EditAnswers (get c.args.self.now) p n old new) c.from_residual.result c.from_residual.ensures.1 (ls, edits.0, at_file, edits.1)
 
 pub edit_at-requires-clause-may : goal.edit_at-requires-clause-may
 edit_at-requires-clause-may g c =
@@ -65,7 +65,7 @@ returns-in_err-edit_at-clause-fault g c =
     let new = c.args.new.now in
     let at_file : get c.args.self.now p ≡ Some (File ls) = sym c.in-Some-Text.ensures.value ∙ ap (λ b. Some (entry_of b)) c.in-Some-Text.field-0-is in
     let edits = refuses_edit_of ls _ n old _ new _ None c.deref.ensures.value c.lines.ensures.value c.lines-in-Some-Text.ensures.value c.in_default.ensures in
-    err_memory (EditsFile (get c.args.self.now) p n old new) c.from_residual-in_err-edit_at.result c.from_residual-in_err-edit_at.ensures.1 (ls, edits.0, at_file, edits.1)
+    err_memory (EditAnswers (get c.args.self.now) p n old new) c.from_residual-in_err-edit_at.result c.from_residual-in_err-edit_at.ensures.1 (ls, edits.0, at_file, edits.1)
 
 pub invariant_of-self-2 : goal.invariant_of-self-2
 invariant_of-self-2 g c =

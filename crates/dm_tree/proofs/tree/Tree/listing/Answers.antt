@@ -1,8 +1,8 @@
 use Rattle.std.proofs.Common.{◌∙◌, ◌++◌, [], sym, ap, subst, drop, map}
 use Rattle.std.specs.FinMap.{entries}
 use Rattle.dm_tree.specs.Paths.{Path}
-use Rattle.dm_tree.specs.Listings.{row_of}
-use Rattle.dm_tree.specs.Children.{Rows, flatten}
+use Rattle.dm_tree.specs.Listings.{listed_entry}
+use Rattle.dm_tree.specs.Children.{PathEntries, flatten}
 use Rattle.dm_tree.specs.Walks.{AreGood, InOrder, listed}
 use Rattle.dm_tree.proofs.Listings.{good_tree, listed_root, entries_tree}
 use Rattle.dm_tree.proofs.tree.Tree.listing.Goals as goal
@@ -22,5 +22,5 @@ returns g c =
     ∙ ap (λ (p : Path). listed p (flatten c.deref.result.now)) (c.deref-2.ensures.value ∙ c.new-root.ensures.items)
     ∙ ap (λ l. listed [] (flatten l)) c.deref.ensures.value
     ∙ listed_root (flatten ks)
-    ∙ ap (λ (es : Rows). map row_of (drop 1 es)) (sym (entries_tree ks sorted))
-    ∙ ap (λ t. map row_of (drop 1 (entries t))) c.self.view_is
+    ∙ ap (λ (es : PathEntries). map listed_entry (drop 1 es)) (sym (entries_tree ks sorted))
+    ∙ ap (λ t. map listed_entry (drop 1 (entries t))) c.self.view_is

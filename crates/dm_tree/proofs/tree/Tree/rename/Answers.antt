@@ -1,6 +1,6 @@
 use Rattle.std.proofs.Common.{refl, sym, ap, subst, ◌∙◌, ◌≡◌, Ok, Err}
 use Rattle.std.specs.FinMap.{get}
-use Rattle.dm_tree.specs.Changes.{Renamed, Renames}
+use Rattle.dm_tree.specs.Changes.{Renamed, RenameAnswers}
 use Rattle.dm_tree.specs.Children.{look}
 use Rattle.dm_tree.proofs.Moved.{moved_tree}
 use Rattle.dm_tree.proofs.Renames.{renames_of}
@@ -16,28 +16,28 @@ returns-in-Err-clause-fault g c =
     let is_map : look ks ≡ get c.args.self.now = sym (get-tree_of ks) ∙ ap get c.self.view_is in
     renames_of (get c.args.self.now) ks _ a _ b _ (Err c.in-Err.fault) is_map c.deref.ensures.value c.names.ensures.value c.names-2.ensures.value c.in-Err.ensures
 
-pub shift-requires-clause-may : goal.shift-requires-clause-may
-shift-requires-clause-may g c =
+pub move_node-requires-clause-may : goal.move_node-requires-clause-may
+move_node-requires-clause-may g c =
     let ks = c.self.inside.children.items in
     (renames_of (look ks) ks _ c.names-3.result.now _ c.names-4.result.now _ (Ok tt) refl c.deref.ensures.value (c.names.ensures.value ∙ sym c.names-3.ensures.value) (c.names-2.ensures.value ∙ sym c.names-4.ensures.value) c.in_default.ensures).0
 
-pub returns-in_err-shift-clause-fault : goal.returns-in_err-shift-clause-fault
-returns-in_err-shift-clause-fault g c =
+pub returns-in_err-move_node-clause-fault : goal.returns-in_err-move_node-clause-fault
+returns-in_err-move_node-clause-fault g c =
     let ks = c.self.inside.children.items in
     let a = c.args.from.now in
     let b = c.args.to.now in
     let is_map : look ks ≡ get c.args.self.now = sym (get-tree_of ks) ∙ ap get c.self.view_is in
-    err_memory (Renames (get c.args.self.now) a b) c.from_residual.result c.from_residual.ensures.1 (renames_of (get c.args.self.now) ks _ a _ b _ (Ok tt) is_map c.deref.ensures.value c.names.ensures.value c.names-2.ensures.value c.in_default.ensures)
+    err_memory (RenameAnswers (get c.args.self.now) a b) c.from_residual.result c.from_residual.ensures.1 (renames_of (get c.args.self.now) ks _ a _ b _ (Ok tt) is_map c.deref.ensures.value c.names.ensures.value c.names-2.ensures.value c.in_default.ensures)
 
 pub invariant_of-self-2 : goal.invariant_of-self-2
 invariant_of-self-2 g c =
     let ks = c.self.inside.children.items in
-    let new = c.shift.new.children.items in
+    let new = c.move_node.new.children.items in
     let a = c.args.from.now in
     let b = c.args.to.now in
     let may = renames_of (look ks) ks _ a _ b _ (Ok tt) refl c.deref.ensures.value c.names.ensures.value c.names-2.ensures.value c.in_default.ensures in
-    let ren : Renamed a b (look ks) (look new) = subst (λ y. Renamed a y (look ks) (look new)) c.names-4.ensures.value (subst (λ x. Renamed x c.names-4.result.now (look ks) (look new)) c.names-3.ensures.value c.in_ok-shift.ensures.ok) in
-    moved_tree ks new a b c.self.invariant c.shift.ensures.rising may.0 c.names-2.ensures.good may.1 ren
+    let ren : Renamed a b (look ks) (look new) = subst (λ y. Renamed a y (look ks) (look new)) c.names-4.ensures.value (subst (λ x. Renamed x c.names-4.result.now (look ks) (look new)) c.names-3.ensures.value c.in_ok-move_node.ensures.ok) in
+    moved_tree ks new a b c.self.invariant c.move_node.ensures.rising may.0 c.names-2.ensures.good may.1 ren
 
 pub returns-clause-fault : goal.returns-clause-fault
 returns-clause-fault g c =
@@ -49,10 +49,10 @@ returns-clause-fault g c =
 
 pub returns-clause-ok : goal.returns-clause-ok
 returns-clause-ok g c =
-    let new = c.shift.new.children.items in
+    let new = c.move_node.new.children.items in
     let ks = c.self.inside.children.items in
     let a = c.args.from.now in
     let b = c.args.to.now in
     let is_map : look ks ≡ get c.args.self.now = sym (get-tree_of ks) ∙ ap get c.self.view_is in
-    let ren : Renamed a b (look ks) (look new) = subst (λ y. Renamed a y (look ks) (look new)) c.names-4.ensures.value (subst (λ x. Renamed x c.names-4.result.now (look ks) (look new)) c.names-3.ensures.value c.in_ok-shift.ensures.ok) in
+    let ren : Renamed a b (look ks) (look new) = subst (λ y. Renamed a y (look ks) (look new)) c.names-4.ensures.value (subst (λ x. Renamed x c.names-4.result.now (look ks) (look new)) c.names-3.ensures.value c.in_ok-move_node.ensures.ok) in
     subst (λ m. Renamed a b m (get (tree_of new))) is_map (subst (λ m. Renamed a b (look ks) m) (sym (get-tree_of new)) ren)

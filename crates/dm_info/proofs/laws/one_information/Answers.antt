@@ -1,5 +1,0 @@
-use Rattle.dm_info.proofs.SpellingLemmas.{one_info}
-use Rattle.dm_info.proofs.laws.one_information.Goals as goal
-
-pub returns : goal.returns
-returns c = one_info

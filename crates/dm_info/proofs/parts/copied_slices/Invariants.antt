@@ -1,5 +1,0 @@
-use Rattle.std.proofs.Common.{◌≡◌, map, take}
-use Rattle.dm_info.proofs.parts.copied_slices.Given as goal
-
-abbrev pub invariant-loop-line : goal.invariant-loop-line
-invariant-loop-line g l = map (λ copy. copy.items) l.copies.items ≡ map (λ line. line.now) (take l.line-index l.lines)

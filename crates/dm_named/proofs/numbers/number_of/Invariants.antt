@@ -1,6 +1,0 @@
-use Rattle.std.proofs.Common.{◌≡◌, ◌<◌, ◌^◌, ℕ, get_or, drop}
-use Rattle.dm_named.specs.Words.{IsDigit, number_from}
-use Rattle.dm_named.proofs.numbers.number_of.Given as goal
-
-abbrev pub invariant-loop-digit : goal.invariant-loop-digit
-invariant-loop-digit l = (number_from l.number (drop l.digit-index l.digits) ≡ number_from 0 l.digits) × ((k : ℕ) → k < l.digit-index → IsDigit (get_or l.digits k 0)) × (l.number < 2 ^ 32)

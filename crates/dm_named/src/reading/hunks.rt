@@ -1,0 +1,100 @@
+//! Hunks as text, from behind their path.
+
+ghost use Rattle.std.specs.Prelude.{◌≡◌, ◌≤◌, ℕ, List, length, drop, IfOk, IfErr};
+ghost use Rattle.dm_named.specs.Words.{LineGroup};
+ghost use Rattle.dm_named.specs.Patches.{HunkBody};
+ghost use Rattle.dm_named.specs.Faults as faults;
+
+use crate::fault::{FaultKind, ReadFault};
+use crate::reading::numbers::number_at;
+use crate::text::{begins_at, line_at};
+use dm_prim::{Hunk, HunkFault};
+use dm_tree::{Lines, Path};
+use std::alloc::{AllocError, Allocator};
+
+/// The lines that begin with a byte, without it, and the place behind them.
+fn lines_at<A: Allocator + Copy>(
+    alloc: A,
+    byte: u8,
+    text: &[u8],
+    start: usize,
+) -> Result<(Lines<A>, usize), AllocError>
+    requires { start ≤ length text.now }
+    ensures ok { IfOk result (λ x. LineGroup byte (drop start text.now) x.0 (drop x.1 text.now)) }
+    ensures within { IfOk result (λ x. x.1 ≤ length text.now) }
+    ensures forward { IfOk result (λ x. start ≤ x.1) }
+{
+    let mut lines = Lines::new(alloc);
+    let mut at = start;
+    while begins_at(text, at, byte) {
+        let (line, next) = line_at(text, at + 1);
+        lines.push_plain(line)?;
+        at = next;
+    }
+    Ok((lines, at))
+}
+
+/// The place behind the lines that begin with a space.
+fn skip_lines(text: &[u8], start: usize) -> usize
+    requires { start ≤ length text.now }
+    ensures group { (lines : List (List ℕ)) × LineGroup 32 (drop start text.now) lines (drop result text.now) }
+    ensures within { result ≤ length text.now }
+    ensures forward { start ≤ result }
+{
+    let mut at = start;
+    while begins_at(text, at, b' ') {
+        let (_line, next) = line_at(text, at + 1);
+        at = next;
+    }
+    at
+}
+
+/// A hunk from behind its path, whose word stands at a place, and the place behind it.
+pub(crate) fn hunk_at<A: Allocator + Copy>(
+    alloc: A,
+    path: Path<A>,
+    text: &[u8],
+    hunk: usize,
+    at: usize,
+) -> Result<(Hunk<A>, usize), ReadFault>
+    requires within_at { at ≤ length text.now }
+    requires within_hunk { hunk ≤ length text.now }
+    ensures ok { IfOk result (λ x. HunkBody (drop at text.now) x.0.line x.0.old x.0.new (drop x.1 text.now)) }
+    ensures path { IfOk result (λ x. x.0.path ≡ path) }
+    ensures within { IfOk result (λ x. x.1 ≤ length text.now) }
+    ensures forward { IfOk result (λ x. at ≤ x.1) }
+    ensures err { IfErr result (λ e. faults.HunkFaultAt e.kind (drop hunk text.now) (drop at text.now) (drop e.at text.now)) }
+    ensures place { IfErr result (λ e. e.at ≤ length text.now) }
+{
+    let (line, next) = match number_at(text, at) {
+        Ok(found) => found,
+        Err(e) => {
+            return Err(ReadFault {
+                kind: FaultKind::BadNumber,
+                at: e.at,
+            });
+        }
+    };
+    let olds = skip_lines(text, next);
+    let Ok((old, news)) = lines_at(alloc, b'-', text, olds) else {
+        return Err(ReadFault {
+            kind: FaultKind::NoMemory,
+            at: olds,
+        });
+    };
+    let Ok((new, last)) = lines_at(alloc, b'+', text, news) else {
+        return Err(ReadFault {
+            kind: FaultKind::NoMemory,
+            at: news,
+        });
+    };
+    let end = skip_lines(text, last);
+    match Hunk::new(path, line, old, new) {
+        Ok(hunk) => Ok((hunk, end)),
+        Err(HunkFault::BadLine) => unreachable!(),
+        Err(HunkFault::NoChange) => Err(ReadFault {
+            kind: FaultKind::EmptyHunk,
+            at: hunk,
+        }),
+    }
+}

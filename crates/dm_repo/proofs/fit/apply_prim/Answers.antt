@@ -1,0 +1,13 @@
+use Rattle.std.proofs.Common.{refl}
+use Rattle.std.specs.FinMap as map
+use Rattle.dm_repo.proofs.fit.apply_prim.Goals as goal
+
+pub returns-in-Ok : goal.returns-in-Ok
+returns-in-Ok g c = λ s e. (
+  record { map = map.get c.apply-answer.new.tree; lawful = c.tree_is_lawful.ensures.lawful },
+  refl,
+  record { leads = record { applies = rw (← e) at c.in-Ok.ensures.change }; shallow = c.tree_is_lawful.ensures.shallow },
+)
+
+pub returns-in-Err-NoMemory : goal.returns-in-Err-NoMemory
+returns-in-Err-NoMemory g c = λ s e. tt

@@ -1,0 +1,25 @@
+use Rattle.std.proofs.Common.{rules, ◌≡◌, true, false, refl, sym, ap, length, arith}
+use Rattle.std.proofs.lemmas.List.{drop_all}
+use Rattle.dm_prim.specs.Rectangles.{empty}
+use Rattle.dm_repo.specs.Squares.{Placed, PlacedCommutes}
+use Rattle.dm_repo.proofs.RowSteps.{pass_step, pass_stop, placed_square, no_placed_square}
+use Rattle.dm_repo.proofs.passing.pass.Goals as goal
+
+pub loop-k-init : goal.loop-k-init
+loop-k-init g c = record { passed = rw (drop_all (length c.args.rest.now) c.args.rest.now (omega arith)) empty; ahead = refl }
+
+pub returns-then-not-branch : goal.returns-then-not-branch
+returns-then-not-branch g c =
+    let no : c.in_ok-commute_square.field-0 ≡ false = search rules in (
+      c.index-rest-k.result,
+      ap (λ (x : Placed). x.0) (sym c.index-rest-k.is),
+      pass_stop PlacedCommutes c.args.rest.now c.loop-k.rest c.loop-k.k c.index-rest-k.result (search rules) (search rules) (search rules) c.loop-k.invariant.ahead c.index-rest-k.is c.loop-k.invariant.passed
+          (no_placed_square _ c.loop-k.patch (rw no at c.in_ok-commute_square.ensures)),
+    )
+
+pub loop-k-preserved : goal.loop-k-preserved
+loop-k-preserved g c =
+    let yes : c.in_ok-commute_square.field-0 ≡ true = search rules in
+    let s = pass_step PlacedCommutes c.args.rest.now c.loop-k.rest c.loop-k.k c.index-rest-k.result _ (search rules) (search rules) (search rules) c.loop-k.invariant.ahead c.loop-k.invariant.passed
+    (placed_square _ c.loop-k.patch c.commute_square.new.y c.commute_square.new.x (rw yes at c.in_ok-commute_square.ensures)) in
+    record { passed = s.0; ahead = s.1 }
