@@ -1,4 +1,4 @@
--- The context, information by information.
+-- The context, patch info by patch info.
 use Rattle.std.proofs.Common.{◌≡◌, ◌≢◌, ℕ, List, [], ◌∷◌, ◌++◌, subst}
 use Rattle.std.specs.Prelude.{Contains}
 use Rattle.dm_info.specs.PatchInfo.{PatchInfo}
@@ -14,7 +14,7 @@ use Rattle.dm_bundle.specs.Context.{context_word, ContextWord, AreDisjoint, Cont
 use Rattle.dm_bundle.specs.Faults.{ContextInfoFaultAt, doubled, in_info, ContextFaultAt}
 use Rattle.dm_bundle.proofs.Members.{apart_more}
 
--- informations of which none is known account for the text up to the place, with the white space before it
+-- patch infos of which none is known account for the text up to the place, with the white space before it
 pub record ReadSoFar (known : List PatchInfo) (text : List ℕ) (infos : List PatchInfo) (here : List ℕ) : Type 0 where
   pub mid : List ℕ
   pub read : Many NextInfo text infos mid

@@ -5,7 +5,7 @@ use Rattle.dm_named.specs.Words.{Line}
 use Rattle.dm_bundle.specs.Heading.{heading_line, Summary, Heading}
 use Rattle.dm_named.proofs.GroupLemmas.{one_line}
 
--- reading on behind a line that is not the heading
+-- reading on after a line that is not the heading
 over : (text l rest from r : List ℕ) (ls : List (List ℕ)) → Line text l rest → l ≢ heading_line → Summary text ls from → Line from (heading_line) r → Heading rest r
 over text l rest from r [] line other before h = absurd (other (one_line text l (heading_line) rest r line (subst (λ (t : List ℕ). Line t (heading_line) r) (sym before) h)).0)
 over text l rest from r (m ∷ ms) line other before h =

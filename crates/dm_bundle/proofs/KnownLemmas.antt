@@ -1,4 +1,4 @@
--- What a set of informations tells.
+-- What a set of patch infos tells.
 use Rattle.std.proofs.Common.{◌≡◌, ◌↔◌, ◌⊎◌, Bool, true, false, refl, sym, subst, ◌∙◌, rules, inl, inr}
 use Rattle.std.specs.Prelude.{Contains, MatchBool, not, cond}
 use Rattle.std.specs.BTreeSet.{BTreeSet, contains}

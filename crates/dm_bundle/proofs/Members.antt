@@ -1,4 +1,4 @@
--- Members of lists of informations, and lists without doubles.
+-- Members of lists of patch infos, and lists without doubles.
 use Rattle.std.proofs.Common.{◌≡◌, ◌<◌, ◌+◌, ℕ, zero, suc, List, [], ◌∷◌, ◌++◌, take, length, get_or, sym, ap, subst, ◌∙◌, inl, inr, arith, ◌⊎◌}
 use Rattle.std.specs.Prelude.{Contains}
 use Rattle.std.proofs.lemmas.List.{map-append, take_more}
@@ -42,7 +42,7 @@ info_in [] k p i lt is e = absurd (omega arith)
 info_in (q ∷ ps) zero p i lt is e = here i q.info (infos_of ps) (ap (λ (x : Patch). x.info) (sym is) ∙ e)
 info_in (q ∷ ps) (suc k) p i lt is e = later i q.info (infos_of ps) (info_in ps k p i (omega arith) is e)
 
--- one patch further none has this information
+-- one patch further none has this patch info
 pub none_more : (ps : List Patch) (k : ℕ) (p : Patch) (i : PatchInfo) → k < length ps → p ≡ get_or ps k p → (Contains (infos_of (take k ps)) i → ⊥) → (p.info ≡ i → ⊥) → Contains (infos_of (take (k + 1) ps)) i → ⊥
 none_more ps k p i lt is none other h =
     let e : infos_of (take (k + 1) ps) ≡ infos_of (take k ps) ++ p.info ∷ [] = rw (take_more ps k p lt, ← is) (infos_more (take k ps) p) in

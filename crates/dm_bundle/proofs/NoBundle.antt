@@ -36,15 +36,15 @@ no_due kind ps text here k (in_patch b room none f) = (
 )
 no_due kind ps text here k (no_memory e) = absurd (k.memory e)
 
-no_further : (kind : FaultKind) (ps more : List Patch) (mid rest behind here : List ℕ) → ExcludesPatch kind → DueFaultAt kind (infos_of ps) (skipped mid) here → Many NextPatch mid more rest → ContextWord rest behind → Distinct (infos_of (ps ++ more)) → ⊥
-no_further kind ps [] mid rest behind here k f r w d = (no_due kind ps (skipped mid) here k f).0 behind (subst (λ (t : List ℕ). ContextWord t behind) (sym r) w)
-no_further kind ps (p ∷ more) mid rest behind here k f r w d =
+no_further : (kind : FaultKind) (ps more : List Patch) (mid rest after_word here : List ℕ) → ExcludesPatch kind → DueFaultAt kind (infos_of ps) (skipped mid) here → Many NextPatch mid more rest → ContextWord rest after_word → Distinct (infos_of (ps ++ more)) → ⊥
+no_further kind ps [] mid rest after_word here k f r w d = (no_due kind ps (skipped mid) here k f).0 after_word (subst (λ (t : List ℕ). ContextWord t after_word) (sym r) w)
+no_further kind ps (p ∷ more) mid rest after_word here k f r w d =
     (no_due kind ps (skipped mid) here k f).1 p r.0 r.1 (λ h. distinct_at (infos_of ps) p.info (infos_of more) (subst Distinct (map-append (λ (q : Patch). q.info) ps (p ∷ more)) d) h)
 
 no_new : (kind : FaultKind) (text here : List ℕ) → ExcludesPatch kind → NewPatchesFaultAt kind text here → (b : Contents) → Sections text b → ⊥
 no_new kind text here k f b s =
-    let m = patches_follow text f.patches b.patches f.mid s.between s.behind f.read.read s.patches.read s.word in
-    no_further kind f.patches m.0 f.mid s.between s.behind here k f.wrong m.2 s.word (subst (λ (ps : List Patch). Distinct (infos_of ps)) m.1 s.patches.distinct)
+    let m = patches_follow text f.patches b.patches f.mid s.between s.after_word f.read.read s.patches.read s.word in
+    no_further kind f.patches m.0 f.mid s.between s.after_word here k f.wrong m.2 s.word (subst (λ (ps : List Patch). Distinct (infos_of ps)) m.1 s.patches.distinct)
 
 -- ---- the context
 
@@ -66,10 +66,10 @@ no_context_text kind new text here k f context c =
 
 pub no_sections : (kind : FaultKind) (text here : List ℕ) → ExcludesPatch kind → AfterHeadingFaultAt kind text here → (b : Contents) → Sections text b → ⊥
 no_sections kind text here k (in_new f) b s = no_new kind text here k f b s
-no_sections kind text here k (in_context patches between behind read few word f) b s =
-    let same = one_patches text patches b.patches between s.between behind s.behind read.read s.patches.read word s.word in
-    let words = one_word (skipped s.between) context_word context_word behind s.behind (subst (λ (t : List ℕ). ContextWord t behind) same.1 word) s.word in
-    no_context_text kind (infos_of b.patches) s.behind here k (subst (λ (t : List ℕ). ContextFaultAt kind (infos_of b.patches) t here) words.1 (subst (λ (ps : List Patch). ContextFaultAt kind (infos_of ps) behind here) same.0 f)) b.context s.context
+no_sections kind text here k (in_context patches between after_word read few word f) b s =
+    let same = one_patches text patches b.patches between s.between after_word s.after_word read.read s.patches.read word s.word in
+    let words = one_word (skipped s.between) context_word context_word after_word s.after_word (subst (λ (t : List ℕ). ContextWord t after_word) same.1 word) s.word in
+    no_context_text kind (infos_of b.patches) s.after_word here k (subst (λ (t : List ℕ). ContextFaultAt kind (infos_of b.patches) t here) words.1 (subst (λ (ps : List Patch). ContextFaultAt kind (infos_of ps) after_word here) same.0 f)) b.context s.context
 
 pub fault_excludes_bundle : (text : List ℕ) (kind : FaultKind) (at : ℕ) → ExcludesBundle kind → FaultAt text kind at → (b : Contents) → BundleText text b → ⊥
 fault_excludes_bundle text kind at k (too_large e h n) b t = k.size e

@@ -33,7 +33,7 @@ one_heading text r s a b = one_summary text a.summary b.summary a.here b.here r 
 one_next : (text : List ℕ) (p q : Patch) (r s : List ℕ) → NextPatch text p r → NextPatch text q s → (p ≡ q) × (r ≡ s)
 one_next text p q r s a b = one_patch (skipped text) p q r s a b
 
--- where the word of the context stands, no information does
+-- where the word of the context stands, no patch info does
 pub word_opens : (text rest : List ℕ) → Word text context_word rest → Begins 91 text → ⊥
 word_opens text rest w b = omega (arith, front_same 67 91 (codes "ontext:" ++ rest) b.0 (sym w.parts ∙ b.1))
 
@@ -44,14 +44,14 @@ pub one_patches : (text : List ℕ) (ps qs : List Patch) (r s c d : List ℕ) �
 one_patches text ps qs r s c d a b x y = one_many NextPatch one_next text ps qs r s a b (no_patch_at_context r c x) (no_patch_at_context s d y)
 
 -- of two readings of new patches, of which the context follows one, that one goes on from where the other stands
-pub patches_follow : (text : List ℕ) (ps qs : List Patch) (mid rest behind : List ℕ) → Many NextPatch text ps mid → Many NextPatch text qs rest → ContextWord rest behind → (more : List Patch) × (qs ≡ ps ++ more) × Many NextPatch mid more rest
-patches_follow text ps qs mid rest behind a b w = many_follows NextPatch one_next text ps qs mid rest a b (no_patch_at_context rest behind w)
+pub patches_follow : (text : List ℕ) (ps qs : List Patch) (mid rest after_word : List ℕ) → Many NextPatch text ps mid → Many NextPatch text qs rest → ContextWord rest after_word → (more : List Patch) × (qs ≡ ps ++ more) × Many NextPatch mid more rest
+patches_follow text ps qs mid rest after_word a b w = many_follows NextPatch one_next text ps qs mid rest a b (no_patch_at_context rest after_word w)
 
 one_sections : (text : List ℕ) (a b : Contents) → Sections text a → Sections text b → a ≡ b
 one_sections text a b x y =
-    let patches = one_patches text a.patches b.patches x.between y.between x.behind y.behind x.patches.read y.patches.read x.word y.word in
-    let word = one_word (skipped y.between) context_word context_word x.behind y.behind (subst (λ (t : List ℕ). ContextWord t x.behind) patches.1 x.word) y.word in
-    let infos = one_infos y.behind a.context b.context x.context.rest y.context.rest (subst (λ (t : List ℕ). Many NextInfo t a.context x.context.rest) word.1 x.context.read) y.context.read x.context.ends y.context.ends in
+    let patches = one_patches text a.patches b.patches x.between y.between x.after_word y.after_word x.patches.read y.patches.read x.word y.word in
+    let word = one_word (skipped y.between) context_word context_word x.after_word y.after_word (subst (λ (t : List ℕ). ContextWord t x.after_word) patches.1 x.word) y.word in
+    let infos = one_infos y.after_word a.context b.context x.context.rest y.context.rest (subst (λ (t : List ℕ). Many NextInfo t a.context x.context.rest) word.1 x.context.read) y.context.read x.context.ends y.context.ends in
     λ k. record { patches = patches.0 k; context = infos.0 k }
 
 pub one_bundle : (text : List ℕ) (a b : Contents) → BundleText text a → BundleText text b → a ≡ b

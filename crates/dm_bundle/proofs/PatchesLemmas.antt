@@ -41,7 +41,7 @@ few_all (q ∷ ps) p a f = (a.0, few_all ps p a.1 f)
 pub few_more : (ps : List Patch) (p : Patch) → AreFew ps → length ps < 1000 → length p.prims ≤ 10000 → AreFew (ps ++ p ∷ [])
 few_more ps p few room prims = record { count = omega (arith, room, length-append ps (p ∷ [])); prims = few_all ps p few.prims prims }
 
--- a fault of the information where a patch begins
+-- a fault of the patch info where a patch begins
 pub info_due : (kind : FaultKind) (known : List PatchInfo) (text here : List ℕ) → Begins 91 text → length known < 1000 → InfoFaultAt kind text here → DueFaultAt kind known text here
 info_due K.BadInfo known text here b room f = in_patch b room (λ d. f.1.none d.info d.rest d.stands) (info f)
 info_due K.Inverted known text here b room f = in_patch b room (λ d. not_both text d.info d.rest d.stands f.1) (info f)
@@ -59,11 +59,11 @@ info_due K.NoContext known text here b room f = elim f [ ]
 info_due K.Doubled known text here b room f = elim f [ ]
 info_due K.TooMany known text here b room f = elim f [ ]
 
--- the information that stands in front of a named patch is its own
+-- the patch info that stands in front of a named patch is its own
 pub one_front : (text : List ℕ) (i : PatchInfo) (rest : List ℕ) (p : Patch) (after : List ℕ) → Stands text i rest → PatchText text p after → i ≡ p.info
 one_front text i rest p after s t = (one_info text i p.info rest t.after s t.info).0
 
--- an information that is new is no double
+-- a patch info that is new is no double
 pub not_doubled : (known : List PatchInfo) (text : List ℕ) (i : PatchInfo) (rest : List ℕ) → Stands text i rest → (Contains known i → ⊥) → IsDoubled known text → ⊥
 not_doubled known text i rest s none d = none (subst (Contains known) (one_info text d.info i d.rest rest d.stands s).0 d.is_known)
 

@@ -14,7 +14,7 @@ use Rattle.dm_bundle.specs.Context.{context_word}
 use Rattle.dm_bundle.specs.Bundles.{Contents, IsGoodBundle, BundleText}
 use Rattle.dm_bundle.specs.Canonical.{bundle_text}
 
--- new patches stand in a text; a newline may be left behind them
+-- new patches stand in a text; a newline may be left after them
 record ReadsPatches (text : List ℕ) (ps : List Patch) (rest : List ℕ) : Type 0 where
   pub mid : List ℕ
   pub read : Many NextPatch text ps mid
@@ -68,7 +68,7 @@ round_trip b good =
       heading = record { summary = []; here = bundle_text b; before = refl; line = record { free = (refl, (refl, (refl, (refl, (refl, (refl, (refl, (refl, (refl, (refl, (refl, (refl, tt)))))))))))); parts = inl refl } };
       sections = record {
         between = new.mid;
-        behind = 10 ∷ 10 ∷ infos;
+        after_word = 10 ∷ 10 ∷ infos;
         patches = record { read = new.read; distinct = good.no_doubles.distinct };
         word = subst (λ (t : List ℕ). Word t context_word (10 ∷ 10 ∷ infos)) (sym new.left) (record { parts = refl; solid = (refl, (refl, (refl, (refl, (refl, (refl, (refl, (refl, tt)))))))); ends = refl });
         context = record { rest = is.mid; read = is.read; ends = λ o. nothing o.0 (sym is.left ∙ o.1); apart = good.no_doubles.apart };

@@ -1,4 +1,4 @@
--- A text of a bundle within the limits has no fault but want of memory.
+-- A text of a bundle within the limits has no fault but out of memory.
 use Rattle.std.proofs.Common.{◌≡◌, ◌≢◌, ◌≤◌, ◌<◌, ℕ, List, [], ◌∷◌, ◌++◌, length, drop, refl, sym, subst, arith}
 use Rattle.std.specs.List.{AllByRecursion}
 use Rattle.std.proofs.lemmas.List.{length-append}
@@ -22,32 +22,32 @@ few_at [] p more a = a.0
 few_at (q ∷ ps) p more a = few_at ps p more a.1
 
 -- what is one too many goes past what may be there
-not_due : (ps more : List Patch) (mid rest behind here : List ℕ) → DueFaultAt K.TooMany (infos_of ps) (skipped mid) here → Many NextPatch mid more rest → ContextWord rest behind → AreFew (ps ++ more) → ⊥
-not_due ps more mid rest behind here (no_context e h i w) r c few = cc e
-not_due ps [] mid rest behind here (too_many e h b n) r c few = word_opens (skipped mid) behind (subst (λ (t : List ℕ). ContextWord t behind) (sym r) c) b
-not_due ps (p ∷ more) mid rest behind here (too_many e h b n) r c few = let count = few.count in omega (arith, n, count, count_map ps, length-append ps (p ∷ more))
-not_due ps more mid rest behind here (doubled e h room d) r c few = cc e
-not_due ps [] mid rest behind here (in_patch b room none f) r c few = word_opens (skipped mid) behind (subst (λ (t : List ℕ). ContextWord t behind) (sym r) c) b
-not_due ps (p ∷ more) mid rest behind here (in_patch b room none f) r c few =
+not_due : (ps more : List Patch) (mid rest after_word here : List ℕ) → DueFaultAt K.TooMany (infos_of ps) (skipped mid) here → Many NextPatch mid more rest → ContextWord rest after_word → AreFew (ps ++ more) → ⊥
+not_due ps more mid rest after_word here (no_context e h i w) r c few = cc e
+not_due ps [] mid rest after_word here (too_many e h b n) r c few = word_opens (skipped mid) after_word (subst (λ (t : List ℕ). ContextWord t after_word) (sym r) c) b
+not_due ps (p ∷ more) mid rest after_word here (too_many e h b n) r c few = let count = few.count in omega (arith, n, count, count_map ps, length-append ps (p ∷ more))
+not_due ps more mid rest after_word here (doubled e h room d) r c few = cc e
+not_due ps [] mid rest after_word here (in_patch b room none f) r c few = word_opens (skipped mid) after_word (subst (λ (t : List ℕ). ContextWord t after_word) (sym r) c) b
+not_due ps (p ∷ more) mid rest after_word here (in_patch b room none f) r c few =
     let past = past_patch (skipped mid) here f p r.0 r.1 in
     let least = few_at ps p more few.prims in
     omega (arith, past, least)
-not_due ps more mid rest behind here (no_memory e) r c few = cc e
+not_due ps more mid rest after_word here (no_memory e) r c few = cc e
 
 not_known : (known : List PatchInfo) (text here : List ℕ) → ContextInfoFaultAt K.TooMany known text here → ⊥
 not_known known text here (doubled e h d) = cc e
 not_known known text here (in_info b f) = f
 
-not_behind : (text here : List ℕ) → AfterHeadingFaultAt K.TooMany text here → (b : Contents) → Sections text b → AreFew b.patches → ⊥
-not_behind text here (in_new f) b s few =
-    let m = patches_follow text f.patches b.patches f.mid s.between s.behind f.read.read s.patches.read s.word in
-    not_due f.patches m.0 f.mid s.between s.behind here f.wrong m.2 s.word (subst AreFew m.1 few)
-not_behind text here (in_context patches between behind read count word f) b s few = not_known (infos_of patches) (skipped f.mid) here f.wrong
+not_after_heading : (text here : List ℕ) → AfterHeadingFaultAt K.TooMany text here → (b : Contents) → Sections text b → AreFew b.patches → ⊥
+not_after_heading text here (in_new f) b s few =
+    let m = patches_follow text f.patches b.patches f.mid s.between s.after_word f.read.read s.patches.read s.word in
+    not_due f.patches m.0 f.mid s.between s.after_word here f.wrong m.2 s.word (subst AreFew m.1 few)
+not_after_heading text here (in_context patches between after_word read count word f) b s few = not_known (infos_of patches) (skipped f.mid) here f.wrong
 
 not_too_many : (text : List ℕ) (at : ℕ) → FaultAt text K.TooMany at → (b : Contents) → BundleText text b → AreFew b.patches → ⊥
 not_too_many text at (too_large e h n) b t few = cc e
 not_too_many text at (no_new_patches e h n none) b t few = cc e
-not_too_many text at (after_heading m le n new heading f) b t few = not_behind new (drop at text) f b (subst (λ (u : List ℕ). Sections u b) (one_heading text t.new new t.heading heading) t.sections) few
+not_too_many text at (after_heading m le n new heading f) b t few = not_after_heading new (drop at text) f b (subst (λ (u : List ℕ). Sections u b) (one_heading text t.new new t.heading heading) t.sections) few
 
 not_too_large : (text : List ℕ) (at : ℕ) → FaultAt text K.TooLarge at → (b : Contents) → BundleText text b → IsWithinSize text → ⊥
 not_too_large text at (too_large e h n) b t fits = omega (arith, n, fits)

@@ -7,12 +7,12 @@ use Rattle.dm_bundle.specs.Heading.{Heading}
 use Rattle.dm_bundle.specs.Patches.{infos_of, Distinct, NewPatches}
 use Rattle.dm_bundle.specs.Context.{ContextWord, AreDisjoint, Context}
 
--- the new patches, oldest first, and the informations of the context
+-- the new patches, oldest first, and the patch infos of the context
 pub record Contents : Type 0 where
   pub patches : List Patch
   pub context : List PatchInfo
 
--- no information is twice among the new patches, nor both there and in the context
+-- no patch info is twice among the new patches, nor both there and in the context
 pub record HasNoDoubles (patches : List Patch) (context : List PatchInfo) : Type 0 where
   pub distinct : Distinct (infos_of patches)
   pub apart : AreDisjoint (infos_of patches) context
@@ -23,15 +23,15 @@ pub record IsGoodBundle (b : Contents) : Type 0 where
   pub context : AllByRecursion IsInfo b.context
   pub no_doubles : HasNoDoubles b.patches b.context
 
--- behind the heading: the new patches, the word `Context:` and the context, each from where the one before it ends
+-- after the heading: the new patches, the word `Context:` and the context, each from where the one before it ends
 pub record Sections (text : List ℕ) (b : Contents) : Type 0 where
   pub between : List ℕ
-  pub behind : List ℕ
+  pub after_word : List ℕ
   pub patches : NewPatches text b.patches between
-  pub word : ContextWord between behind
-  pub context : Context (infos_of b.patches) behind b.context
+  pub word : ContextWord between after_word
+  pub context : Context (infos_of b.patches) after_word b.context
 
--- the text stands for the bundle: the heading, and the rest behind it
+-- the text stands for the bundle: the heading, and the rest after it
 pub record BundleText (text : List ℕ) (b : Contents) : Type 0 where
   pub new : List ℕ
   pub heading : Heading text new

@@ -1,6 +1,7 @@
--- The context of a bundle: the informations that it rests on.
+-- The context of a bundle: the patch infos that it rests on.
 use Rattle.std.specs.Prelude.{ℕ, List, codes, Contains}
 use Rattle.dm_info.specs.PatchInfo.{PatchInfo}
+use Rattle.dm_info.specs.Spelling.{open_bracket}
 use Rattle.dm_named.specs.Many.{Many}
 use Rattle.dm_named.specs.Words.{skipped, Begins, Word}
 use Rattle.dm_named.specs.Patches.{NextInfo}
@@ -9,17 +10,17 @@ use Rattle.dm_named.specs.Patches.{NextInfo}
 abbrev pub context_word : List ℕ
 context_word = codes "Context:"
 
--- that word, behind white space
+-- that word, after white space
 abbrev pub ContextWord : List ℕ → List ℕ → Type 0
 ContextWord text rest = Word (skipped text) context_word rest
 
--- no information is in both
+-- no patch info is in both
 abbrev pub AreDisjoint : List PatchInfo → List PatchInfo → Type 0
 AreDisjoint new context = (i : PatchInfo) → Contains new i → Contains context i → ⊥
 
--- as many informations as stand there, each behind white space, and none of a new patch; what follows them is left unread
+-- as many patch infos as stand there, each after white space, and none of a new patch; what follows them is left unread
 pub record Context (new : List PatchInfo) (text : List ℕ) (context : List PatchInfo) : Type 0 where
   pub rest : List ℕ
   pub read : Many NextInfo text context rest
-  pub ends : Begins 91 (skipped rest) → ⊥
+  pub ends : Begins open_bracket (skipped rest) → ⊥
   pub apart : AreDisjoint new context

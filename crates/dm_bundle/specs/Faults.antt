@@ -1,7 +1,7 @@
 -- What can be wrong with a bundle's text, and where: the text before the place is accounted for, and the part due there is missing.
 use Rattle.std.specs.Prelude.{◌≡◌, ◌≢◌, ◌≤◌, ◌<◌, ℕ, List, length, drop, Contains}
 use Rattle.dm_info.specs.PatchInfo.{PatchInfo}
-use Rattle.dm_info.specs.Spelling.{Stands}
+use Rattle.dm_info.specs.Spelling.{Stands, open_bracket}
 use Rattle.dm_named.specs.Many.{Many}
 use Rattle.dm_named.specs.Words.{skipped, Begins, Word}
 use Rattle.dm_named.specs.Patches.{Patch, NextInfo}
@@ -12,30 +12,34 @@ use Rattle.dm_bundle.specs.Heading.{Heading}
 use Rattle.dm_bundle.specs.Patches.{infos_of, NewPatches, AreFew}
 use Rattle.dm_bundle.specs.Context.{context_word, ContextWord, AreDisjoint}
 
--- at most 4,194,304 bytes
+-- a bundle's text has at most so many bytes
+abbrev pub most_bytes : ℕ
+most_bytes = 4194304
+
+-- the text is not too large
 abbrev pub IsWithinSize : List ℕ → Type 0
-IsWithinSize text = length text ≤ 4194304
+IsWithinSize text = length text ≤ most_bytes
 
 -- no line is the heading
 abbrev pub HasNoHeading : List ℕ → Type 0
 HasNoHeading text = (rest : List ℕ) → Heading text rest → ⊥
 
--- the information here is one of those known
+-- the patch info here is one of those known
 pub record IsDoubled (known : List PatchInfo) (here : List ℕ) : Type 0 where
   pub info : PatchInfo
   pub rest : List ℕ
   pub stands : Stands here info rest
   pub is_known : Contains known info
 
--- where a named patch or the word `Context:` is due, behind patches of these informations: something else; one patch too many; a doubled patch; or a fault of the patch's own
+-- where a named patch or the word `Context:` is due, after patches of these patch infos: something else; one patch too many; a doubled patch; or a fault of the patch's own
 pub data DueFaultAt (kind : FaultKind) (known : List PatchInfo) (text here : List ℕ) : Type 0 where
-  no_context : kind ≡ NoContext → here ≡ text → (Begins 91 text → ⊥) → ((rest : List ℕ) → Word text context_word rest → ⊥) → DueFaultAt kind known text here
-  too_many : kind ≡ TooMany → here ≡ text → Begins 91 text → length known ≡ 1000 → DueFaultAt kind known text here
+  no_context : kind ≡ NoContext → here ≡ text → (Begins open_bracket text → ⊥) → ((rest : List ℕ) → Word text context_word rest → ⊥) → DueFaultAt kind known text here
+  too_many : kind ≡ TooMany → here ≡ text → Begins open_bracket text → length known ≡ 1000 → DueFaultAt kind known text here
   doubled : kind ≡ Doubled → here ≡ text → length known < 1000 → IsDoubled known text → DueFaultAt kind known text here
-  in_patch : Begins 91 text → length known < 1000 → (IsDoubled known text → ⊥) → PatchFaultAt kind text here → DueFaultAt kind known text here
+  in_patch : Begins open_bracket text → length known < 1000 → (IsDoubled known text → ⊥) → PatchFaultAt kind text here → DueFaultAt kind known text here
   no_memory : kind ≡ NoMemory → DueFaultAt kind known text here
 
--- behind new patches, not too many, the next one is at fault, or what stands in its place
+-- after new patches, not too many, the next one is at fault, or what stands in its place
 pub record NewPatchesFaultAt (kind : FaultKind) (text here : List ℕ) : Type 0 where
   pub patches : List Patch
   pub mid : List ℕ
@@ -43,12 +47,12 @@ pub record NewPatchesFaultAt (kind : FaultKind) (text here : List ℕ) : Type 0 
   pub few : AreFew patches
   pub wrong : DueFaultAt kind (infos_of patches) (skipped mid) here
 
--- where an information of the context stands: it is that of a new patch, or no information
+-- where a patch info of the context stands: it is that of a new patch, or no patch info
 pub data ContextInfoFaultAt (kind : FaultKind) (known : List PatchInfo) (text here : List ℕ) : Type 0 where
   doubled : kind ≡ Doubled → here ≡ text → IsDoubled known text → ContextInfoFaultAt kind known text here
-  in_info : Begins 91 text → InfoFaultAt kind text here → ContextInfoFaultAt kind known text here
+  in_info : Begins open_bracket text → InfoFaultAt kind text here → ContextInfoFaultAt kind known text here
 
--- behind informations of the context, none of a new patch, the next one is at fault
+-- after patch infos of the context, none of a new patch, the next one is at fault
 pub record ContextFaultAt (kind : FaultKind) (new : List PatchInfo) (text here : List ℕ) : Type 0 where
   pub infos : List PatchInfo
   pub mid : List ℕ
@@ -56,14 +60,14 @@ pub record ContextFaultAt (kind : FaultKind) (new : List PatchInfo) (text here :
   pub apart : AreDisjoint new infos
   pub wrong : ContextInfoFaultAt kind new (skipped mid) here
 
--- a fault behind the heading: among the new patches, or behind them and the word `Context:`
+-- a fault after the heading: among the new patches, or after them and the word `Context:`
 pub data AfterHeadingFaultAt (kind : FaultKind) (text here : List ℕ) : Type 0 where
   in_new : NewPatchesFaultAt kind text here → AfterHeadingFaultAt kind text here
-  in_context : (patches : List Patch) (between behind : List ℕ) → NewPatches text patches between → AreFew patches → ContextWord between behind → ContextFaultAt kind (infos_of patches) behind here → AfterHeadingFaultAt kind text here
+  in_context : (patches : List Patch) (between after_word : List ℕ) → NewPatches text patches between → AreFew patches → ContextWord between after_word → ContextFaultAt kind (infos_of patches) after_word here → AfterHeadingFaultAt kind text here
 
--- The fault of a text and its place: too many bytes, else no heading, else a fault behind the heading. Want of memory is none.
+-- The fault of a text and its place: too many bytes, else no heading, else a fault after the heading. Running out of memory is none.
 pub data FaultAt (text : List ℕ) (kind : FaultKind) (at : ℕ) : Type 0 where
-  too_large : kind ≡ TooLarge → at ≡ 4194304 → 4194304 < length text → FaultAt text kind at
+  too_large : kind ≡ TooLarge → at ≡ most_bytes → most_bytes < length text → FaultAt text kind at
   no_new_patches : kind ≡ NoNewPatches → at ≡ length text → IsWithinSize text → HasNoHeading text → FaultAt text kind at
   after_heading : kind ≢ NoMemory → at ≤ length text → IsWithinSize text → (new : List ℕ) → Heading text new → AfterHeadingFaultAt kind new (drop at text) → FaultAt text kind at
 

@@ -1,4 +1,4 @@
--- The heading of a bundle, behind a summary for people (Darcs.Patch.Bundle).
+-- The heading of a bundle, after a summary for people (Darcs.Patch.Bundle).
 use Rattle.std.specs.Prelude.{◌≡◌, ◌≢◌, ℕ, List, [], ◌∷◌, ◌++◌, codes}
 use Rattle.dm_named.specs.Words.{NoNewline, Line}
 
@@ -11,7 +11,7 @@ abbrev pub Summary : List ℕ → List (List ℕ) → List ℕ → Type 0
 Summary text [] rest = text ≡ rest
 Summary text (l ∷ ls) rest = (after : List ℕ) × (text ≡ l ++ 10 ∷ after) × NoNewline l × (l ≢ heading_line) × Summary after ls rest
 
--- the first line that is exactly the heading, and what is left behind it
+-- the first line that is exactly the heading, and what is left after it
 pub record Heading (text rest : List ℕ) : Type 0 where
   pub summary : List (List ℕ)
   pub here : List ℕ

@@ -6,11 +6,11 @@ use Rattle.dm_named.specs.Many.{Many}
 use Rattle.dm_named.specs.Words.{skipped}
 use Rattle.dm_named.specs.Patches.{Patch, PatchText}
 
--- the informations of patches
+-- the patch infos of patches
 abbrev pub infos_of : List Patch → List PatchInfo
 infos_of patches = map (λ p. p.info) patches
 
--- no information is twice among these
+-- no patch info is twice among these
 abbrev pub Distinct : List PatchInfo → Type 0
 Distinct [] = Unit {0}
 Distinct (i ∷ is) = (Contains is i → ⊥) × Distinct is
@@ -19,11 +19,11 @@ Distinct (i ∷ is) = (Contains is i → ⊥) × Distinct is
 abbrev pub SameMembers : List PatchInfo → List PatchInfo → Type 0
 SameMembers xs ys = (i : PatchInfo) → Contains xs i ↔ Contains ys i
 
--- a named patch behind white space
+-- a named patch after white space
 abbrev pub NextPatch : List ℕ → Patch → List ℕ → Type 0
 NextPatch text p rest = PatchText (skipped text) p rest
 
--- named patches one after the other, and no information twice among them
+-- named patches one after the other, and no patch info twice among them
 pub record NewPatches (text : List ℕ) (patches : List Patch) (rest : List ℕ) : Type 0 where
   pub read : Many NextPatch text patches rest
   pub distinct : Distinct (infos_of patches)

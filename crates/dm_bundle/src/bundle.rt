@@ -9,13 +9,15 @@ use dm_info::Info;
 use dm_named::Named;
 use std::alloc::Allocator;
 use std::marker::Model;
+use thiserror::Error;
 
-/// An information is twice among the new patches, or both there and in the context.
-#[derive(Clone, Copy, Debug, PartialEq, Eq)]
+/// A patch info is twice among the new patches, or both there and in the context.
+#[derive(Clone, Copy, Debug, PartialEq, Eq, Error)]
+#[error("a patch info stands twice among the new patches, or both there and in the context")]
 pub struct Doubled;
 
-/// New patches, oldest first, and the informations of the patches that they rest on, in any order.
-/// No information is twice among the new patches, nor both there and in the context.
+/// New patches, oldest first, and the patch infos of the patches that they rest on, in any order.
+/// No patch info is twice among the new patches, nor both there and in the context.
 #[derive(Drop)]
 pub struct Bundle<A: Allocator> {
     patches: Vec<Named<A>, A>,
@@ -34,7 +36,7 @@ impl<A: Allocator> Model for Bundle<A> {
 
 impl<A: Allocator> Bundle<A> {
     /// The bundle of these new patches and this context. It takes no memory, so it compares each
-    /// information with those before it; `without_doubles` takes parts that are known to have no doubles.
+    /// patch info with those before it; `without_doubles` takes parts that are known to have no doubles.
     pub fn new(patches: Vec<Named<A>, A>, context: Vec<Info<A>, A>) -> Result<Bundle<A>, Doubled>
         ensures parts { IfOk result (λ b. b ≡ record { patches = patches.items; context = context.items }) }
         ensures no_doubles { IfOk result (λ _. HasNoDoubles patches.items context.items) }
@@ -73,7 +75,7 @@ impl<A: Allocator> Bundle<A> {
         patches
     }
 
-    /// The informations of the context.
+    /// The patch infos of the context.
     pub fn context(&self) -> &[Info<A>]
         ensures { result.now ≡ self.now.context }
     {
@@ -81,7 +83,7 @@ impl<A: Allocator> Bundle<A> {
     }
 }
 
-/// Whether an information is among those of these patches.
+/// Whether a patch info is among those of these patches.
 fn is_among<A: Allocator>(patches: &[Named<A>], info: &Info<A>) -> bool
     ensures { MatchBool result (Contains (infos_of patches.now) info.now) (Contains (infos_of patches.now) info.now → ⊥) }
 {
@@ -93,7 +95,7 @@ fn is_among<A: Allocator>(patches: &[Named<A>], info: &Info<A>) -> bool
     false
 }
 
-/// Whether an information is twice among the new patches.
+/// Whether a patch info is twice among the new patches.
 fn are_doubled<A: Allocator>(patches: &[Named<A>]) -> bool
     ensures { MatchBool result (Distinct (infos_of patches.now) → ⊥) (Distinct (infos_of patches.now)) }
 {
@@ -105,7 +107,7 @@ fn are_doubled<A: Allocator>(patches: &[Named<A>]) -> bool
     false
 }
 
-/// Whether an information of the context is that of a new patch.
+/// Whether a patch info of the context is that of a new patch.
 fn are_mixed<A: Allocator>(patches: &[Named<A>], context: &[Info<A>]) -> bool
     ensures { MatchBool result (AreDisjoint (infos_of patches.now) context.now → ⊥) (AreDisjoint (infos_of patches.now) context.now) }
 {

@@ -13,7 +13,7 @@ fn is_heading(line: &[u8]) -> bool
     line == b"New patches:".as_slice()
 }
 
-/// The place behind the first line that is the heading.
+/// The place after the first line that is the heading.
 pub(crate) fn heading_at(text: &[u8]) -> Option<usize>
     ensures some { IfSome result (λ at. Heading text.now (drop at text.now)) }
     ensures within { IfSome result (λ at. at ≤ length text.now) }

@@ -1,4 +1,4 @@
-//! The informations of new patches, in the order of their comparison.
+//! The patch infos of new patches, in the order of their comparison.
 
 ghost use Rattle.std.specs.Prelude.{◌≡◌, ◌⊎◌, ◌↔◌, [], Contains, MatchBool, IfOk, OnOk};
 ghost use Rattle.dm_info.specs.PatchInfo.{PatchInfo};
@@ -8,7 +8,7 @@ use std::alloc::{AllocError, Allocator};
 use std::collections::BTreeSet;
 use std::marker::Model;
 
-/// A set of informations: to look one up costs some ten comparisons at 1,000 new patches.
+/// A set of patch infos: to look one up costs some ten comparisons at 1,000 new patches.
 #[derive(Drop)]
 pub(crate) struct Known<A: Allocator> {
     infos: BTreeSet<Info<A>, A>,
@@ -32,14 +32,14 @@ impl<A: Allocator + Copy> Known<A> {
         }
     }
 
-    /// Whether an information is known.
+    /// Whether a patch info is known.
     pub(crate) fn contains(&self, info: &Info<A>) -> bool
         ensures { MatchBool result (Contains self.now info.now) (Contains self.now info.now → ⊥) }
     {
         self.infos.contains(info)
     }
 
-    /// Notes an information, and answers whether it was new.
+    /// Notes a patch info, and answers whether it was new.
     pub(crate) fn insert(&mut self, info: Info<A>) -> Result<bool, AllocError>
         ensures is_new { IfOk result (λ is_new. MatchBool is_new (Contains self.old info → ⊥) (Contains self.old info)) }
         ensures noted { OnOk result ((i : PatchInfo) → Contains self.new i ↔ (Contains self.old i ⊎ (i ≡ info))) }

@@ -1,7 +1,7 @@
-//! Patch bundles: named patches, oldest first, and a context, the informations of the patches that they rest on
+//! Patch bundles: named patches, oldest first, and a context, the patch infos of the patches that they rest on
 //! (Darcs.Patch.Bundle).
 //!
-//! This crate stands on `dm_info` for informations and on `dm_named` for named patches. Its theorem is that
+//! This crate stands on `dm_info` for patch infos and on `dm_named` for named patches. Its theorem is that
 //! [`read_bundle`] answers a bundle only where the text stands for it, and then for no other, and a fault only where
 //! the text has that fault at that place; and that [`write_bundle`] gives the canonical text, which stands for the
 //! bundle that was written.
@@ -17,7 +17,7 @@ mod reading;
 mod writing;
 
 pub use bundle::{Bundle, Doubled};
-pub use reading::read_bundle;
+pub use reading::{MOST_BYTES, read_bundle};
 pub use writing::write_bundle;
 
 #[cfg(test)]

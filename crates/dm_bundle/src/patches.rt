@@ -1,6 +1,7 @@
 //! The new patches of a bundle, one after the other.
 
 ghost use Rattle.std.specs.Prelude.{◌≡◌, ◌≤◌, ◌<◌, [], ◌∷◌, ◌++◌, length, drop, Contains, IfOk, IfErr, OnOk};
+ghost use Rattle.dm_info.specs.Spelling.{open_bracket};
 ghost use Rattle.dm_named.specs.Words.{skipped, Begins};
 ghost use Rattle.dm_named.specs.Patches.{PatchText};
 ghost use Rattle.dm_bundle.specs.Patches.{infos_of, SameMembers, NewPatches, AreFew};
@@ -12,9 +13,9 @@ use dm_named::{FaultKind, Named, ReadFault, read_named};
 use std::alloc::Allocator;
 
 /// The most new patches that a bundle may have.
-const MAX_PATCHES: usize = 1000;
+const MOST_PATCHES: usize = 1000;
 
-/// The new patches of a text, the informations of these, and the place behind the last of them.
+/// The new patches of a text, the patch infos of these, and the place after the last of them.
 #[derive(Drop)]
 pub(crate) struct Start<A: Allocator> {
     pub(crate) patches: Vec<Named<A>, A>,
@@ -22,7 +23,7 @@ pub(crate) struct Start<A: Allocator> {
     pub(crate) end: usize,
 }
 
-/// The named patch at a place where one begins, behind these patches. Its information is known from
+/// The named patch at a place where one begins, after these patches. Its patch info is known from
 /// then on.
 fn patch_at<A: Allocator + Copy>(
     alloc: A,
@@ -31,7 +32,7 @@ fn patch_at<A: Allocator + Copy>(
     patches: &[Named<A>],
     known: &mut Known<A>,
 ) -> Result<(Named<A>, usize), ReadFault>
-    requires begins { Begins 91 (drop here text.now) }
+    requires begins { Begins open_bracket (drop here text.now) }
     requires counted { length patches.now ≤ 1000 }
     requires known { SameMembers known.old (infos_of patches.now) }
     ensures ok { IfOk result (λ x. PatchText (drop here text.now) x.0 (drop x.1 text.now)) }
@@ -43,13 +44,13 @@ fn patch_at<A: Allocator + Copy>(
     ensures err { IfErr result (λ e. DueFaultAt e.kind (infos_of patches.now) (drop here text.now) (drop e.at text.now)) }
     ensures place { IfErr result (λ e. here ≤ length text.now → e.at ≤ length text.now) }
 {
-    if patches.len() >= MAX_PATCHES {
+    if patches.len() >= MOST_PATCHES {
         return Err(ReadFault {
             kind: FaultKind::TooMany,
             at: here,
         });
     }
-    // The information is read by itself first: a double is told before a fault in the rest of the patch.
+    // The patch info is read by itself first: a double is reported before a fault in the rest of the patch.
     let (info, _) = info_at(alloc, text, here)?;
     let Ok(is_new) = known.insert(info) else {
         return Err(ReadFault {
@@ -67,7 +68,7 @@ fn patch_at<A: Allocator + Copy>(
     Ok((patch, next))
 }
 
-/// As many named patches as stand there, each behind white space.
+/// As many named patches as stand there, each after white space.
 pub(crate) fn patches_at<A: Allocator + Copy>(
     alloc: A,
     text: &[u8],
@@ -77,7 +78,7 @@ pub(crate) fn patches_at<A: Allocator + Copy>(
     ensures ok { IfOk result (λ s. NewPatches (drop start text.now) s.patches.items (drop s.end text.now)) }
     ensures known { IfOk result (λ s. SameMembers s.known (infos_of s.patches.items)) }
     ensures few { IfOk result (λ s. AreFew s.patches.items) }
-    ensures closed { IfOk result (λ s. Begins 91 (skipped (drop s.end text.now)) → ⊥) }
+    ensures closed { IfOk result (λ s. Begins open_bracket (skipped (drop s.end text.now)) → ⊥) }
     ensures within { IfOk result (λ s. s.end ≤ length text.now) }
     ensures err { IfErr result (λ e. NewPatchesFaultAt e.kind (drop start text.now) (drop e.at text.now)) }
     ensures place { IfErr result (λ e. e.at ≤ length text.now) }

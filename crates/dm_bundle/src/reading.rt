@@ -3,7 +3,7 @@
 ghost use Rattle.std.specs.Prelude.{◌≡◌, ◌≢◌, ◌≤◌, ◌<◌, length, drop, MatchResult, IfOk, IfErr, IsErrOf};
 ghost use Rattle.dm_bundle.specs.Patches.{AreFew};
 ghost use Rattle.dm_bundle.specs.Bundles.{Contents, Sections, BundleText};
-ghost use Rattle.dm_bundle.specs.Faults.{IsWithinSize, HasNoHeading, AfterHeadingFaultAt, FaultAt, ExcludesBundle};
+ghost use Rattle.dm_bundle.specs.Faults.{most_bytes, IsWithinSize, HasNoHeading, AfterHeadingFaultAt, FaultAt, ExcludesBundle};
 
 use crate::bundle::Bundle;
 use crate::context::{context_at, is_context_word};
@@ -14,9 +14,9 @@ use dm_named::{FaultKind, ReadFault};
 use std::alloc::Allocator;
 
 /// The most bytes that a text may have.
-const MAX_TEXT: usize = 4_194_304;
+pub const MOST_BYTES: usize = 4_194_304;
 
-/// The bundle of what stands behind the heading.
+/// The bundle of what stands after the heading.
 fn sections_at<A: Allocator + Copy>(
     alloc: A,
     text: &[u8],
@@ -34,14 +34,14 @@ fn sections_at<A: Allocator + Copy>(
         end,
     } = patches_at(alloc, text, new)?;
     let here = skip(text, end);
-    let (word, behind) = word_at(text, here);
+    let (word, after_word) = word_at(text, here);
     if !is_context_word(word) {
         return Err(ReadFault {
             kind: FaultKind::NoContext,
             at: here,
         });
     }
-    let context = context_at(alloc, &known, text, behind)?;
+    let context = context_at(alloc, &known, text, after_word)?;
     Ok(Bundle::without_doubles(patches, context))
 }
 
@@ -50,13 +50,13 @@ fn bundle_of<A: Allocator + Copy>(alloc: A, text: &[u8]) -> Result<Bundle<A>, Re
     ensures ok { IfOk result (λ b. BundleText text.now b) }
     ensures few { IfOk result (λ b. AreFew b.patches) }
     ensures err { IfErr result (λ e. e.kind ≢ FaultKind.NoMemory → FaultAt text.now e.kind e.at) }
-    ensures too_large { 4194304 < length text.now → IsErrOf result (record { kind = FaultKind.TooLarge; at = 4194304 }) }
-    ensures no_heading { length text.now ≤ 4194304 → HasNoHeading text.now → IsErrOf result (record { kind = FaultKind.NoNewPatches; at = length text.now }) }
+    ensures too_large { most_bytes < length text.now → IsErrOf result (record { kind = FaultKind.TooLarge; at = most_bytes }) }
+    ensures no_heading { length text.now ≤ most_bytes → HasNoHeading text.now → IsErrOf result (record { kind = FaultKind.NoNewPatches; at = length text.now }) }
 {
-    if text.len() > MAX_TEXT {
+    if text.len() > MOST_BYTES {
         return Err(ReadFault {
             kind: FaultKind::TooLarge,
-            at: MAX_TEXT,
+            at: MOST_BYTES,
         });
     }
     let Some(new) = heading_at(text) else {
@@ -87,8 +87,8 @@ pub fn read_bundle<A: Allocator + Copy>(alloc: A, text: &[u8]) -> Result<Bundle<
     // A text with a fault is no bundle's, unless it is too large or has too many parts.
     ensures none { IfErr result (λ e. ExcludesBundle e.kind → (b : Contents) → BundleText text.now b → ⊥) }
     // These two answers take no memory.
-    ensures too_large { 4194304 < length text.now → IsErrOf result (record { kind = FaultKind.TooLarge; at = 4194304 }) }
-    ensures no_heading { length text.now ≤ 4194304 → HasNoHeading text.now → IsErrOf result (record { kind = FaultKind.NoNewPatches; at = length text.now }) }
+    ensures too_large { most_bytes < length text.now → IsErrOf result (record { kind = FaultKind.TooLarge; at = most_bytes }) }
+    ensures no_heading { length text.now ≤ most_bytes → HasNoHeading text.now → IsErrOf result (record { kind = FaultKind.NoNewPatches; at = length text.now }) }
 {
     match bundle_of(alloc, text) {
         Ok(bundle) => Ok(bundle),

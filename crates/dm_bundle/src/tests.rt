@@ -6,7 +6,7 @@ use std::process::Abort;
 use std::test::Fail;
 
 /// A text in which `|` is a newline, `%N` the heading and an empty line, `%C` an empty line, the word of the
-/// context and an empty line, `(x)` the information with the name `x` and the space behind it, and `%R` a
+/// context and an empty line, `(x)` the patch info with the name `x` and the space after it, and `%R` a
 /// carriage return.
 fn text_of<A: Allocator + Copy>(alloc: A, row: &str) -> Result<Vec<u8, A>, Fail> {
     let row = row.as_bytes();
@@ -56,11 +56,11 @@ several primitives without braces: %N(a)|addfile  ./a|adddir ./d|(b)rmdir ./d|(c
 lines for people in a hunk: %N(a)hunk ./a 2| above|-old|+new| below|%C => %N(a)hunk ./a 2|-old|+new|%C
 a summary, a context and a bundle hash: 1 patch:||%N(a)adddir ./d|%C(b)||Patch bundle hash:|0123| => %N(a)adddir ./d|%C(b)|
 lines that are nearly the heading: New patches|New patches: |New patches:x| New patches:|%N(a)adddir ./d|%C => %N(a)adddir ./d|%C
-the heading a second time, behind the context: %N%CNew patches:|[ => %N%C
+the heading a second time, after the context: %N%CNew patches:|[ => %N%C
 a context in any order with repeats: %N(c)adddir ./d|%C(b)|(a)|(b)|(d)| => %N(c)adddir ./d|%C(b)|(a)|(b)|(d)|
 dependencies, repeated and on the patch itself: %N(t)<|(a)|(a)|(t)|> {|}|%C(a)| => %N(t)<|(a)|(a)|(t)|> {|}|%C(a)|
 no white space where none is needed: New patches:|[a|p**d]{addfile ./a|}[b|p**d]adddir ./b| Context: [c|p**d][d|p**d]x => %N[a|p**d] addfile ./a|[b|p**d] adddir ./b|%C[c|p**d] |[d|p**d] |
-a log line, which is part of an information: %N[a|p**d| l|] adddir ./a|[a|p**d] adddir ./b|%C[a|p**d| m|] | => %N[a|p**d| l|] adddir ./a|[a|p**d] adddir ./b|%C[a|p**d| m|] |
+a log line, which is part of a patch info: %N[a|p**d| l|] adddir ./a|[a|p**d] adddir ./b|%C[a|p**d| m|] | => %N[a|p**d| l|] adddir ./a|[a|p**d] adddir ./b|%C[a|p**d| m|] |
 white space in a name: %N(a)addfile ./a\32\b|%C => %N(a)addfile ./a\32\b|%C
 a number with leading zeros: %N(a)hunk ./a 007|+x|%C => %N(a)hunk ./a 7|+x|%C
 the greatest number: %N(a)hunk ./a 4294967295|+x|%C => %N(a)hunk ./a 4294967295|+x|%C
@@ -70,28 +70,28 @@ a path of 32 names: %N(a)addfile ./s/s/s/s/s/s/s/s/s/s/s/s/s/s/s/s/s/s/s/s/s/s/s
 /// What is wrong with a text, the text, and its fault.
 const FAULTS: &str = r"an empty text:  => malformed no-new-patches 0
 a heading that goes on: New patches:x||Context:| => malformed no-new-patches 24
-a heading behind a space:  New patches:||Context:| => malformed no-new-patches 24
+a heading after a space:  New patches:||Context:| => malformed no-new-patches 24
 lines that end by two bytes: New patches:%R|%R|Context:%R| => malformed no-new-patches 26
 two dots as a name: %N(a)addfile ./../x|%C => malformed bad-path 44
 the name _darcs: %N(a)addfile ./_darcs/x|%C => malformed bad-path 44
 line zero: %N(a)hunk ./a 0|+x|%C => malformed bad-number 45
 a line past 32 bits: %N(a)hunk ./a 4294967296|+x|%C => malformed bad-number 45
-a word behind the number: %N(a)hunk ./a 1 x|+x|%C => malformed bad-number 45
+a word after the number: %N(a)hunk ./a 1 x|+x|%C => malformed bad-number 45
 a token replacement: %N(a)replace ./a [A] x y|%C => malformed unsupported 36
-an inverted information: %N[a|p*-20240101000000] adddir ./d|%C => malformed inverted 14
-an inverted information in the context: %N%C[a|p*-20240101000000] | => malformed inverted 25
-no information in the context: %N%C(a)|[b|p => malformed bad-info 48
+an inverted patch info: %N[a|p*-20240101000000] adddir ./d|%C => malformed inverted 14
+an inverted patch info in the context: %N%C[a|p*-20240101000000] | => malformed inverted 25
+no patch info in the context: %N%C(a)|[b|p => malformed bad-info 48
 a hunk without lines: %N(a)hunk ./a 1|%C => malformed empty-hunk 36
 a new patch in the context: %N(a)adddir ./d|%C(a)| => malformed doubled 58
-a new patch in the context behind others: %N(a)adddir ./d|%C(b)|(c)|(a)| => malformed doubled 104
+a new patch in the context after others: %N(a)adddir ./d|%C(b)|(c)|(a)| => malformed doubled 104
 a new patch twice: %N(a)adddir ./d|(b)adddir ./e|(a)adddir ./f|%C => malformed doubled 80
 a new patch twice, before what is wrong in it: %N(a)adddir ./d|(a)adddir d|%C => malformed doubled 47
-no information among dependencies: %N(t)<|x> {|}|%C => malformed bad-depends 38
+no patch info among dependencies: %N(t)<|x> {|}|%C => malformed bad-depends 38
 an unknown word in braces: %N(a){|foo ./a|}|%C => malformed bad-patch 38
 an escape that does not end: %N(a)addfile ./a\3 => malformed bad-path 44
-another word behind the heading: %N  Context | => malformed no-context 16
-a bracket behind the word of the context: %NContext:[x => malformed no-context 14
-a parenthesis behind braces: %N(a){|}( => malformed no-context 39
+another word after the heading: %N  Context | => malformed no-context 16
+a bracket after the word of the context: %NContext:[x => malformed no-context 14
+a parenthesis after braces: %N(a){|}( => malformed no-context 39
 no name: %N(a)addfile ./|%C => malformed bad-path 44
 no dot: %N(a)addfile a|%C => malformed bad-path 44
 an empty name: %N(a)addfile ./a//b|%C => malformed bad-path 44
@@ -105,7 +105,7 @@ an escaped letter in _darcs: %N(a)addfile ./\95\darcs|%C => malformed bad-path 4
 a path of 33 names: %N(a)addfile ./s/s/s/s/s/s/s/s/s/s/s/s/s/s/s/s/s/s/s/s/s/s/s/s/s/s/s/s/s/s/s/s/s|%C => malformed bad-path 44
 ";
 
-/// Each text of a table has what stands behind its arrow: a canonical text, or a fault.
+/// Each text of a table has what stands after its arrow: a canonical text, or a fault.
 fn answers<A: Allocator + Copy>(rt: &impl Abort, alloc: A, table: &str) -> Result<(), Fail> {
     for line in table.lines() {
         let (what, row) = line.split_once(": ").ok_or("what the row shows")?;
@@ -237,7 +237,7 @@ fn limits(rt: HostRuntime) -> Result<(), Fail> {
     Ok(())
 }
 
-/// A patch without primitives, whose information has this name.
+/// A patch without primitives, whose patch info has this name.
 fn patch<A: Allocator + Copy>(alloc: A, name: u8) -> Result<Named<A>, Fail> {
     let mut text = Vec::new(alloc);
     text.push(b'[')?;
@@ -250,7 +250,7 @@ fn patch<A: Allocator + Copy>(alloc: A, name: u8) -> Result<Named<A>, Fail> {
 /// The names of new patches, those of the context, and what the bundle of them is.
 const DOUBLES: &str = "\
 nothing:  /  => ok
-other informations: ab / cd => ok
+other patch infos: ab / cd => ok
 a context that repeats one: ab / cc => ok
 the last new patch as the first: aba /  => doubled
 the last two new patches alike: abb /  => doubled

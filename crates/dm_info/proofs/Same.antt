@@ -1,4 +1,4 @@
--- Comparisons tell whether two informations are the same.
+-- Comparisons tell whether two patch infos are the same.
 use Rattle.std.proofs.Common.{◌≡◌, Bool, true, refl, sym, ap, ◌∙◌}
 use Rattle.std.specs.Prelude.{IsTrue, ◌&&◌, ◌↔◌}
 use Rattle.std.specs.Ordering.{is_eq}

@@ -1,20 +1,17 @@
--- What the spelling of an information says by itself.
+-- What the spelling of a patch info says by itself.
 use Rattle.std.proofs.Common.{◌≡◌, ℕ, List, [], ◌∷◌, ◌++◌, refl, sym, ap, ◌∙◌, append_assoc, inl, inr, ◌<◌, length, arith}
 use Rattle.std.proofs.lemmas.List.{length-append}
 use Rattle.dm_info.specs.PatchInfo.{PatchInfo, IsInfo}
 use Rattle.dm_info.specs.Spelling.{opening, log_text, canonical, canonical_end, IsInfoText, Stands, StandsInverted}
 use Rattle.dm_info.proofs.ReadingLemmas.{ok_pair, info_again, inverted_again}
 
--- a text has at most one information at its front
+-- a text has at most one patch info at its front
 pub one_info : (text : List ℕ) (i j : PatchInfo) (r s : List ℕ) → Stands text i r → Stands text j s → (i ≡ j) × (r ≡ s)
 one_info text i j r s a b = ok_pair i j r s (sym (info_again text i r a) ∙ info_again text j s b)
 
 -- and not an inverted one beside it
 pub not_both : (text : List ℕ) (i : PatchInfo) (rest : List ℕ) → Stands text i rest → StandsInverted text → ⊥
 not_both text i rest a b = let both = sym (info_again text i rest a) ∙ inverted_again text b in cc
-
-pub inverted_opens : (text : List ℕ) → StandsInverted text → (rest : List ℕ) × (text ≡ 91 ∷ rest)
-inverted_opens text s = (_, s.parts)
 
 pub stands_opens : (text : List ℕ) (i : PatchInfo) (rest : List ℕ) → Stands text i rest → (after : List ℕ) × (text ≡ 91 ∷ after)
 stands_opens text i rest s =

@@ -1,4 +1,4 @@
--- How two informations compare, and what one feeds a hasher: all four parts in order.
+-- How two patch infos compare, and what one feeds a hasher: all four parts in order.
 use Rattle.std.specs.Prelude.{ℕ, Bool, ◌≡◌, ◌==◌, ◌↔◌, List, ◌++◌, IsTrue}
 use Rattle.std.specs.Ordering.{nat_cmp, on, then_cmp, eq_of_both}
 use Rattle.std.specs.declared.cmp.Ordering.{Ordering}
@@ -27,6 +27,6 @@ info_cmp = then_cmp (then_cmp (then_cmp (on (λ i. i.name) text_cmp) (on (λ i. 
 abbrev pub info_writes : PatchInfo → HashWrites
 info_writes i = slice u8 i.name ++ slice u8 i.author ++ slice u8 i.date ++ slice (slice u8) i.log
 
--- Two informations are equal, and rank the same, exactly where all four parts are the same.
+-- Two patch infos are equal, and rank the same, exactly where all four parts are the same.
 abbrev pub ComparesAllParts : Type 0
 ComparesAllParts = (x y : PatchInfo) → (IsTrue (info_eq x y) ↔ (x ≡ y)) × ((info_cmp x y ≡ Equal) ↔ (x ≡ y))

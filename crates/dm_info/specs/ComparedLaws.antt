@@ -1,4 +1,4 @@
--- The laws of the comparison of informations: `==` says that all four parts are the same.
+-- The laws of the comparison of patch infos: `==` says that all four parts are the same.
 use Rattle.std.specs.Prelude.{◌≡◌, true, ◌&&◌, refl}
 use Rattle.std.proofs.Common.{ap, subst}
 use Rattle.std.specs.Ordering.{eq_by_cmp}

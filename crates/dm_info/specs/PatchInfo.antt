@@ -1,4 +1,4 @@
--- What a patch information is, wherever it lies in memory.
+-- What a patch info is, wherever it lies in memory.
 use Rattle.std.specs.Prelude.{ℕ, Bool, false, ◌≡◌, ◌==◌, ◌||◌, List}
 use Rattle.std.specs.List.{AllByRecursion}
 
@@ -33,7 +33,7 @@ ends_date x = x == 93 || x == 10
 abbrev pub AreLines : List (List ℕ) → Type 0
 AreLines lines = AllByRecursion (Free is_newline) lines
 
--- The parts may be those of an information: no newline anywhere, no star in the author, no closing bracket in the date.
+-- The parts may be those of a patch info: no newline anywhere, no star in the author, no closing bracket in the date.
 pub record IsInfo (i : PatchInfo) : Type 0 where
   pub name : Free is_newline i.name
   pub author : Free ends_author i.author

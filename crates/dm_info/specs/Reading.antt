@@ -1,4 +1,4 @@
--- Reading an information from the front of a text step by step, for the clauses of private functions alone. Callers rely on `Spelling`.
+-- Reading a patch info from the front of a text step by step, for the clauses of private functions alone. Callers rely on `Spelling`.
 use Rattle.std.specs.Prelude.{◌≡◌, ℕ, Bool, true, false, ◌==◌, List, [], ◌∷◌, Result, Ok, Err, if◌then◌else◌}
 use Rattle.dm_info.specs.PatchInfo.{PatchInfo, is_newline, ends_author, ends_date}
 use Rattle.dm_info.specs.declared.fault.InfoReadFault.{InfoReadFault}

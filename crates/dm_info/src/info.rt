@@ -1,4 +1,4 @@
-//! The information of a patch: its name, author, date and log.
+//! The patch info of a patch: its name, author, date and log.
 
 ghost use Rattle.std.specs.Prelude.{◌≡◌, ◌↔◌, ◌<◌, [], length, slice_index_or, map, IsTrue, IfOk, IfErr, OnOk};
 ghost use Rattle.dm_info.specs.PatchInfo.{IsInfo, info_from};
@@ -18,7 +18,7 @@ use std::cmp::Ordering;
 use std::hash::{Hash, Hasher};
 use std::marker::Model;
 
-/// The information of a patch, which owns its parts. The four together are the patch's identity, as in
+/// The patch info of a patch, which owns its parts. The four together are the patch's identity, as in
 /// Darcs' `Patch.Info`.
 #[derive(Drop)]
 pub struct Info<A: Allocator> {
@@ -40,8 +40,8 @@ impl<A: Allocator> Model for Info<A> {
 }
 
 impl<A: Allocator + Copy> Info<A> {
-    /// The information of these parts, each copied. Of several faults the first in `InfoFault`'s
-    /// order is told, before any memory is taken.
+    /// The patch info of these parts, each copied. Of several faults the first in `InfoFault`'s
+    /// order is reported, before any memory is taken.
     pub fn new(
         alloc: A,
         name: &[u8],
@@ -66,7 +66,7 @@ impl<A: Allocator + Copy> Info<A> {
 }
 
 impl<A: Allocator> Info<A> {
-    /// The information of these parts.
+    /// The patch info of these parts.
     pub(crate) fn of_parts(
         name: Vec<u8, A>,
         author: Vec<u8, A>,
@@ -108,7 +108,7 @@ impl<A: Allocator> Info<A> {
     /// How many lines the log has.
     pub fn log_len(&self) -> usize
         ensures value { result ≡ length self.now.log }
-        // Every information in hand is a good one.
+        // Every patch info in hand is a good one.
         ensures good { IsInfo self.now }
     {
         self.log.len()
@@ -122,7 +122,7 @@ impl<A: Allocator> Info<A> {
         self.log[i].as_slice()
     }
 
-    /// The same information in another allocator.
+    /// The same patch info in another allocator.
     pub fn copy_into<B: Allocator + Copy>(&self, alloc: B) -> Result<Info<B>, AllocError>
         ensures { IfOk result (λ copy. copy ≡ self.now) }
     {
@@ -133,15 +133,20 @@ impl<A: Allocator> Info<A> {
         Ok(Info::of_parts(name, author, date, log))
     }
 
-    /// Whether two informations have the same four parts, wherever they lie.
+    /// Whether two patch infos have the same four parts, wherever they lie.
     pub fn same<B: Allocator>(&self, other: &Info<B>) -> bool
         ensures { IsTrue result ↔ (self.now ≡ other.now) }
     {
-        let name = self.name() == other.name();
-        let author = self.author() == other.author();
-        let date = self.date() == other.date();
-        let log = are_same_lines(&self.log, &other.log);
-        name & author & date & log
+        if self.name() != other.name() {
+            return false;
+        }
+        if self.author() != other.author() {
+            return false;
+        }
+        if self.date() != other.date() {
+            return false;
+        }
+        are_same_lines(&self.log, &other.log)
     }
 }
 

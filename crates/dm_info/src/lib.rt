@@ -1,10 +1,10 @@
-//! Patch informations: the name, author, date and log by which a patch is known, and their text.
+//! Patch infos: the name, author, date and log by which a patch is known, and their text.
 //!
-//! An [`Info`] owns its four parts, which together are a patch's identity: informations are compared,
+//! An [`Info`] owns its four parts, which together are a patch's identity: patch infos are compared,
 //! ordered and hashed by all four. [`read_info`] and [`write_info`] stand on the text of Darcs'
 //! `Patch.Info` and search it by `memchr`. The theorem of the crate is exactness both ways: what is
 //! read is spelled at its place by the rules of that text, what is spelled there is what is read, each
-//! fault comes only where it is due, and what is written is read again as the same information.
+//! fault comes only where it is due, and what is written is read again as the same patch info.
 #![tactic(auto)]
 
 mod fault;

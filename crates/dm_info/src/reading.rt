@@ -97,7 +97,7 @@ fn log_of<A: Allocator + Copy>(
     }
 }
 
-/// The log behind the date: none after a closing bracket, else lines.
+/// The log after the date: none after a closing bracket, else lines.
 #[tactic(auto, unfolding(crate::specs::Reading::end_at))]
 fn end_of<A: Allocator + Copy>(
     alloc: A,
@@ -112,7 +112,7 @@ fn end_of<A: Allocator + Copy>(
     log_of(alloc, text)
 }
 
-/// The information at the front, and what stands after it.
+/// The patch info at the front, and what stands after it.
 #[tactic(auto, unfolding(crate::specs::Reading::info_at))]
 fn info_of<A: Allocator + Copy>(alloc: A, text: &[u8]) -> Result<(Info<A>, &[u8]), InfoReadFault>
     ensures { Gives (λ x. (x.0, x.1.now)) result (info_at text.now) }
@@ -135,9 +135,9 @@ fn tail_of(text: &[u8], at: usize) -> &[u8]
     if at < text.len() { &text[at..] } else { &[] }
 }
 
-/// The information whose opening bracket stands at a place of the text, and the place after its closing
+/// The patch info whose opening bracket stands at a place of the text, and the place after its closing
 /// bracket. Any place may be asked for: past the end, and where no `[` stands, the answer is `BadInfo`.
-/// The text is that of Darcs' `Patch.Info`; the information read owns copies of its parts.
+/// The text is that of Darcs' `Patch.Info`; the patch info read owns copies of its parts.
 pub fn read_info<A: Allocator + Copy>(
     alloc: A,
     text: &[u8],
@@ -150,7 +150,7 @@ pub fn read_info<A: Allocator + Copy>(
         → MatchResult result (λ x. (x.0 ≡ i) × (x.1 ≡ next)) (λ e. e ≡ InfoReadFault.NoMemory) }
     // BadInfo is answered only where nothing stands.
     ensures bad { IsErrOf result InfoReadFault.BadInfo → NoneStands (drop at text.now) }
-    // Inverted is answered only where an inverted patch stands, and no other fault but want of memory there.
+    // Inverted is answered only where an inverted patch stands, and no other fault but out of memory there.
     ensures inverted { IsErrOf result InfoReadFault.Inverted → StandsInverted (drop at text.now) }
     ensures turned { StandsInverted (drop at text.now)
         → MatchResult result (λ x. ⊥) (λ e. e ≢ InfoReadFault.BadInfo) }

@@ -22,7 +22,7 @@ fn joined<A: Allocator, B: Allocator + Copy>(alloc: B, info: &Info<A>) -> Result
 fn read<A: Allocator + Copy>(alloc: A, text: &str) -> Result<Info<A>, Fail> {
     let (info, _) = read_info(alloc, text.as_bytes(), 0)
         .ok()
-        .ok_or("an information is read")?;
+        .ok_or("a patch info is read")?;
     Ok(info)
 }
 
@@ -35,7 +35,7 @@ fn hash_of<A: Allocator>(info: &Info<A>) -> u64 {
 fn reads<A: Allocator + Copy>(rt: &impl Abort, alloc: A) -> Result<(), Fail> {
     for (what, text, at, next, parts) in [
         (
-            "a bracket behind the date",
+            "a bracket after the date",
             "[x\np**20240101000000] ",
             0,
             21,
@@ -77,7 +77,7 @@ fn reads<A: Allocator + Copy>(rt: &impl Abort, alloc: A) -> Result<(), Fail> {
     ] {
         let (info, end) = read_info(alloc, text.as_bytes(), at)
             .ok()
-            .ok_or("an information is read")?;
+            .ok_or("a patch info is read")?;
         assert_eq!(rt; end, next, "the place after {what}");
         assert_eq!(rt;
             joined(alloc, &info)?.as_slice(),
@@ -96,7 +96,7 @@ fn refuses_texts<A: Allocator + Copy>(rt: &impl Abort, alloc: A) {
         ("an author with a newline", "[x\np\nq**d]", 0),
         ("an author with a star", "[x\np*q**d]", 0),
         ("a log line without its space", "[x\np**d\nl1\n]", 0),
-        ("a log line behind a tab", "[x\np**d\n\tl1\n]", 0),
+        ("a log line after a tab", "[x\np**d\n\tl1\n]", 0),
         ("a log line that does not end", "[x\np**d\n l1]", 0),
         ("a log that does not end", "[x\np**d\n l1\n", 0),
         ("a space before the last bracket", "[x\np**d\n l1\n ]", 0),
@@ -198,7 +198,7 @@ fn refuses_parts<A: Allocator + Copy>(rt: &impl Abort, alloc: A) {
 }
 
 fn compares<A: Allocator + Copy>(rt: &impl Abort, alloc: A) -> Result<(), Fail> {
-    // Each text's information comes before that of the next.
+    // Each text's patch info comes before that of the next.
     let texts = [
         "[\n**]",
         "[x\np**d]",
@@ -230,7 +230,7 @@ fn writes<A: Allocator + Copy>(rt: &impl Abort, alloc: A) -> Result<(), Fail> {
     for (what, text, written) in [
         ("an empty log", "[x\np**d]", ">[x\np**d] "),
         (
-            "an empty log behind a newline",
+            "an empty log after a newline",
             "[x\np**d\n] ",
             ">[x\np**d] ",
         ),
@@ -245,14 +245,14 @@ fn writes<A: Allocator + Copy>(rt: &impl Abort, alloc: A) -> Result<(), Fail> {
     Ok(())
 }
 
-/// PatchInfo make the information that their text is read as.
+/// Parts make the patch info that their text is read as.
 fn makes<A: Allocator + Copy>(rt: &impl Abort, alloc: A) -> Result<(), Fail> {
     let plain = Info::new(alloc, b"x", b"p", b"d", &[])?;
     let log = [b"l1".as_slice(), b"".as_slice()];
     let logged = Info::new(alloc, b"x", b"p", b"d", &log)?;
     for (what, made, text) in [
         ("an empty log", &plain, "[x\np**d] "),
-        ("an empty log behind a newline", &plain, "[x\np**d\n] "),
+        ("an empty log after a newline", &plain, "[x\np**d\n] "),
         ("a log of two lines", &logged, "[x\np**d\n l1\n \n] "),
     ] {
         let info = read(alloc, text)?;

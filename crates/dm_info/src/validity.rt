@@ -1,4 +1,4 @@
-//! The parts that an information may hold.
+//! The parts that a patch info may hold.
 
 ghost use Rattle.std.specs.Prelude.{◌≡◌, ◌≢◌, ◌↔◌, IsTrue, IfOk, MatchOption, Some, map};
 ghost use Rattle.memchr.specs.Find.{is_byte, is_byte2};

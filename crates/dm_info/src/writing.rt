@@ -60,7 +60,7 @@ pub fn write_info<A: Allocator, B: Allocator + Copy>(
     out: &mut Vec<u8, B>,
 ) -> Result<(), AllocError>
     ensures ok { OnOk result (out.new.items ≡ out.old.items ++ canonical info.now) }
-    // What was written is a good information, so its text is read again as it.
+    // What was written is a good patch info, so its text is read again as it.
     ensures good { OnOk result (IsInfo info.now) }
     ensures err { OnErr result (out.new.items ≡ out.old.items) }
 {

@@ -12,7 +12,7 @@ use Rattle.dm_named.specs.Many.{Many}
 use Rattle.dm_named.specs.declared.fault.FaultKind.{FaultKind}
 use Rattle.dm_named.specs.declared.fault.FaultKind.TheVariants.{BadDepends, Unsupported}
 
--- an information takes up some of the text
+-- a patch info takes up some of the text
 pub info_forward : (text : List ℕ) (at next : ℕ) (i : PatchInfo) → Stands (drop at text) i (drop next text) → at < next
 info_forward text at next i s = omega (arith, length-drop at text, length-drop next text, stands_shorter (drop at text) i (drop next text) s)
 

@@ -36,14 +36,6 @@ any_of test (x ∷ xs) f = both (test x) (list_any test xs) f.0 (any_of test xs 
 pub plain_line : (line : List ℕ) → NoNewline line → IsPlain line
 plain_line line free = any_of (λ y. y == 10) line free
 
-no_fault : (b : Bool) → b ≡ false → cond b (Some line.Newline) None ≡ Some line.Newline → ⊥
-no_fault true e f = false≢true (sym e)
-no_fault false e f = cc
-
--- such a line is taken
-pub line_taken : (l : List ℕ) → NoNewline l → line_fault l ≡ Some line.Newline → ⊥
-line_taken l free e = no_fault (has_newline l) (plain_line l free) e
-
 pub free_lines : (lines : Lines) → ArePlain lines → AllByRecursion NoNewline lines
 free_lines [] all = tt
 free_lines (l ∷ ls) all = (none_of (λ y. y == 10) l (all 0 l (omega arith)), free_lines ls (λ k d lt. all (suc k) d (omega arith)))

@@ -16,17 +16,6 @@ none_free : (text : List ℕ) → ((j : ℕ) → j < length text → is_newline 
 none_free [] h = tt
 none_free (b ∷ text) h = (false_is (is_newline b) (h 0 (omega arith)), none_free text (λ j lt. h (suc j) (omega arith)))
 
-pub line_found : (text : List ℕ) (i : ℕ) → IsFirstByte (is_byte 10) text (Some i) → Line text (take i text) (drop (i + 1) text)
-line_found text i first =
-    let c = cut_takes (is_byte 10) text _ (cut_found (is_byte 10) text i first) in
-    record { free = c.free; parts = inl (c.parts ∙ ap (λ (b : ℕ). take i text ++ b ∷ drop (i + 1) text) (byte_is _ 10 c.stops)) }
-
-pub line_last : (text : List ℕ) → IsFirstByte (is_byte 10) text None → Line text text []
-line_last text nowhere = record { free = none_free text (λ j lt. nowhere j (omega arith) lt); parts = inr (refl, refl) }
-
-pub line_short : (text line rest : List ℕ) → Line text line rest → length rest ≤ length text
-line_short text line rest l = elim l.parts [ inl e ↦ omega (arith, ap length e, length-append line (10 ∷ rest)) | inr e ↦ omega (arith, ap length e.1) ]
-
 pub lines_more : (b : ℕ) (text : List ℕ) (lines : List (List ℕ)) (mid inside line after : List ℕ) → Many (MarkedLine b) text lines mid → mid ≡ b ∷ inside → Line inside line after → Many (MarkedLine b) text (lines ++ line ∷ []) after
 lines_more b text lines mid inside line after r e l = many_more (MarkedLine b) text lines mid line after r (record { inside = inside; mark = e; read = l })
 
@@ -68,12 +57,6 @@ one_group b text ls ms r s x y = one_many (MarkedLine b) (one_marked b) text ls 
 
 -- ---- at a place
 
-pub line_found_at : (text : List ℕ) (at i : ℕ) → IsFirstByte (is_byte 10) (drop at text) (Some i) → Line (drop at text) (take (at + i - at) (drop at text)) (drop (at + i + 1) text)
-line_found_at text at i first =
-    let back : at + i - at ≡ i = omega arith in
-    let on : at + (i + 1) ≡ at + i + 1 = omega arith in
-    rw (back, sym (drop-drop (i + 1) at text ∙ ap (λ (k : ℕ). drop k text) on)) (line_found (drop at text) i first)
-
 no_lines : (b : ℕ) (text rest : List ℕ) → LineGroup b text [] rest → Begins b text → ⊥
 no_lines b text rest g o = g.ends (o.0, sym g.read ∙ o.1)
 
@@ -97,11 +80,6 @@ no_change text n lines olds news last above old new r a o w no_old no_new =
 pub number_grows : (n : ℕ) (ds : List ℕ) → n ≤ number_from n ds
 number_grows n [] = omega arith
 number_grows n (d ∷ ds) = omega (arith, number_grows (10 * n + (d - 48)) ds)
-
-pub number_digit : (ds : List ℕ) (k : ℕ) → AllByRecursion IsDigit ds → k < length ds → IsDigit (get_or ds k 0)
-number_digit [] k f lt = absurd (omega arith)
-number_digit (d ∷ ds) zero f lt = f.0
-number_digit (d ∷ ds) (suc k) f lt = number_digit ds k f.1 (omega arith)
 
 pub one_number : (digits : List ℕ) (n m : ℕ) → IsNumberText digits n → IsNumberText digits m → n ≡ m
 one_number digits n m a b = sym a.value ∙ b.value

@@ -64,10 +64,6 @@ nothing_left : (mid more : List ℕ) → length mid ≡ 0 → IsNameText mid mor
 nothing_left mid [] none r = refl
 nothing_left mid (b ∷ more) none r = absurd (omega (arith, byte_short mid b r.0 r.1))
 
-pub finished : (mid : List ℕ) → length mid ≡ 0 → mid ≡ []
-finished [] none = refl
-finished (b ∷ mid) none = absurd (omega arith)
-
 pub one_name : (text name other mid : List ℕ) → Many NameByte text name mid → length mid ≡ 0 → IsNameText text other → name ≡ other
 one_name text name other mid r none s =
     let m = follows text name other mid r s in

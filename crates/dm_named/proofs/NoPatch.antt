@@ -13,7 +13,7 @@ use Rattle.dm_named.specs.Words.{skipped, Word, Among, WordAmong, Begins, LineGr
 use Rattle.dm_named.specs.Paths.{NextPath, PathWord}
 use Rattle.dm_named.specs.Many.{Many}
 use Rattle.dm_named.specs.Patches.{WordAndPath, HunkBody, PrimText, NextPrim, NextInfo, Dependencies, Body, RunEnds, prim_words, unsupported_words, Patch, PatchText}
-use Rattle.dm_named.specs.Faults.{InfoFaultAt, PathFaultAt, NoChange, HunkFaultAt, PrimFaultAt, path, second, hunk, CountFaultAt, BraceFaultAt, RunFaultAt, DependsFaultAt, BehindPrims, PrimsFaultAt, BodyFaultAt, in_braces, in_run, InfosFaultAt, OpenFaultAt, DepsFaultAt, PatchFaultAt, info, deps, body, ExcludesPatch}
+use Rattle.dm_named.specs.Faults.{InfoFaultAt, PathFaultAt, NoChange, HunkFaultAt, PrimFaultAt, path, second, hunk, CountFaultAt, BraceFaultAt, RunFaultAt, DependsFaultAt, AfterPrims, PrimsFaultAt, BodyFaultAt, in_braces, in_run, InfosFaultAt, OpenFaultAt, DepsFaultAt, PatchFaultAt, info, deps, body, ExcludesPatch}
 use Rattle.dm_named.specs.declared.fault.FaultKind.{FaultKind}
 use Rattle.dm_named.specs.declared.fault.FaultKind.TheVariants as K
 use Rattle.dm_named.proofs.WordLemmas.{one_word}
@@ -85,7 +85,7 @@ no_hunk K.NoContext start text here k f n old new r h = elim f [ ]
 no_hunk K.Doubled start text here k f n old new r h = elim f [ ]
 no_hunk K.TooMany start text here k f n old new r h = elim f [ ]
 
--- the path behind a primitive's word
+-- the path after a primitive's word
 first_path : (text : List ℕ) (p : Prim) (r : List ℕ) → PrimText text p r → (w : List ℕ) × (after : List ℕ) × (q : Path) × (mid : List ℕ) × Word text w after × NextPath after q mid
 first_path text (At p AddFile) r a = (codes "addfile", a.after, p, r, a.named, a.path)
 first_path text (At p RmFile) r a = (codes "rmfile", a.after, p, r, a.named, a.path)
@@ -241,7 +241,7 @@ no_word_end text e a = not_here prim_words a.word [] refl (front_nil a.word a.re
 
 -- ---- bodies
 
--- what stands behind the primitives of a braced body is no fault of braces
+-- what stands after the primitives of a braced body is no fault of braces
 not_closed : (kind : FaultKind) (text here r : List ℕ) → BraceFaultAt kind text here → text ≡ 125 ∷ r → ⊥
 not_closed K.Unclosed text here r f e = let both : [] ≡ 125 ∷ r = sym f.1 ∙ e in cc
 not_closed K.Unsupported text here r f e =
@@ -281,7 +281,7 @@ not_prim K.Doubled text here f w = elim f [ ]
 not_prim K.TooMany text here f w = elim f [ ]
 not_prim K.NoMemory text here f w = elim f [ ]
 
-no_brace : (kind : FaultKind) (inside here : List ℕ) → BehindPrims (λ _. BraceFaultAt kind) inside here → (qs : List Prim) (s r : List ℕ) → Many NextPrim inside qs s → skipped s ≡ 125 ∷ r → ⊥
+no_brace : (kind : FaultKind) (inside here : List ℕ) → AfterPrims (λ _. BraceFaultAt kind) inside here → (qs : List Prim) (s r : List ℕ) → Many NextPrim inside qs s → skipped s ≡ 125 ∷ r → ⊥
 no_brace kind inside here f qs s r q closes =
     elim (ahead inside f.prims qs f.mid s f.read q (no_lead 125 prim_words (skipped s) r refl closes)) [
       | inl e ↦ not_closed kind (skipped f.mid) here r f.wrong (ap skipped e ∙ closes)
@@ -322,7 +322,7 @@ run_no_prim K.Doubled text here f w = elim f [ ]
 run_no_prim K.TooMany text here f w = elim f [ ]
 run_no_prim K.NoMemory text here f w = elim f [ ]
 
-no_run : (kind : FaultKind) (text here : List ℕ) → BehindPrims (λ _. RunFaultAt kind) text here → (qs : List Prim) (s : List ℕ) → Many NextPrim text qs s → RunEnds (skipped s) → ⊥
+no_run : (kind : FaultKind) (text here : List ℕ) → AfterPrims (λ _. RunFaultAt kind) text here → (qs : List Prim) (s : List ℕ) → Many NextPrim text qs s → RunEnds (skipped s) → ⊥
 no_run kind text here f qs s q ends =
     elim (ahead text f.prims qs f.mid s f.read q ends.prims) [
       | inl e ↦ run_goes_on kind (skipped f.mid) here f.wrong (subst (λ (t : List ℕ). RunEnds (skipped t)) (sym e) ends)

@@ -42,7 +42,7 @@ one_hunk text p q n m old new old' new' r s a b =
     let lines = one_lines b.body.lines old new old' new' r s (subst (λ (t : List ℕ). HunkLines t old new r) line.1 body.lines_read) b.body.lines_read in
     (first.0, line.0, lines.0, lines.1, lines.2)
 
--- a primitive's word, and what stands behind it
+-- a primitive's word, and what stands after it
 abbrev pub prim_word : Prim → List ℕ
 prim_word (At p AddFile) = codes "addfile"
 prim_word (At p RmFile) = codes "rmfile"
@@ -75,9 +75,6 @@ prim_a_word text (At p (Hunk n old new)) r a = record { word = codes "hunk"; res
 
 differ : (x y : List ℕ) → false ≡ pointwise nat_eq x y → x ≡ y → ⊥
 differ x y f e = other_text x y f e
-
-abbrev pub Same : Prim → Prim → List ℕ → List ℕ → Type 0
-Same p q r s = (p ≡ q) × (r ≡ s)
 
 pub one_prim : (text : List ℕ) (p q : Prim) (r s : List ℕ) → PrimText text p r → PrimText text q s → (p ≡ q) × (r ≡ s)
 one_prim text (At p AddFile) (At q AddFile) r s a b = let o = one_single (codes "addfile") text p q r s a b in ((λ k. At (o.0 k) AddFile), o.1)
@@ -123,7 +120,7 @@ one_next text p q r s a b = one_prim (skipped text) p q r s a b
 pub no_next : (rest : List ℕ) → (WordAmong prim_words (skipped rest) → ⊥) → Closed NextPrim rest
 no_next rest none p after a = none (prim_a_word (skipped rest) p after a)
 
--- where no primitive's word stands behind both, two readings are one
+-- where no primitive's word stands after both, two readings are one
 pub one_prims : (text : List ℕ) (ps qs : List Prim) (r s : List ℕ) → Many NextPrim text ps r → Many NextPrim text qs s → (WordAmong prim_words (skipped r) → ⊥) → (WordAmong prim_words (skipped s) → ⊥) → (ps ≡ qs) × (r ≡ s)
 one_prims text ps qs r s a b x y = one_many NextPrim one_next text ps qs r s a b (no_next r x) (no_next s y)
 

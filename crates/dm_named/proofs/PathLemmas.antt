@@ -67,9 +67,6 @@ one_name_at text n m r s a b =
     let one = one_piece b.inside a.piece b.piece r s (subst (λ (t : List ℕ). Piece t a.piece r) same a.cut) b.cut in
     (one_name b.piece n m [] (subst (λ (t : List ℕ). IsNameText t n) one.0 a.spelled) refl b.spelled, one.1)
 
-pub name_short : (text n r : List ℕ) → SlashName text n r → length r < length text
-name_short text n r a = omega (arith, ap length a.slash, ap length a.cut.parts, length-append a.piece r)
-
 closed_end : (v after : List ℕ) → SlashName [] v after → ⊥
 closed_end v after a = let e : [] ≡ 47 ∷ a.inside = a.slash in cc
 
@@ -99,9 +96,6 @@ dot_same word x y e f = let both : 46 ∷ x ≡ 46 ∷ y = sym e ∙ f in cc
 
 pub one_path_text : (word : List ℕ) (p q : Path) → IsPathText word p → IsPathText word q → p ≡ q
 one_path_text word p q a b = one_names b.names p q (subst (λ (t : List ℕ). Many SlashName t p []) (dot_same word a.names b.names a.dot b.dot) a.each) b.each
-
-pub no_dot_path : (word names : List ℕ) → word ≡ 46 ∷ names → ((ns : Path) → Many SlashName names ns [] → ⊥) → (p : Path) → IsPathText word p → ⊥
-no_dot_path word names e none p a = none p (subst (λ (t : List ℕ). Many SlashName t p []) (dot_same word a.names names a.dot e) a.each)
 
 -- the names are those, so a path that is refused is none
 pub same_dot_path : (word names : List ℕ) (ns : Path) → word ≡ 46 ∷ names → Many SlashName names ns [] → (p : Path) → IsPathText word p → p ≡ ns

@@ -1,4 +1,4 @@
--- A named patch of no more primitives than there may be has no fault but want of memory.
+-- A named patch of no more primitives than there may be has no fault but out of memory.
 use Rattle.std.proofs.Common.{◌≡◌, ◌≤◌, ◌<◌, ℕ, List, [], ◌∷◌, ◌++◌, length, refl, inl, inr, subst, arith}
 use Rattle.std.proofs.lemmas.List.{length-append}
 use Rattle.dm_info.proofs.SpellingLemmas.{one_info}

@@ -42,12 +42,3 @@ one_front (x ∷ w) (y ∷ v) r s f g p q e =
 
 pub one_word : (text w v r s : List ℕ) → Word text w r → Word text v s → (w ≡ v) × (r ≡ s)
 one_word text w v r s a b = one_front w v r s a.solid b.solid a.ends b.ends (sym a.parts ∙ b.parts)
-
-pub begins_here : (text : List ℕ) (at b : ℕ) → at < length text → get_or text at 0 ≡ b → drop at text ≡ b ∷ drop (at + 1) text
-begins_here text at b lt e = drop_more text at 0 lt ∙ ap (λ (c : ℕ). c ∷ drop (at + 1) text) e
-
-pub begins_not : (text : List ℕ) (at b : ℕ) → at < length text → (get_or text at 0 ≡ b → ⊥) → Begins b (drop at text) → ⊥
-begins_not text at b lt other o = let both = sym (drop_more text at 0 lt) ∙ o.1 in other cc
-
-pub begins_none : (text : List ℕ) (at b : ℕ) → length text ≤ at → Begins b (drop at text) → ⊥
-begins_none text at b le o = omega (arith, length-drop at text, ap length o.1)

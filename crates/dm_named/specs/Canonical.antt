@@ -13,7 +13,7 @@ use Rattle.dm_named.specs.Patches.{Patch}
 abbrev pub byte_text : ℕ → List ℕ
 byte_text b = if is_white b || b == 92 then 92 ∷ (decimal b ++ 92 ∷ []) else b ∷ []
 
--- a name behind its slash
+-- a name after its slash
 abbrev pub name_text : Name → List ℕ
 name_text n = 47 ∷ flat_map byte_text n
 
@@ -21,11 +21,11 @@ name_text n = 47 ∷ flat_map byte_text n
 abbrev pub path_text : Path → List ℕ
 path_text p = 46 ∷ flat_map name_text p
 
--- lines, each behind this byte and before a newline
+-- lines, each after this byte and before a newline
 abbrev pub lines_text : ℕ → List (List ℕ) → List ℕ
 lines_text b lines = flat_map (λ l. b ∷ (l ++ 10 ∷ [])) lines
 
--- a primitive's word and the space behind it
+-- a primitive's word and the space after it
 abbrev pub work_word : Work → List ℕ
 work_word AddFile = codes "addfile "
 work_word RmFile = codes "rmfile "
@@ -43,7 +43,7 @@ abbrev pub prim_text : Prim → List ℕ
 prim_text (At p w) = work_word w ++ (path_text p ++ work_text w)
 prim_text (Move p q) = codes "move " ++ (path_text p ++ 32 ∷ (path_text q ++ 10 ∷ []))
 
--- an information on a line of its own, with the space behind it
+-- a patch info on a line of its own, with the space after it
 abbrev pub info_line : PatchInfo → List ℕ
 info_line i = canonical i ++ 10 ∷ []
 

@@ -4,7 +4,7 @@ use Rattle.dm_prim.specs.Commuting.{ListsCommute}
 use Rattle.dm_prim.specs.Laws.{ListLaws}
 use Rattle.dm_named.specs.Patches.{Patch}
 
--- the patch keeps its information and its dependencies
+-- the patch keeps its patch info and its dependencies
 pub record Stays (x x' : Patch) : Type 0 where
   pub info : x'.info ≡ x.info
   pub deps : x'.deps ≡ x.deps

@@ -1,7 +1,7 @@
--- What can be wrong with a named patch's text, and where. `F kind text here` says: the part that is due at the front of the text fails in this way, and `here` is the text from the fault's place on. All before the place is accounted for by the parts that stand there. Want of memory may come anywhere.
+-- What can be wrong with a named patch's text, and where. `F kind text here` says: the part that is due at the front of the text fails in this way, and `here` is the text from the fault's place on. All before the place is accounted for by the parts that stand there. Memory may run out anywhere.
 use Rattle.std.specs.Prelude.{◌≡◌, ◌≢◌, ◌≤◌, ◌<◌, ◌⊎◌, ℕ, List, [], length, codes}
 use Rattle.dm_info.specs.PatchInfo.{PatchInfo}
-use Rattle.dm_info.specs.Spelling.{Stands, NoneStands, StandsInverted}
+use Rattle.dm_info.specs.Spelling.{open_bracket, Stands, NoneStands, StandsInverted}
 use Rattle.dm_tree.specs.Paths.{Path}
 use Rattle.dm_prim.specs.Primitives.{Prim}
 use Rattle.dm_named.specs.Many.{Many}
@@ -11,7 +11,7 @@ use Rattle.dm_named.specs.Patches.{WordAndPath, NextPrim, NextInfo, Dependencies
 use Rattle.dm_named.specs.declared.fault.FaultKind.{FaultKind}
 use Rattle.dm_named.specs.declared.fault.FaultKind.TheVariants.{BadInfo, Inverted, BadDepends, BadPatch, Unsupported, BadPath, BadNumber, EmptyHunk, Unclosed, TooMany, NoMemory}
 
--- where an information is due
+-- where a patch info is due
 abbrev pub InfoFaultAt : FaultKind → List ℕ → List ℕ → Type 0
 InfoFaultAt BadInfo text here = (here ≡ text) × NoneStands text
 InfoFaultAt Inverted text here = (here ≡ text) × StandsInverted text
@@ -24,7 +24,7 @@ PathFaultAt BadPath text here = (here ≡ skipped text) × ((p : Path) (rest : L
 PathFaultAt NoMemory text here = Unit {0}
 PathFaultAt _ text here = ⊥
 
--- behind a hunk's path: a number, and neither old nor new lines
+-- after a hunk's path: a number, and neither old nor new lines
 pub record NoChange (text : List ℕ) : Type 0 where
   pub number : ℕ
   pub lines : List ℕ
@@ -35,44 +35,44 @@ pub record NoChange (text : List ℕ) : Type 0 where
   pub no_old : Begins 45 olds → ⊥
   pub no_new : Begins 43 olds → ⊥
 
--- behind a hunk's word and its path
+-- after a hunk's word and its path
 abbrev pub HunkFaultAt : FaultKind → List ℕ → List ℕ → List ℕ → Type 0
 HunkFaultAt BadNumber hunk text here = (here ≡ skipped text) × ((n : ℕ) (rest : List ℕ) → NumberLine here n rest → ⊥)
 HunkFaultAt EmptyHunk hunk text here = (here ≡ hunk) × NoChange text
 HunkFaultAt NoMemory hunk text here = Unit {0}
 HunkFaultAt _ hunk text here = ⊥
 
--- where a primitive's word stands: in its path, in a move's second path, or behind a hunk's path
+-- where a primitive's word stands: in its path, in a move's second path, or after a hunk's path
 pub data PrimFaultAt (kind : FaultKind) (text here : List ℕ) : Type 0 where
   path : (stands : WordAmong prim_words text) → PathFaultAt kind stands.rest here → PrimFaultAt kind text here
   second : (p : Path) (mid : List ℕ) → WordAndPath (codes "move") text p mid → PathFaultAt kind mid here → PrimFaultAt kind text here
   hunk : (p : Path) (mid : List ℕ) → WordAndPath (codes "hunk") text p mid → HunkFaultAt kind text mid here → PrimFaultAt kind text here
 
--- behind so many primitives the next one is one too many
+-- after so many primitives the next one is one too many
 abbrev pub CountFaultAt : FaultKind → ℕ → List ℕ → List ℕ → Type 0
 CountFaultAt TooMany count text here = (here ≡ text) × (count ≡ 10000) × WordAmong prim_words text
 CountFaultAt NoMemory count text here = Unit {0}
 CountFaultAt _ count text here = ⊥
 
--- behind the primitives in braces
+-- after the primitives in braces
 abbrev pub BraceFaultAt : FaultKind → List ℕ → List ℕ → Type 0
 BraceFaultAt Unclosed text here = (here ≡ text) × (text ≡ [])
 BraceFaultAt Unsupported text here = (here ≡ text) × (WordAmong unsupported_words text ⊎ (Begins 123 text ⊎ Begins 40 text))
 BraceFaultAt BadPatch text here = (here ≡ text) × (text ≢ []) × (Begins 125 text → ⊥) × (Begins 123 text → ⊥) × RunEnds text
 BraceFaultAt _ text here = ⊥
 
--- behind the primitives of a run
+-- after the primitives of a run
 abbrev pub RunFaultAt : FaultKind → List ℕ → List ℕ → Type 0
 RunFaultAt Unsupported text here = (here ≡ text) × (WordAmong unsupported_words text ⊎ Begins 40 text)
 RunFaultAt _ text here = ⊥
 
--- behind the dependencies in angle brackets
+-- after the dependencies in angle brackets
 abbrev pub DependsFaultAt : FaultKind → List ℕ → List ℕ → Type 0
-DependsFaultAt BadDepends text here = (here ≡ text) × (Begins 91 text → ⊥) × (Begins 62 text → ⊥)
+DependsFaultAt BadDepends text here = (here ≡ text) × (Begins open_bracket text → ⊥) × (Begins 62 text → ⊥)
 DependsFaultAt _ text here = ⊥
 
--- behind primitives, not too many, something is wrong
-pub record BehindPrims (Wrong : ℕ → List ℕ → List ℕ → Type 0) (text here : List ℕ) : Type 0 where
+-- after primitives, not too many, something is wrong
+pub record AfterPrims (Wrong : ℕ → List ℕ → List ℕ → Type 0) (text here : List ℕ) : Type 0 where
   pub prims : List Prim
   pub mid : List ℕ
   pub read : Many NextPrim text prims mid
@@ -81,22 +81,22 @@ pub record BehindPrims (Wrong : ℕ → List ℕ → List ℕ → Type 0) (text 
 
 -- one of the primitives: it is one too many, or it isn't and is at fault
 abbrev pub PrimsFaultAt : FaultKind → List ℕ → List ℕ → Type 0
-PrimsFaultAt kind text here = BehindPrims (λ count next place. CountFaultAt kind count next place ⊎ ((count < 10000) × PrimFaultAt kind next place)) text here
+PrimsFaultAt kind text here = AfterPrims (λ count next place. CountFaultAt kind count next place ⊎ ((count < 10000) × PrimFaultAt kind next place)) text here
 
--- the body: one of its primitives, or what stands behind them
+-- the body: one of its primitives, or what stands after them
 pub data BodyFaultAt (kind : FaultKind) (text here : List ℕ) : Type 0 where
-  in_braces : (inside : List ℕ) → NextByte 123 text inside → PrimsFaultAt kind inside here ⊎ BehindPrims (λ _. BraceFaultAt kind) inside here → BodyFaultAt kind text here
-  in_run : (Begins 123 (skipped text) → ⊥) → PrimsFaultAt kind text here ⊎ BehindPrims (λ _. RunFaultAt kind) text here → BodyFaultAt kind text here
+  in_braces : (inside : List ℕ) → NextByte 123 text inside → PrimsFaultAt kind inside here ⊎ AfterPrims (λ _. BraceFaultAt kind) inside here → BodyFaultAt kind text here
+  in_run : (Begins 123 (skipped text) → ⊥) → PrimsFaultAt kind text here ⊎ AfterPrims (λ _. RunFaultAt kind) text here → BodyFaultAt kind text here
 
--- behind informations the next one is at fault
+-- after patch infos the next one is at fault
 pub record InfosFaultAt (kind : FaultKind) (text here : List ℕ) : Type 0 where
   pub infos : List PatchInfo
   pub mid : List ℕ
   pub read : Many NextInfo text infos mid
-  pub opens : Begins 91 (skipped mid)
+  pub opens : Begins open_bracket (skipped mid)
   pub wrong : InfoFaultAt kind (skipped mid) here
 
--- behind informations the angle bracket isn't closed
+-- after patch infos the angle bracket isn't closed
 pub record OpenFaultAt (kind : FaultKind) (text here : List ℕ) : Type 0 where
   pub infos : List PatchInfo
   pub mid : List ℕ
@@ -109,13 +109,13 @@ pub record DepsFaultAt (kind : FaultKind) (text here : List ℕ) : Type 0 where
   pub opens : NextByte 60 text inside
   pub wrong : InfosFaultAt kind inside here ⊎ OpenFaultAt kind inside here
 
--- a named patch: its information, its dependencies or its body
+-- a named patch: its patch info, its dependencies or its body
 pub data PatchFaultAt (kind : FaultKind) (text here : List ℕ) : Type 0 where
   info : InfoFaultAt kind text here → PatchFaultAt kind text here
   deps : (i : PatchInfo) (after : List ℕ) → Stands text i after → DepsFaultAt kind after here → PatchFaultAt kind text here
   body : (i : PatchInfo) (ds : List PatchInfo) (after body : List ℕ) → Stands text i after → Dependencies after ds body → BodyFaultAt kind body here → PatchFaultAt kind text here
 
--- a fault of this kind says that no named patch stands there: want of memory and the count of primitives don't
+-- a fault of this kind says that no named patch stands there: out of memory and the count of primitives don't
 pub record ExcludesPatch (kind : FaultKind) : Type 0 where
   pub memory : kind ≢ NoMemory
   pub count : kind ≢ TooMany

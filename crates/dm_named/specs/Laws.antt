@@ -17,13 +17,13 @@ pub record NoLine (rest : List ℕ) : Type 0 where
   pub old : Begins 45 rest → ⊥
   pub new : Begins 43 rest → ⊥
 
--- the primitive stands at the front, and up to white space this is left behind it
+-- the primitive stands at the front, and up to white space this is left after it
 pub record ReadsPrim (text : List ℕ) (p : Prim) (rest : List ℕ) : Type 0 where
   pub after : List ℕ
   pub read : PrimText text p after
   pub left : skipped after ≡ skipped rest
 
--- the named patch stands at the front, and up to white space this is left behind it
+-- the named patch stands at the front, and up to white space this is left after it
 pub record ReadsPatch (text : List ℕ) (p : Patch) (rest : List ℕ) : Type 0 where
   pub after : List ℕ
   pub read : PatchText text p after

@@ -10,7 +10,7 @@ use Rattle.dm_named.specs.Many.{Many}
 use Rattle.dm_named.specs.Words.{skipped, Begins, NextByte, Word, WordAmong, LineGroup, NumberLine}
 use Rattle.dm_named.specs.Paths.{NextPath}
 
--- a named patch: its information, the informations of the patches that it names as dependencies, and its primitives
+-- a named patch: its patch info, the patch infos of the patches that it names as dependencies, and its primitives
 pub record Patch : Type 0 where
   pub info : PatchInfo
   pub deps : List PatchInfo
@@ -78,15 +78,15 @@ unsupported_words =
     codes "binary" ∷ codes "replace" ∷ codes "changepref" ∷ codes "merger" ∷ codes "regrem" ∷ codes "conflictor" ∷ codes "rotcilfnoc" ∷ codes "duplicate"
     ∷ codes "etacilpud" ∷ []
 
--- a primitive behind white space
+-- a primitive after white space
 abbrev pub NextPrim : List ℕ → Prim → List ℕ → Type 0
 NextPrim text p rest = PrimText (skipped text) p rest
 
--- an information behind white space
+-- a patch info after white space
 abbrev pub NextInfo : List ℕ → PatchInfo → List ℕ → Type 0
 NextInfo text i rest = Stands (skipped text) i rest
 
--- informations in angle brackets
+-- patch infos in angle brackets
 pub record InAngles (text : List ℕ) (deps : List PatchInfo) (rest : List ℕ) : Type 0 where
   pub inside : List ℕ
   pub mid : List ℕ

@@ -1,4 +1,4 @@
--- How a path is spelled (Darcs.Util.Path; Darcs.Patch.Show, formatFileName): a dot, and each name behind a slash, with a backslash, a code and a backslash for a byte that can't stand for itself.
+-- How a path is spelled (Darcs.Util.Path; Darcs.Patch.Show, formatFileName): a dot, and each name after a slash, with a backslash, a code and a backslash for a byte that can't stand for itself.
 use Rattle.std.specs.Prelude.{◌≡◌, ◌≢◌, ◌≤◌, ◌⊎◌, ◌==◌, ℕ, false, List, [], ◌∷◌, ◌++◌, length}
 use Rattle.std.specs.List.{AllByRecursion}
 use Rattle.dm_tree.specs.Paths.{Path}
@@ -63,6 +63,6 @@ pub record PathWord (text : List ℕ) (p : Path) (rest : List ℕ) : Type 0 wher
   pub stands : Word text word rest
   pub spelled : IsPathText word p
 
--- a path behind white space
+-- a path after white space
 abbrev pub NextPath : List ℕ → Path → List ℕ → Type 0
 NextPath text p rest = PathWord (skipped text) p rest

@@ -1,4 +1,4 @@
--- White space, words, lines and numbers at the front of a text. A relation `R text value rest` says that the value stands at the front of the text, and that this rest is left behind it.
+-- White space, words, lines and numbers at the front of a text. A relation `R text value rest` says that the value stands at the front of the text, and that this rest is left after it.
 use Rattle.std.specs.Prelude.{◌≡◌, ◌≤◌, ◌⊎◌, ◌+◌, ◌*◌, ◌-◌, ◌<◌, ◌^◌, ◌==◌, ◌&&◌, ◌||◌, nat_le, ℕ, Bool, false, true, List, [], ◌∷◌, ◌++◌, if◌then◌else◌}
 use Rattle.std.specs.List.{AllByRecursion}
 use Rattle.dm_named.specs.Many.{Many}
@@ -7,7 +7,7 @@ use Rattle.dm_named.specs.Many.{Many}
 abbrev pub is_white : ℕ → Bool
 is_white b = nat_le 9 b && nat_le b 13 || b == 32
 
--- what is left behind the white space at the front
+-- what is left after the white space at the front
 abbrev pub skipped : List ℕ → List ℕ
 skipped [] = []
 skipped (b ∷ text) = if is_white b then skipped text else b ∷ text
@@ -16,7 +16,7 @@ skipped (b ∷ text) = if is_white b then skipped text else b ∷ text
 abbrev pub Begins : ℕ → List ℕ → Type 0
 Begins b text = (rest : List ℕ) × (text ≡ b ∷ rest)
 
--- this byte behind white space
+-- this byte after white space
 abbrev pub NextByte : ℕ → List ℕ → List ℕ → Type 0
 NextByte b text rest = skipped text ≡ b ∷ rest
 
@@ -52,13 +52,13 @@ pub record Line (text line rest : List ℕ) : Type 0 where
   pub free : NoNewline line
   pub parts : (text ≡ line ++ 10 ∷ rest) ⊎ ((text ≡ line) × (rest ≡ []))
 
--- a line behind this byte
+-- a line after this byte
 pub record MarkedLine (b : ℕ) (text line rest : List ℕ) : Type 0 where
   pub inside : List ℕ
   pub mark : text ≡ b ∷ inside
   pub read : Line inside line rest
 
--- as many lines behind this byte as stand there
+-- as many lines after this byte as stand there
 pub record LineGroup (b : ℕ) (text : List ℕ) (lines : List (List ℕ)) (rest : List ℕ) : Type 0 where
   pub read : Many (MarkedLine b) text lines rest
   pub ends : Begins b rest → ⊥
@@ -66,7 +66,7 @@ pub record LineGroup (b : ℕ) (text : List ℕ) (lines : List (List ℕ)) (rest
 abbrev pub IsDigit : ℕ → Type 0
 IsDigit b = (48 ≤ b) × (b ≤ 57)
 
--- the number that n and the digits behind it stand for
+-- the number that n and the digits after it stand for
 abbrev pub number_from : ℕ → List ℕ → ℕ
 number_from n [] = n
 number_from n (d ∷ ds) = number_from (10 * n + (d - 48)) ds
@@ -84,7 +84,7 @@ pub record BlankLine (text rest : List ℕ) : Type 0 where
   pub line : Line text blank rest
   pub white : AllByRecursion (λ b. is_white b ≡ true) blank
 
--- a word that is the number of a line, and nothing but white space behind it up to the end of its line
+-- a word that is the number of a line, and nothing but white space after it up to the end of its line
 pub record NumberLine (text : List ℕ) (n : ℕ) (rest : List ℕ) : Type 0 where
   pub digits : List ℕ
   pub after : List ℕ

@@ -1,14 +1,67 @@
 //! When two named patches commute.
 
-ghost use Rattle.std.specs.Prelude.{IfOk};
-ghost use Rattle.dm_named.specs.Commuting.{NamedCommutesTo, NamedLawsHold, NamedCommutesBack};
+ghost use Rattle.std.specs.Prelude.{IfOk, List, MatchBool};
+ghost use Rattle.dm_prim.specs.Primitives.{Prim};
+ghost use Rattle.dm_prim.specs.Commuting.{ListsCommute};
+ghost use Rattle.dm_named.specs.Patches.{Patch};
+ghost use Rattle.dm_named.specs.Commuting.{NamedCommutes, NamedCommutesTo, NamedLawsHold, NamedCommutesBack, Stays};
 
 use crate::named::Named;
-use dm_prim::commute_lists;
+use dm_prim::commute_lists_owned;
 use std::alloc::{AllocError, Allocator};
 
-/// For `x` then `y` the pair `y'` and `x'` that does the same in that order, or none. The answer is a copy: both
-/// patches keep their informations and their dependencies, and their primitives are commuted.
+/// The primitives of `x` then those of `y` become those of `y` then those of `x`, in place, and the answer says whether they
+/// commute; names and dependencies aren't asked. What doesn't change is moved. Where they don't commute, or memory runs out,
+/// both are left without primitives.
+pub fn commute_prims_in_place<A: Allocator + Copy>(
+    alloc: A,
+    x: &mut Named<A>,
+    y: &mut Named<A>,
+) -> Result<bool, AllocError>
+    ensures x_stays { Stays x.old x.new }
+    ensures y_stays { Stays y.old y.new }
+    ensures prims { IfOk result (λ commutes. MatchBool commutes
+        (ListsCommute x.old.prims y.old.prims y.new.prims x.new.prims)
+        ((ys' xs' : List Prim) → ListsCommute x.old.prims y.old.prims ys' xs' → ⊥)) }
+{
+    let xs = x.replace_prims(Vec::new(alloc));
+    let ys = y.replace_prims(Vec::new(alloc));
+    match commute_lists_owned(alloc, xs, ys)? {
+        None => Ok(false),
+        Some((second, first)) => {
+            let _ = x.replace_prims(first);
+            let _ = y.replace_prims(second);
+            Ok(true)
+        }
+    }
+}
+
+/// `x` then `y` become, in place, the patches that do the same in the other order, and the answer says whether they commute.
+/// Where one names the other among its dependencies nothing has changed; where their primitives don't commute, or memory runs
+/// out, both are left without primitives.
+pub fn commute_named_in_place<A: Allocator + Copy>(
+    alloc: A,
+    x: &mut Named<A>,
+    y: &mut Named<A>,
+) -> Result<bool, AllocError>
+    ensures x_stays { Stays x.old x.new }
+    ensures y_stays { Stays y.old y.new }
+    ensures commutes { IfOk result (λ commutes. MatchBool commutes
+        (NamedCommutes x.old y.old y.new x.new)
+        ((y' x' : Patch) → NamedCommutes x.old y.old y' x' → ⊥)) }
+{
+    if y.depends_on(x.info()) {
+        return Ok(false);
+    }
+    if x.depends_on(y.info()) {
+        return Ok(false);
+    }
+    let commutes = commute_prims_in_place(alloc, x, y)?;
+    Ok(commutes)
+}
+
+/// For `x` then `y` the pair `y'` and `x'` that does the same in that order, or none. The answer is a copy: both patches keep
+/// their patch infos and their dependencies, and their primitives are commuted.
 pub fn commute_named<A: Allocator, B: Allocator, C: Allocator + Copy>(
     alloc: C,
     x: &Named<A>,
@@ -18,15 +71,10 @@ pub fn commute_named<A: Allocator, B: Allocator, C: Allocator + Copy>(
     ensures laws { IfOk result (NamedLawsHold x.now y.now) }
     ensures back { IfOk result (NamedCommutesBack x.now y.now) }
 {
-    if y.depends_on(x.info()) || x.depends_on(y.info()) {
-        return Ok(None);
+    let mut first = x.copy_into(alloc)?;
+    let mut second = y.copy_into(alloc)?;
+    if commute_named_in_place(alloc, &mut first, &mut second)? {
+        return Ok(Some((second, first)));
     }
-    match commute_lists(alloc, x.prims(), y.prims())? {
-        None => Ok(None),
-        Some((second, first)) => {
-            let second = y.with_prims(alloc, second)?;
-            let first = x.with_prims(alloc, first)?;
-            Ok(Some((second, first)))
-        }
-    }
+    Ok(None)
 }

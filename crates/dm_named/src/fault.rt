@@ -3,7 +3,8 @@
 ghost use Rattle.std.specs.Prelude.{◌≡◌};
 ghost use Rattle.dm_named.specs.FaultWords.{fault_word};
 
-use std::fmt::{Display, Error, Formatter, Write};
+use std::fmt::{self, Display, Formatter, Write};
+use thiserror::Error;
 
 /// What is wrong with a text. The printed word of each is its name in small letters with dashes.
 #[derive(Clone, Copy, Debug, PartialEq, Eq)]
@@ -12,11 +13,11 @@ pub enum FaultKind {
     TooLarge,
     /// No line is the heading of a bundle.
     NoNewPatches,
-    /// What begins with an opening bracket is no information; or none stands where a named patch was asked for.
+    /// What begins with an opening bracket is no patch info; or none stands where a named patch was asked for.
     BadInfo,
-    /// The information is that of an inverted patch.
+    /// The patch info is that of an inverted patch.
     Inverted,
-    /// Inside angle brackets stands neither an information nor the closing one.
+    /// Inside angle brackets stands neither a patch info nor the closing one.
     BadDepends,
     /// Inside braces stands neither a primitive nor the closing one.
     BadPatch,
@@ -24,7 +25,7 @@ pub enum FaultKind {
     Unsupported,
     /// No path stands where one must.
     BadPath,
-    /// No number stands behind a hunk's path, or more than white space behind it on its line.
+    /// No number stands after a hunk's path, or more than white space after it on its line.
     BadNumber,
     /// A hunk has neither old nor new lines.
     EmptyHunk,
@@ -32,7 +33,7 @@ pub enum FaultKind {
     Unclosed,
     /// Neither a named patch nor the context stands where one must.
     NoContext,
-    /// An information equals that of an earlier new patch.
+    /// A patch info equals that of an earlier new patch.
     Doubled,
     /// One patch, or one primitive of a patch, more than a bundle may have.
     TooMany,
@@ -70,13 +71,14 @@ impl Display for FaultKind {
 
     ghost output = { λ kind. Some (fault_word kind) };
 
-    fn fmt<W: Write>(&self, f: &mut Formatter<W>) -> Result<(), Error> {
+    fn fmt<W: Write>(&self, f: &mut Formatter<W>) -> fmt::Result {
         f.write_str(self.word())
     }
 }
 
 /// What is wrong, and the place of the byte where it is.
-#[derive(Clone, Copy, Debug, PartialEq, Eq)]
+#[derive(Clone, Copy, Debug, PartialEq, Eq, Error)]
+#[error("{kind} at byte {at}")]
 pub struct ReadFault {
     pub kind: FaultKind,
     pub at: usize,

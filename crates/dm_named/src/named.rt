@@ -9,7 +9,7 @@ use std::alloc::{AllocError, Allocator};
 use std::marker::Model;
 use std::mem;
 
-/// A named patch: an information, the informations of the patches that it depends on, and its primitives in order
+/// A named patch: a patch info, the patch infos of the patches that it depends on, and its primitives in order
 /// (Darcs.Patch.Named). Nothing is asked of the dependencies: one may stand twice, or be the patch itself.
 #[derive(Drop)]
 pub struct Named<A: Allocator> {
@@ -35,14 +35,14 @@ impl<A: Allocator> Named<A> {
         Named { info, deps, prims }
     }
 
-    /// The information, which is the patch's identity.
+    /// The patch info, which is the patch's identity.
     pub fn info(&self) -> &Info<A>
         ensures { result.now ≡ self.now.info }
     {
         &self.info
     }
 
-    /// The informations of the patches that it names as dependencies.
+    /// The patch infos of the patches that it names as dependencies.
     pub fn deps(&self) -> &[Info<A>]
         ensures { result.now ≡ self.now.deps }
     {
@@ -56,7 +56,7 @@ impl<A: Allocator> Named<A> {
         self.prims.as_slice()
     }
 
-    /// Whether it names this information among its dependencies.
+    /// Whether it names this patch info among its dependencies.
     pub fn depends_on<B: Allocator>(&self, info: &Info<B>) -> bool
         ensures { IsTrue result ↔ Contains self.now.deps info.now }
     {
@@ -79,7 +79,7 @@ impl<A: Allocator> Named<A> {
         self.with_prims(alloc, prims)
     }
 
-    /// A copy of its information and its dependencies, with these primitives.
+    /// A copy of its patch info and its dependencies, with these primitives.
     pub(crate) fn with_prims<B: Allocator + Copy>(
         &self,
         alloc: B,
@@ -96,12 +96,7 @@ impl<A: Allocator> Named<A> {
 fn is_among<A: Allocator, B: Allocator>(infos: &[Info<A>], info: &Info<B>) -> bool
     ensures { IsTrue result ↔ Contains infos.now info.now }
 {
-    for other in infos {
-        if other.same(info) {
-            return true;
-        }
-    }
-    false
+    infos.iter().any(|other| other.same(info))
 }
 
 fn copy_infos<A: Allocator, B: Allocator + Copy>(

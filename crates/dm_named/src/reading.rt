@@ -40,8 +40,8 @@ fn named_at<A: Allocator + Copy>(
     Ok((Named::new(info, deps, prims), end))
 }
 
-/// The named patch at a place, and the place behind its closing brace or its last primitive; behind the `]` or `>`
-/// before a run of no primitives. The limit of 10,000 primitives is asked for; that no information is doubled isn't.
+/// The named patch at a place, and the place after its closing brace or its last primitive; after the `]` or `>`
+/// before a run of no primitives. The limit of 10,000 primitives is asked for; that no patch info is doubled isn't.
 ///
 /// # Errors
 /// The first fault from left to right. Where no `[` stands, and past the end of the text, it is `BadInfo` at that place.

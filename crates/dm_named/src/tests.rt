@@ -44,7 +44,7 @@ fn read<A: Allocator + Copy>(alloc: A, text: &[u8]) -> Result<Named<A>, Fail> {
     Ok(patch)
 }
 
-/// Compares the place behind the patch at the front of a text, and its canonical text.
+/// Compares the place after the patch at the front of a text, and its canonical text.
 fn reads<A: Allocator + Copy>(
     rt: &impl Abort,
     alloc: A,
@@ -54,7 +54,7 @@ fn reads<A: Allocator + Copy>(
     written: &[u8],
 ) -> Result<(), Fail> {
     let (patch, end) = read_named(alloc, text, 0)?;
-    assert_eq!(rt; end, place, "the place behind {what}");
+    assert_eq!(rt; end, place, "the place after {what}");
     assert_eq!(rt;
         canonical(alloc, &patch)?.as_slice(),
         written,
@@ -63,7 +63,7 @@ fn reads<A: Allocator + Copy>(
     Ok(())
 }
 
-/// Reads each row: what it shows; a patch, `^`, and what stands behind it; its canonical text.
+/// Reads each row: what it shows; a patch, `^`, and what stands after it; its canonical text.
 fn reads_rows<A: Allocator + Copy>(rt: &impl Abort, alloc: A, rows: &str) -> Result<(), Fail> {
     for line in rows.lines() {
         let (what, row) = line.split_once(": ").ok_or("what the row shows")?;
@@ -75,7 +75,7 @@ fn reads_rows<A: Allocator + Copy>(rt: &impl Abort, alloc: A, rows: &str) -> Res
     Ok(())
 }
 
-/// Compares the word and the place of the fault of a patch that stands behind a bundle's heading.
+/// Compares the word and the place of the fault of a patch that stands after a bundle's heading.
 fn refuses<A: Allocator + Copy>(
     rt: &impl Abort,
     alloc: A,

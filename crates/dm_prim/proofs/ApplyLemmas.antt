@@ -225,6 +225,3 @@ module _ {Y : Type 0} (prims : List (code.Primitive Y)) (i : ℕ) (p : code.Prim
       AppliedAll {T = T} (prims_of prims) t z (Err (i, f))
   stops_at {T} f r t u z is a h k = let b = rw is at a in
       (prim_of p, drop (i + 1) (prims_of prims), parted prims i p l e, rw b.0 k, rw b.0 b.1, subst (λ x. FaultsAs {T = T} (prim_of p) (map.get x) (Err f)) (sym b.0) (subst (λ x. FaultsAs {T = T} (prim_of p) (map.get u) x) is h))
-
-pub all_done : {Y : Type 0} (prims : List (code.Primitive Y)) (i : ℕ) (t z : Tree) → length prims ≤ i → InTurn AppliesToTree (take i (prims_of prims)) t z → InTurn AppliesToTree (prims_of prims) t z
-all_done prims i t z l k = rw (take_all i (prims_of prims) (rw (count_of prims) l)) at k

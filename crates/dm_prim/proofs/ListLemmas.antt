@@ -35,9 +35,6 @@ pub copied_more : {Y Z : Type 0} (ps : List (code.Primitive Y)) (qs qs' : List (
 copied_more ps qs qs' i p q l e same new h =
     ap (λ z. prims_of z) new ∙ map_push (λ x. prim_of x) qs q ∙ ap₂ (λ a b. a ++ b ∷ []) h same ∙ sym (prims_more ps i p l e)
 
-pub copied_all : {Y Z : Type 0} (ps : List (code.Primitive Y)) (qs : List (code.Primitive Z)) (i : ℕ) → length ps ≤ i → prims_of qs ≡ take i (prims_of ps) → prims_of qs ≡ prims_of ps
-copied_all ps qs i l h = h ∙ take_all i (prims_of ps) (rw (count_of ps) l)
-
 empty_of : (xs : List Prim) → length xs ≤ 0 → xs ≡ []
 empty_of [] l = refl
 empty_of (x ∷ xs) l = absurd (omega arith)

@@ -8,7 +8,7 @@ use Rattle.dm_tree.specs.Changes.{AddAnswers, RemoveFileAnswers, RemoveDirAnswer
 use Rattle.dm_prim.specs.InTurn.{InTurn}
 use Rattle.dm_prim.specs.Primitives.{AddFile, RmFile, AddDir, RmDir, Hunk, Prim, At, Move, Applies}
 
--- when a fault may come: the primitive does not apply, or it does and what it makes is too deep; memory may be wanting at any time
+-- when a fault may come: the primitive does not apply, or it does and what it makes is too deep; memory may run out at any time
 abbrev pub AdmitsFault : Prim → Map → TreeFault → Type 0
 AdmitsFault p m NoMemory = Unit {0}
 AdmitsFault p m TooDeep = (m' : Map) × Applies p m m' × Deep m'

@@ -7,6 +7,7 @@ use crate::places::Span;
 use dm_tree::{Lines, Path};
 use std::alloc::{AllocError, Allocator};
 use std::marker::Model;
+use thiserror::Error;
 
 /// A change of one file: at a line, counted from 1, the old lines are replaced by the new ones.
 #[derive(Drop)]
@@ -29,11 +30,13 @@ impl<A: Allocator> Model for Hunk<A> {
 }
 
 /// Why there is no such hunk.
-#[derive(Clone, Copy, Debug, PartialEq, Eq)]
+#[derive(Clone, Copy, Debug, PartialEq, Eq, Error)]
 pub enum HunkFault {
     /// The line is 0.
+    #[error("the line is 0")]
     BadLine,
     /// There are neither old nor new lines.
+    #[error("there are neither old nor new lines")]
     NoChange,
 }
 

@@ -14,7 +14,7 @@ use Rattle.dm_repo.proofs.Staircases.{runs_on, runs_part}
 use Rattle.dm_repo.proofs.Trees.{runs_one}
 use Rattle.dm_repo.proofs.RowSteps.{around}
 
--- what is refused goes nowhere, but for want of memory
+-- what is refused leads nowhere, unless memory ran out
 pub refused : (p : Prim) (s t : LawfulMap) (e : TreeFault) → e ≢ NoMemory → AdmitsFault p s.map e → LeadsShallowly p s t → ⊥
 refused p s t NoMemory n r g = n refl
 refused p s t TooDeep n (m, a, d) g = let e : m ≡ t.map = same_map m t.map (applies_one p s.map m t.map s.lawful a g.leads.applies) in g.shallow (rw e at d)
@@ -42,7 +42,7 @@ module _ {X P : Type 0} (m : X → P) (Step : P → LawfulMap → LawfulMap → 
       go : (v : LawfulMap) × InTurn Step (map m (take k xs)) s v × InTurn Step (m x ∷ map m (drop (k + 1) xs)) v u → ⊥
       go (v, q, step {u = w} i j) = let same : v ≡ t = runs_one step_one q r in h w (rw same at i)
 
--- the patches up to a place go, and the one there goes nowhere
+-- the patches up to a place lead shallowly, and the one there leads nowhere
 pub fit_stops : (xs : List Placed) (k : ℕ) (x : Placed) {s t : LawfulMap} → k < length xs → x ≡ get_or xs k x → InTurn PatchLeadsShallowly (patches (take k xs)) s t → ((u : LawfulMap) → PatchLeadsShallowly x.1 t u → ⊥) →
     FitStops s xs x
 fit_stops xs k x {t = t} l e r h = record { before = take k xs; after = drop (k + 1) xs; tree = t; at = around xs k x l e; leads = r; stops = h }

@@ -25,7 +25,7 @@ new_root t e l =
 pub new_makes : (t : trees.Tree) → t ≡ map.insert map.empty [] Dir → IsLawful (map.get t) → IsTreeOf [] t
 new_makes t e l = let r = new_root t e l in (r.0, r.1, record { start = r.0; is_root = r.2; runs = done })
 
--- where a patch goes nowhere, the list goes nowhere
+-- where a patch leads nowhere, the list leads nowhere
 pub fit_stops_all : {s t : LawfulMap} {xs : List Placed} {x : Placed} → FitStops s xs x → InTurn PatchLeadsShallowly (patches xs) s t → ⊥
 fit_stops_all {s} {t} {x} f r = go (runs_part (patches f.before) (rw (ap patches f.at ∙ map-append (λ y. y.1) f.before (x ∷ f.after)) at r))
   where
@@ -52,7 +52,7 @@ not_below (suc a) (suc b) n = let l = not_below a b (λ h. n (omega (arith, h)))
 pub makes_more : (xs : List Patch) (k : ℕ) (x : Patch) {s t : LawfulMap} → k < length xs → x ≡ get_or xs k x → ShallowFold (take k xs) s → PatchLeadsShallowly x s t → ShallowFold (take (k + 1) xs) t
 makes_more xs k x l e g h = record { start = g.start; is_root = g.is_root; runs = rw (take_more xs k x l, ← e) (runs_on g.runs (step h done)) }
 
--- a patch of a repository always goes on
+-- a patch of a repository always leads on
 pub always_goes : (xs : List Patch) (k : ℕ) (x : Patch) {s : LawfulMap} → k < length xs → x ≡ get_or xs k x → IsRepo xs → ShallowFold (take k xs) s → ((t : LawfulMap) → PatchLeadsShallowly x s t → ⊥) → ⊥
 always_goes xs k x {s} l e r g h =
     let same : r.folds.start ≡ g.start = root_one r.folds.start g.start r.folds.is_root g.is_root in

@@ -1,4 +1,4 @@
--- AreMarksOf beside the informations of a repository.
+-- Marks beside the patch infos of a repository.
 use Rattle.std.proofs.Common.{◌≡◌, ◌↔◌, ℕ, zero, suc, ◌+◌, ◌-◌, ◌<◌, ◌≤◌, Bool, true, false, List, [], ◌∷◌, ◌++◌, length, take, drop, get_or, set, replicate, slice_get, Some, ◌⊎◌, inl, inr, refl, sym, ap, subst, ◌∙◌, arith}
 use Rattle.std.specs.List.{Contains}
 use Rattle.std.proofs.lemmas.List.{take_more, drop_more, length-append}
@@ -18,7 +18,7 @@ at_place [] k x l e = absurd (omega arith)
 at_place (y ∷ ys) zero x l e = ap Some (sym e)
 at_place (y ∷ ys) (suc k) x l e = at_place ys k x (omega arith) e
 
--- distinct informations stand at one place each
+-- distinct patch infos stand at one place each
 pub one_place : (is : List PatchInfo) (j k : ℕ) {x : PatchInfo} → Distinct is → slice_get is j ≡ Some x → slice_get is k ≡ Some x → j ≡ k
 one_place [] j k d e f = absurd (cc)
 one_place (i ∷ is) zero zero d e f = refl
@@ -150,7 +150,7 @@ closed_split : (repo before : List Patch) (x : Patch) (after : List Patch) (cont
     Closed repo context x.info ↔ (Contains context x.info ⊎ ((y : Patch) × Contains after y × Closed repo context y.info × Contains y.deps x.info))
 closed_split repo before x after context e d n = rw e (closed_after before x after context (rw e at d) (rw e at n))
 
--- a patch is in the closed set by what stands behind it
+-- a patch is in the closed set by what stands after it
 pub closed_at : (repo : List Patch) (context : List PatchInfo) (k : ℕ) (x : Patch) → k < length repo → x ≡ get_or repo k x → IsRepo repo → Closed repo context x.info ↔ ClosedFrom repo context (k + 1) x.info
 closed_at repo context k x l e r = closed_split repo (take k repo) x (drop (k + 1) repo) context (around repo k x l e) r.distinct r.earlier
 
@@ -186,7 +186,7 @@ from_unmarked repo context k x l e c i = let f = from_more repo context k x l e 
   λ h. f.1 (inl h),
 )
 
--- from behind the last patch only the context is closed, and from the first on all is
+-- from after the last patch only the context is closed, and from the first on all is
 pub from_last : (repo : List Patch) (context : List PatchInfo) (n : ℕ) → drop n repo ≡ [] → (i : PatchInfo) → ClosedFrom repo context n i ↔ Contains context i
 from_last repo context n e i = ((λ h. elim h [ inl c ↦ c | inr y ↦ absurd (none_of (rw e at y.1)) ]), λ h. inl h)
 
@@ -217,7 +217,7 @@ some_at [] k l = absurd (omega arith)
 some_at (y ∷ ys) zero l = (y, refl)
 some_at (y ∷ ys) (suc k) l = some_at ys k (omega (arith, l))
 
--- one more patch, seen from behind, whose mark was read
+-- one more patch, seen from after, whose mark was read
 pub close_in : (repo : List Patch) (context : List PatchInfo) (marks new : List Bool) (j : ℕ) (x : Patch) → 0 < j → IsRepo repo → slice_get repo (j - 1) ≡ Some x →
     AreMarksOf marks (infos_of repo) (ClosedFrom repo context j) → slice_get marks (j - 1) ≡ Some true → AddsMarks marks new (infos_of repo) x.deps → AreMarksOf new (infos_of repo) (ClosedFrom repo context (j - 1))
 close_in repo context marks new j x o r f m marked a =

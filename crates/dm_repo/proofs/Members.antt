@@ -48,7 +48,7 @@ pub infos_of-append : (xs ys : List Patch) → infos_of (xs ++ ys) ≡ infos_of 
 infos_of-append [] ys = refl
 infos_of-append (x ∷ xs) ys = ap (λ l. x.info ∷ l) (infos_of-append xs ys)
 
--- the same of the informations of patches
+-- the same of the patch infos of patches
 pub none_more_infos : (xs : List Patch) (k : ℕ) (x : Patch) (i : PatchInfo) → k < length xs → x ≡ get_or xs k x → (Contains (infos_of (take k xs)) i → ⊥) → (x.info ≡ i → ⊥) →
     Contains (infos_of (take (k + 1) xs)) i → ⊥
 none_more_infos xs k x i l e n f c = none_on (infos_of (take k xs)) x.info i n f (rw (take_more xs k x l, ← e, infos_of-append (take k xs) (x ∷ [])) at c)

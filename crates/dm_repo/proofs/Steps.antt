@@ -118,16 +118,6 @@ not_all_held repo new held m h k d l =
     let n = within (infos_of new) k x.1 in
     sym (read_true held k d ((m.at k x.0 x.1).1 (h x.0 (k, n, sym (read_at (infos_of new) k x.0 x.1)))))
 
--- one more mark that is set
-pub set_more : (marks : List Bool) (n : ℕ) (e : Bool) → n < length marks → get_or marks n e ≡ true → ((k : ℕ) (d : Bool) → k < n → get_or marks k d ≡ true) → (k : ℕ) (d : Bool) → k < n + 1 → get_or marks k d ≡ true
-set_more marks n e l t f k d b = elim (less k n b) [ inl h ↦ f k d h | inr h ↦ ap (λ j. get_or marks j d) h ∙ sym (read_true marks n d (mark_at marks n true e l t)) ]
-  where
-    less : (k n : ℕ) → k < n + 1 → (k < n) ⊎ (k ≡ n)
-    less zero zero l = inr refl
-    less zero (suc n) l = inl (omega arith)
-    less (suc k) zero l = absurd (omega (arith, l))
-    less (suc k) (suc n) l = elim (less k n (omega (arith, l))) [ inl h ↦ inl (omega (arith, h)) | inr e ↦ inr (ap suc e) ]
-
 -- what is undone twice
 pub undone_twice : (xs : List Placed) → map undone (map undone xs) ≡ xs
 undone_twice [] = refl

@@ -8,7 +8,7 @@ use Rattle.dm_bundle.specs.Patches.{infos_of}
 use Rattle.dm_bundle.specs.Bundles.{Contents}
 use Rattle.dm_repo.specs.Repositories.{Holds}
 
--- the least set that has the context's informations and, for each held patch in it, what that patch names as dependencies
+-- the least set that has the context's patch infos and, for each held patch in it, what that patch names as dependencies
 pub data Closed (repo : List Patch) (context : List PatchInfo) : PatchInfo → Type 0 where
   given : {i : PatchInfo} → Contains context i → Closed repo context i
   needed : {x : Patch} {d : PatchInfo} → Contains repo x → Closed repo context x.info → Contains x.deps d → Closed repo context d
@@ -46,7 +46,7 @@ HasDependencies repo b = (n : ℕ) → HasDependenciesAt repo b n
 abbrev pub First : (ℕ → Type 0) → ℕ → Type 0
 First Q n = Q n × ((k : ℕ) → k < n → Q k → ⊥)
 
--- the information at a place isn't held
+-- the patch info at a place isn't held
 abbrev pub LacksAt : List Patch → List PatchInfo → ℕ → Type 0
 LacksAt repo infos k = (i : PatchInfo) × (slice_get infos k ≡ Some i) × (Holds repo i → ⊥)
 

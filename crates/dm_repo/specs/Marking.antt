@@ -15,7 +15,7 @@ pub record AreMarked (repo : List Patch) (b : Contents) (common held : List Bool
   pub common_is : AreMarksOf common (infos_of repo) (Common repo b)
   pub held_is : AreMarksOf held (infos_of b.patches) (Holds repo)
 
--- the context isn't held; want of memory may come at any time
+-- the context isn't held; memory may run out at any time
 abbrev pub RefusesContext : List Patch → Contents → Refusal → Type 0
 RefusesContext repo b (MissingContext c) = First (LacksAt repo b.context) c
 RefusesContext repo b NoMemory = Unit {0}

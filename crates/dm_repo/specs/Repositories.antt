@@ -16,7 +16,7 @@ pub record Repository : Type 0 where
   -- how many more can be appended before memory is needed
   pub room : ℕ
 
--- a patch of this name is held; its name is its information
+-- a patch of this name is held; its name is its patch info
 abbrev pub Holds : List Patch → PatchInfo → Type 0
 Holds repo i = Contains (infos_of repo) i
 

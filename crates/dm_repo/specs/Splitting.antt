@@ -15,7 +15,7 @@ pub record SplitsInto (repo : List Patch) (b : Contents) (front rest : List Plac
   pub knows : KnowsContext repo b
   pub split : Split PlacedCommutes (IsCommon repo b) (placed repo) front rest
 
--- the context isn't held, or a common patch depends on one that isn't; want of memory may come at any time
+-- the context isn't held, or a common patch depends on one that isn't; memory may run out at any time
 abbrev pub RefusesToSplit : List Patch → Contents → Refusal → Type 0
 RefusesToSplit repo b (MissingContext c) = First (LacksAt repo b.context) c
 RefusesToSplit repo b (ContextDepends h r) = KnowsContext repo b × AtPlaces (SplitStops PlacedCommutes (IsCommon repo b) (placed repo)) h r

@@ -21,7 +21,7 @@ abbrev pub patches : List Placed → List Patch
 patches xs = map (λ x. x.1) xs
 
 -- r and n start at one state: n' is n after r, and r' is r after n, since the inverse of r and then n change places;
--- informations and dependencies are kept
+-- patch infos and dependencies are kept
 pub record Merges (r n n' r' : Patch) : Type 0 where
   pub r_stays : Stays r r'
   pub n_stays : Stays n n'

@@ -7,7 +7,7 @@ use Rattle.dm_prim.specs.Rectangles.{CellRow, Rectangle}
 abbrev pub Passes : {P : Type 0} → (P → P → P → P → Type 0) → List P → P → P → List P → Type 0
 Passes Square xs h h' xs' = Rectangle Square xs (h ∷ []) (h' ∷ []) xs'
 
--- h passes what stands behind r in xs, and then has no square with r
+-- h passes what stands after r in xs, and then has no square with r
 pub record PassStops {P : Type 0} (Square : P → P → P → P → Type 0) (xs : List P) (h r : P) : Type 0 where
   pub far : List P
   pub near : List P
@@ -18,7 +18,7 @@ pub record PassStops {P : Type 0} (Square : P → P → P → P → Type 0) (xs 
   pub stuck : (h' r' : P) → Square r h1 h' r' → ⊥
 
 -- a list is split into a front, its members in the set, and a rest, the others: each of the set passes all outside it that stand before it.
--- Told from the end of the list: a patch of the set stays in front; another yields to the whole front of what stands behind it
+-- Told from the end of the list: a patch of the set stays in front; another yields to the whole front of what stands after it
 pub data Split {P : Type 0} (Square : P → P → P → P → Type 0) (In : P → Type 0) : List P → List P → List P → Type 0 where
   nothing : Split Square In [] [] []
   stays : {h : P} {xs front rest : List P} → In h → Split Square In xs front rest → Split Square In (h ∷ xs) (h ∷ front) rest

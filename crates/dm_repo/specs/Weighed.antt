@@ -25,7 +25,7 @@ abbrev pub LeavesRepo : {Z : Type 0} → List Patch → Weighed Z → Type 0
 LeavesRepo repo NothingNew = Unit {0}
 LeavesRepo repo (Merged m) = IsRepo (repo ++ m.patches.items)
 
--- P holds where the repository is full; want of memory may come at any time
+-- P holds where the repository is full; memory may run out at any time
 abbrev pub FullFor : Refusal → Type 0 → Type 0
 FullFor refusals.Full P = P
 FullFor refusals.NoMemory P = Unit {0}

@@ -45,7 +45,7 @@ pub record IsBundleSplit (repo : List Patch) (b : Contents) (front rest new : Li
   pub held : List Placed
   pub split : Split PlacedCommutes (IsHeld repo) (placed b.patches) held new
 
--- the patches go from s up to x, and x goes nowhere
+-- the patches lead shallowly from s up to x, and x leads nowhere shallowly
 pub record FitStops (s : LawfulMap) (xs : List Placed) (x : Placed) : Type 0 where
   pub before : List Placed
   pub after : List Placed
@@ -63,12 +63,12 @@ pub record Fits (repo : List Patch) (b : Contents) (rest new : List Placed) : Ty
   pub fitted : LawfulMap
   pub leads : InTurn PatchLeadsShallowly (patches new) base fitted
 
--- the merged patches go nowhere from the repository's tree, or are too many
+-- the merged patches lead nowhere shallowly from the repository's tree, or are too many
 abbrev pub IsFull : List Patch → List Placed → Type 0
 IsFull repo merged = (most_patches < length repo + length merged) ⊎
     ((s t : LawfulMap) → ShallowFold repo s → InTurn PatchLeadsShallowly (patches merged) s t → ⊥)
 
--- the front goes nowhere from the root alone
+-- the front leads nowhere shallowly from the root alone
 abbrev pub FrontIsFull : List Patch → Contents → Type 0
 FrontIsFull repo b =
     (front : List Placed) × (rest : List Placed) × (new : List Placed) ×
@@ -80,7 +80,7 @@ MergeIsFull repo b =
     (rest : List Placed) × (new : List Placed) × (merged : List Placed) ×
     Fits repo b rest new × Merge PlacedMerges rest new merged × IsFull repo merged
 
--- when each refusal comes, in the order of the steps: the place or the pair is the first; want of memory may come at any time
+-- when each refusal comes, in the order of the steps: the place or the pair is the first; memory may run out at any time
 abbrev pub RefusesBundle : List Patch → Contents → Refusal → Type 0
 RefusesBundle repo b (MissingContext c) = First (LacksAt repo b.context) c
 RefusesBundle repo b (MissingDependency n d) =
@@ -102,7 +102,7 @@ pub record IsNothingNew (repo : List Patch) (b : Contents) : Type 0 where
   pub knows : KnowsContext repo b
   pub all_held : HasAll repo b
 
--- the patches go on from the repository's tree, and there are not too many
+-- the patches lead on shallowly from the repository's tree, and there are not too many
 pub record Appends (repo new : List Patch) : Type 0 where
   pub few : length repo + length new ≤ most_patches
   pub tree : LawfulMap

@@ -4,7 +4,7 @@ use Rattle.std.specs.Fmt.{decimal}
 use Rattle.dm_repo.specs.declared.refusal.Refusal.{Refusal}
 use Rattle.dm_repo.specs.declared.refusal.Refusal.TheVariants.{MissingContext, MissingDependency, ContextDepends, HeldDepends, DoesNotFit, Conflicts, Full, NoMemory}
 
--- one place behind the word
+-- one place after the word
 abbrev pub with_place : List ℕ → ℕ → List ℕ
 with_place word place = word ++ 32 ∷ decimal place
 

@@ -1,4 +1,4 @@
-//! Applying patches to a tree, up to the first that goes nowhere.
+//! Applying patches to a tree, up to the first that leads nowhere, or to a path that is too deep.
 ghost use Rattle.std.specs.Prelude.{List, IfOk, MatchBool, MatchResult};
 ghost use Rattle.dm_prim.specs.Primitives.{LawfulMap};
 ghost use Rattle.dm_prim.specs.Prims.{prim_of};
@@ -19,7 +19,7 @@ use dm_tree::laws::tree_is_lawful;
 use dm_tree::{Tree, TreeFault};
 use std::alloc::{AllocError, Allocator};
 
-/// Applies a primitive, and says whether it goes: else it doesn't apply, or makes a path that is too deep.
+/// Applies a primitive, and answers whether it leads shallowly: else it doesn't apply, or makes a path that is too deep.
 fn apply_prim<A: Allocator, B: Allocator + Copy>(
     prim: &Prim<A>,
     tree: &mut Tree<B>,
@@ -37,7 +37,7 @@ fn apply_prim<A: Allocator, B: Allocator + Copy>(
     }
 }
 
-/// Applies the primitives of a patch in turn, and says whether all go.
+/// Applies the primitives of a patch in turn, and answers whether all lead shallowly.
 pub(crate) fn apply_patch<A: Allocator, B: Allocator + Copy>(
     patch: &Named<A>,
     tree: &mut Tree<B>,
@@ -54,7 +54,7 @@ pub(crate) fn apply_patch<A: Allocator, B: Allocator + Copy>(
     Ok(true)
 }
 
-/// Applies patches in turn, or stops at the first that goes nowhere.
+/// Applies patches in turn, or stops at the first that leads nowhere shallowly.
 pub(crate) fn fit<A: Allocator, B: Allocator + Copy>(
     list: &[(usize, Named<A>)],
     tree: &mut Tree<B>,

@@ -21,7 +21,6 @@ mod parted;
 mod passing;
 mod refusal;
 mod repo;
-mod square;
 mod stop;
 mod weighed;
 

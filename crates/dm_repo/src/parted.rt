@@ -29,7 +29,7 @@ use std::alloc::Allocator;
 pub struct Parted<A: Allocator> {
     /// Those of the set, as they are once they stand before the others.
     pub front: Vec<(usize, Named<A>), A>,
-    /// The others, as they are behind them.
+    /// The others, as they are after them.
     pub rest: Vec<(usize, Named<A>), A>,
 }
 

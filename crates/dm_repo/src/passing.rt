@@ -5,9 +5,8 @@ ghost use Rattle.dm_repo.specs.Merging.{MergesPast, MergePastStops};
 ghost use Rattle.dm_repo.specs.Squares.{PlacedCommutes, PlacedMerges, undone};
 ghost use Rattle.dm_repo.specs.Stops.{StopsAt};
 
-use crate::square::{commute_prims, commute_square};
 use crate::stop::Stop;
-use dm_named::Named;
+use dm_named::{Named, commute_named_in_place, commute_prims_in_place};
 use std::alloc::Allocator;
 
 /// `patch` passes all of `rest`, the nearest first, which is the last.
@@ -22,7 +21,7 @@ pub(crate) fn pass<A: Allocator + Copy>(
 {
     for k in (0..rest.len()).rev() {
         let nearest = &mut rest[k];
-        if !commute_square(alloc, &mut nearest.1, &mut patch.1)? {
+        if !commute_named_in_place(alloc, &mut nearest.1, &mut patch.1)? {
             return Err(Stop::At(nearest.0));
         }
     }
@@ -41,7 +40,7 @@ pub(crate) fn merge_past<A: Allocator + Copy>(
 {
     for k in 0..rest.len() {
         let next = &mut rest[k];
-        if !commute_prims(alloc, &mut next.1, &mut patch.1)? {
+        if !commute_prims_in_place(alloc, &mut next.1, &mut patch.1)? {
             return Err(Stop::At(next.0));
         }
     }

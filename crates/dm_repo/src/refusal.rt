@@ -8,7 +8,7 @@ use std::fmt::{Display, Error, Formatter, Write};
 /// Why a bundle isn't taken, in the order in which the steps of weighing tell it. Places count from 0.
 #[derive(Clone, Copy, PartialEq, Eq, Debug)]
 pub enum Refusal {
-    /// The context's information at this place isn't held.
+    /// The context's patch info at this place isn't held.
     MissingContext(usize),
     /// The new patch at the first place names, at the second place of its dependencies, what is neither common nor an earlier new patch.
     MissingDependency(usize, usize),

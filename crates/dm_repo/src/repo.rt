@@ -1,5 +1,5 @@
 //! A repository: its patches, oldest first.
-ghost use Rattle.std.specs.Prelude.{◌≡◌, ◌<◌, ◌≤◌, [], ◌++◌, length, IfOk, slice_get, Some, MatchOption};
+ghost use Rattle.std.specs.Prelude.{◌≡◌, ◌↔◌, ◌<◌, ◌≤◌, [], ◌++◌, length, IfOk, IsTrue, slice_get, Some, MatchOption};
 ghost use Rattle.dm_bundle.specs.Patches.{infos_of};
 ghost use Rattle.dm_repo.specs.Repositories.{Holds, IsRepo, IsTreeOf};
 
@@ -64,6 +64,13 @@ impl<A: Allocator> Repo<A> {
         ensures good { IsRepo self.now.patches }
     {
         self.patches().len()
+    }
+
+    /// Whether it holds no patch.
+    pub fn is_empty(&self) -> bool
+        ensures { IsTrue result ↔ (self.now.patches ≡ []) }
+    {
+        self.patches.is_empty()
     }
 
     /// The patch at a place.
@@ -143,7 +150,7 @@ impl<A: Allocator> Repo<A> {
 }
 
 impl<A: Allocator + Copy> Repo<A> {
-    /// IsTreeOf the room for the merged patches, and copies them. The repository reads as before.
+    /// Makes the room for the merged patches, and copies them. The repository reads as before.
     ///
     /// `merged` was weighed against this repository as it stands.
     pub fn prepare<B: Allocator>(&mut self, merged: &Merged<B>) -> Result<Ready<A>, AllocError>

@@ -36,7 +36,7 @@ impl Stop {
         }
     }
 
-    /// Where patches go nowhere from a tree that the repository needs.
+    /// Where patches lead nowhere from a tree that the repository needs.
     pub(crate) fn full(self) -> Refusal
         ensures { result ≡ refusal_of (λ _. Full) self }
     {
@@ -46,7 +46,7 @@ impl Stop {
         }
     }
 
-    /// Where a new patch goes nowhere from what the bundle was made from.
+    /// Where a new patch leads nowhere from what the bundle was made from.
     pub(crate) fn does_not_fit(self) -> Refusal
         ensures { result ≡ refusal_of DoesNotFit self }
     {

@@ -8,7 +8,7 @@ use std::process::Abort;
 use std::test::Fail;
 
 /// A text in which `|` is a newline, `%N` the heading and an empty line, `%C` an empty line, the word of the
-/// context and an empty line, `(x)` the information with the name `x` and the space behind it, and `%F` the
+/// context and an empty line, `(x)` the patch info with the name `x` and the space after it, and `%F` the
 /// patch (a) that adds the file `./f` of the lines 1 to 5.
 fn text_of<A: Allocator + Copy>(alloc: A, row: &str) -> Result<Vec<u8, A>, Fail> {
     let row = row.as_bytes();
@@ -61,7 +61,7 @@ fn count_of<A: Allocator>(weighed: &Result<Weighed<A>, Refusal>) -> Result<usize
     }
 }
 
-/// Takes a bundle by a trial under another allocator: what is printed of it. Weighed as it is lent it answers alike.
+/// Takes a bundle by a trial under another allocator: what is printed of it. Weighed as it is borrowed it answers alike.
 fn taken<A: Allocator + Copy, B: Allocator + Copy>(
     rt: &impl Abort,
     alloc: B,
@@ -162,7 +162,7 @@ fn chain(alloc: Global, count: usize, more: &str) -> Result<Bundle<Global>, Fail
     }
 }
 
-/// What a row shows, the length of the chain, what stands behind it, what is printed of these, a bundle that is taken after them,
+/// What a row shows, the length of the chain, what stands after it, what is printed of these, a bundle that is taken after them,
 /// and what is printed of it.
 const DEEP: [(&str, usize, &str, &str, &str, &str); 3] = [
     (

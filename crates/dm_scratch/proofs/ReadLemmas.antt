@@ -6,7 +6,7 @@ use Rattle.dm_named.specs.declared.fault.ReadFault.{ReadFault}
 use Rattle.dm_named.specs.Patches.{Patch}
 use Rattle.dm_bundle.specs.Patches.{AreFew}
 use Rattle.dm_bundle.specs.Bundles.{Contents, BundleText}
-use Rattle.dm_bundle.specs.Faults.{FaultAt}
+use Rattle.dm_bundle.specs.Faults.{FaultAt, most_bytes}
 use Rattle.dm_scratch.specs.declared.verdict.Verdict.{Verdict}
 use Rattle.dm_scratch.specs.Taking.{Reads, Takes, malformed, no_memory, IsUnread}
 
@@ -14,7 +14,7 @@ pub no_err : {T E : Type 0} (x : T) (e : E) → IsErrOf (Ok x) e → ⊥
 no_err x e is = cc
 
 -- a text that was read is not too large
-pub reads : (text : List ℕ) (b : Contents) → BundleText text b → AreFew b.patches → (4194304 < length text → ⊥) → Reads text b
+pub reads : (text : List ℕ) (b : Contents) → BundleText text b → AreFew b.patches → (most_bytes < length text → ⊥) → Reads text b
 reads text b stands few small = record { stands = stands; small = omega (arith, small); few = few }
 
 pub unread_takes : (repo : List Patch) (text : List ℕ) (fault : ReadFault) (v : Verdict) (after : List Patch) → (fault.kind ≢ kind.NoMemory → FaultAt text fault.kind fault.at)

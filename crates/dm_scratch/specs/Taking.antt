@@ -5,7 +5,7 @@ use Rattle.dm_named.specs.declared.fault.ReadFault.{ReadFault}
 use Rattle.dm_named.specs.Patches.{Patch}
 use Rattle.dm_bundle.specs.Patches.{AreFew}
 use Rattle.dm_bundle.specs.Bundles.{Contents, BundleText}
-use Rattle.dm_bundle.specs.Faults.{FaultAt}
+use Rattle.dm_bundle.specs.Faults.{FaultAt, most_bytes}
 use Rattle.dm_repo.specs.declared.refusal.Refusal.TheVariants.{NoMemory}
 use Rattle.dm_repo.specs.Weighing.{IsNothingNew, IsMergeOf, RefusesBundle}
 use Rattle.dm_scratch.specs.declared.verdict.Verdict.{Verdict}
@@ -14,7 +14,7 @@ use Rattle.dm_scratch.specs.declared.verdict.Verdict.TheVariants.{Taken, Nothing
 -- the text stands for the bundle, and both are within the limits
 pub record Reads (text : List ℕ) (b : Contents) : Type 0 where
   pub stands : BundleText text b
-  pub small : length text ≤ 4194304
+  pub small : length text ≤ most_bytes
   pub few : AreFew b.patches
 
 -- the merged patches are appended
@@ -31,7 +31,7 @@ TakesBundle repo b NothingNew after = IsNothingNew repo b × (after ≡ repo)
 TakesBundle repo b (Refused why) after = RefusesBundle repo b why × (after ≡ repo)
 TakesBundle repo b (Malformed fault) after = ⊥
 
--- What taking a text does: its bundle is taken; or it has a fault, or memory is wanting, and the repository stays as it was.
+-- What taking a text does: its bundle is taken; or it has a fault, or memory runs out, and the repository stays as it was.
 pub data Takes (repo : List Patch) (text : List ℕ) (verdict : Verdict) (after : List Patch) : Type 0 where
   bundle : (b : Contents) → Reads text b → TakesBundle repo b verdict after → Takes repo text verdict after
   malformed : (fault : ReadFault) → FaultAt text fault.kind fault.at → verdict ≡ Malformed fault → after ≡ repo → Takes repo text verdict after
@@ -50,6 +50,6 @@ IsAccepted NothingNew = Unit {0}
 IsAccepted (Malformed fault) = ⊥
 IsAccepted (Refused why) = ⊥
 
--- the verdict on a text that couldn't be read: its fault, but want of memory is a refusal
+-- the verdict on a text that couldn't be read: its fault, but out of memory is a refusal
 abbrev pub IsUnread : ReadFault → Verdict → Type 0
 IsUnread fault verdict = ((fault.kind ≢ kind.NoMemory) × (verdict ≡ Malformed fault)) ⊎ ((fault.kind ≡ kind.NoMemory) × (verdict ≡ Refused NoMemory))

@@ -6,7 +6,7 @@ use Rattle.dm_repo.specs.Words.{refusal_text}
 use Rattle.dm_scratch.specs.declared.verdict.Verdict.{Verdict}
 use Rattle.dm_scratch.specs.declared.verdict.Verdict.TheVariants.{Taken, NothingNew, Malformed, Refused}
 
--- the text of a verdict; a malformed text is told by the word of its fault and the fault's place
+-- the text of a verdict; a malformed text is reported by the word of its fault and the fault's place
 abbrev pub verdict_text : Verdict → List ℕ
 verdict_text (Taken count) = codes "taken " ++ decimal count
 verdict_text NothingNew = codes "nothing new"

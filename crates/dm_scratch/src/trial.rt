@@ -30,7 +30,7 @@ fn take_bundle<A: Allocator + Copy, B: Allocator + Copy>(
 ///
 /// The arena is reset first. What the text and the trial need is made in it; what is taken is copied once into the
 /// repository's own memory and then appended in one step that can't fail. After any other verdict the repository is as it
-/// was. Want of memory, in the arena or in the repository, and a refused reset are `Refused(NoMemory)`.
+/// was. Out of memory, in the arena or in the repository, and a refused reset are `Refused(NoMemory)`.
 pub fn take<A: Allocator + Copy, P: Allocator>(
     repo: &mut Repo<A>,
     arena: &mut Bump<P>,

@@ -20,7 +20,7 @@ pub enum Verdict {
 }
 
 impl Verdict {
-    /// The verdict on a text that couldn't be read. Want of memory is a refusal.
+    /// The verdict on a text that couldn't be read. Out of memory is a refusal.
     pub fn unread(fault: ReadFault) -> Verdict
         ensures { IsUnread fault result }
     {

@@ -29,7 +29,7 @@ fn check_text(alloc: Global, text: &[u8]) -> Result<(Vec<u8>, u8), AllocError>
 }
 
 /// Reads a bundle and writes its canonical text, or the line of the verdict: that the text is
-/// malformed, or that memory was wanting as it was read. Answers the exit status, 0 with a
+/// malformed, or that memory ran out as it was read. Answers the exit status, 0 with a
 /// canonical text and 1 with a verdict.
 ///
 /// Errors: [`ToolFault::Read`], [`ToolFault::NoMemory`] where the text or the output could not be

@@ -13,6 +13,9 @@ use std::{env, io};
 /// The exit status where there is no answer.
 const NO_ANSWER: u8 = 2;
 
+/// What `dm --version` prints after the program's name.
+const VERSION: &str = "0.1.0";
+
 /// The commands and their words.
 fn program<'a>(alloc: Global) -> Result<Command<'a>, AllocError> {
     let base = Arg::new(alloc, "base")
@@ -34,6 +37,7 @@ fn program<'a>(alloc: Global) -> Result<Command<'a>, AllocError> {
     );
     Command::new(alloc, "dm")
         .bin_name("dm")?
+        .version(VERSION)
         .about("Reads Darcs patch bundles and takes them into repositories")
         .subcommand_required(true)
         .arg_required_else_help(true)

@@ -7,7 +7,7 @@ use dm_scratch::Verdict;
 use std::alloc::{AllocError, AllocFailed};
 use thiserror::Error;
 
-/// Why a command gives no answer. The program prints it on standard error, behind `dm: `.
+/// Why a command gives no answer. The program prints it on standard error, after `dm: `.
 #[derive(Clone, Copy, PartialEq, Eq, Debug, Error)]
 pub enum ToolFault {
     /// The reader answered an error. Nothing was written.

@@ -8,10 +8,5 @@ use dm_scratch::Verdict;
 pub fn status_of(verdict: Verdict) -> u8
     ensures { result ≡ status_of verdict }
 {
-    match verdict {
-        Verdict::Taken(_) => 0,
-        Verdict::NothingNew => 0,
-        Verdict::Malformed(_) => 1,
-        Verdict::Refused(_) => 1,
-    }
+    if verdict.is_accepted() { 0 } else { 1 }
 }

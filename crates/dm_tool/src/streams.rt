@@ -4,13 +4,14 @@ ghost use Rattle.std.specs.Io.KnownBytes.{Appends};
 ghost use Rattle.dm_tool.specs.Streams.{Gives};
 
 use crate::fault::ToolFault;
+use dm_bundle::MOST_BYTES;
 use std::alloc::Global;
 use std::io::{Read, Write};
 
 /// One byte more than a bundle may have.
-pub const MOST_BYTES: usize = 4194305;
+const MOST_READ: usize = MOST_BYTES + 1;
 
-/// Reads to the end, or `MOST_BYTES` bytes if there are as many.
+/// Reads to the end, or `MOST_READ` bytes if there are as many.
 ///
 /// Errors: [`ToolFault::Read`] at any error of the reader, an interruption too;
 /// [`ToolFault::NoMemory`].
@@ -20,8 +21,8 @@ pub fn read_text<R: Read>(alloc: Global, reader: &mut R) -> Result<Vec<u8>, Tool
 {
     let mut text = Vec::new(alloc);
     let mut chunk = [0; 65536];
-    while text.len() < MOST_BYTES {
-        let room = (MOST_BYTES - text.len()).min(65536);
+    while text.len() < MOST_READ {
+        let room = (MOST_READ - text.len()).min(65536);
         let part = &mut chunk[..room];
         let Ok(count) = reader.read(part) else {
             return Err(ToolFault::Read);

@@ -12,8 +12,8 @@ use std::process::Abort;
 use std::test::Fail;
 
 /// A text in which `|` is a newline, `%N` the heading and an empty line, `%C` an empty line, the
-/// word of the context and an empty line, and `(x)` the information with the name `x` and the
-/// space behind it.
+/// word of the context and an empty line, and `(x)` the patch info with the name `x` and the
+/// space after it.
 fn text_of(alloc: Global, row: &str) -> Result<Vec<u8>, Fail> {
     let row = row.as_bytes();
     let mut text = Vec::new(alloc);

@@ -16,9 +16,6 @@ begins_all p q n e h = (drop n p, sym (take-append-drop n p) ∙ ap (λ f. f ++ 
 pub under_at : {r : Bool} (p p' a a' : Path) → p ≡ p' → a ≡ a' → (IsTrue r ↔ Under p a) → (IsTrue r ↔ Under p' a')
 under_at p p' a a' e f h = rw (e, f) at h
 
-pub under_from : (p p' a a' : Path) → p ≡ p' → a ≡ a' → Under p a → Under p' a'
-under_from p p' a a' e f u = rw (← e, ← f) u
-
 pub inside_from : (p a : Path) → length a < length p → Under p a → Inside p a
 inside_from p a l (r, e) = go r e
   where

@@ -18,10 +18,6 @@ Later-below : (n : Name) (p : Path) (rs : PathEntries) → Later p rs → Later 
 Later-below n p [] l = tt
 Later-below n p (r ∷ rs) l = (ap (λ o. ordering_then o (path_cmp p r.0)) (name_self n) ∙ l.0, Later-below n p rs l.1)
 
-InOrder-below : (n : Name) (rs : PathEntries) → InOrder rs → InOrder (below n rs)
-InOrder-below n [] s = tt
-InOrder-below n (r ∷ rs) s = (Later-below n r.0 rs s.0, InOrder-below n rs s.1)
-
 pub Later-append : (p : Path) (xs ys : PathEntries) → Later p xs → Later p ys → Later p (xs ++ ys)
 Later-append p [] ys a b = b
 Later-append p (x ∷ xs) ys a b = (a.0, Later-append p xs ys a.1 b)

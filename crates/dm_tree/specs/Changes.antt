@@ -14,7 +14,7 @@ AddAnswers m p (Err Occupied) = HasParent p m × (m p ≢ None)
 AddAnswers m p (Err NoMemory) = HasParent p m × (m p ≡ None)
 AddAnswers m p (Err e) = ⊥
 
--- what removing the file at p may answer; want of memory is no answer
+-- what removing the file at p may answer; it takes no memory
 abbrev pub RemoveFileAnswers : {T : Type 0} → Map → Path → Result T TreeFault → Type 0
 RemoveFileAnswers m p (Ok x) = m p ≡ Some empty_file
 RemoveFileAnswers m p (Err Missing) = m p ≡ None
@@ -22,7 +22,7 @@ RemoveFileAnswers m p (Err NotFile) = m p ≡ Some Dir
 RemoveFileAnswers m p (Err NotEmpty) = (ls : Lines) × (m p ≡ Some (File ls)) × (ls ≢ [] ∷ [])
 RemoveFileAnswers m p (Err e) = ⊥
 
--- what removing the directory at p may answer; want of memory is no answer
+-- what removing the directory at p may answer; it takes no memory
 abbrev pub RemoveDirAnswers : {T : Type 0} → Map → Path → Result T TreeFault → Type 0
 RemoveDirAnswers m p (Ok x) = (m p ≡ Some Dir) × ((n : Name) → m (p ++ n ∷ []) ≡ None)
 RemoveDirAnswers m p (Err Missing) = m p ≡ None

@@ -36,12 +36,12 @@ path_fault ns = cond (length ns == 0) (Some path.Empty) (cond (nat_lt 32 (length
 abbrev pub IsGoodPath : Path → Type 0
 IsGoodPath p = path_fault p ≡ None
 
--- the fault, but want of memory, which no names are to blame for
+-- the fault, but out of memory, which no names are to blame for
 abbrev pub path_fault_of : PathFault → Option PathFault
 path_fault_of path.NoMemory = None
 path_fault_of e = Some e
 
--- an Ok, or want of memory, comes only where no fault holds; any other Err is the first fault
+-- an Ok, or out of memory, comes only where no fault holds; any other Err is the first fault
 abbrev pub AnswersPath : {T : Type 0} → Result T PathFault → Option PathFault → Type 0
 AnswersPath (Ok x) f = f ≡ None
 AnswersPath (Err e) f = f ≡ path_fault_of e
@@ -62,12 +62,12 @@ ArePlain ls = All IsPlain ls
 abbrev pub line_fault : List ℕ → Option LineFault
 line_fault l = cond (has_newline l) (Some line.Newline) None
 
--- the fault, but want of memory, which no line is to blame for
+-- the fault, but out of memory, which no line is to blame for
 abbrev pub line_fault_of : LineFault → Option LineFault
 line_fault_of line.NoMemory = None
 line_fault_of e = Some e
 
--- an Ok, or want of memory, comes only where the line has no fault
+-- an Ok, or out of memory, comes only where the line has no fault
 abbrev pub AnswersLine : {T : Type 0} → Result T LineFault → Option LineFault → Type 0
 AnswersLine (Ok x) f = f ≡ None
 AnswersLine (Err e) f = f ≡ line_fault_of e

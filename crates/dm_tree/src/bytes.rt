@@ -38,7 +38,7 @@ impl<A: Allocator> Bytes<A> {
         })
     }
 
-    /// The bytes, lent.
+    /// The bytes, borrowed.
     pub fn as_slice(&self) -> &[u8]
         ensures { result.now ≡ self.now }
     {

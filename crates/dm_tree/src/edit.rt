@@ -84,7 +84,7 @@ pub(crate) fn edit_at<A: Allocator + Copy, B: Allocator>(
 }
 
 /// Puts the fresh lines in place of those from `start` to before `end`, in one move of those
-/// behind.
+/// after.
 fn replace_lines<A: Allocator + Copy>(
     lines: &mut Vec<Bytes<A>, A>,
     start: usize,

@@ -1,4 +1,4 @@
-//! What stands at a path, lent.
+//! What stands at a path, borrowed.
 ghost use Rattle.std.specs.Prelude.{◌≡◌, ◌<◌, [], length, slice_index_or};
 ghost use Rattle.dm_tree.specs.Listings.{file_size};
 
@@ -6,7 +6,7 @@ use crate::bytes::Bytes;
 use std::alloc::Allocator;
 use std::marker::Model;
 
-/// What stands at a path of a tree, lent by [`Tree::entry`](crate::Tree::entry) without a copy.
+/// What stands at a path of a tree, borrowed by [`Tree::entry`](crate::Tree::entry) without a copy.
 #[derive(Drop)]
 pub enum Entry<'t, A: Allocator> {
     /// A directory.
@@ -15,7 +15,7 @@ pub enum Entry<'t, A: Allocator> {
     File(FileRef<'t, A>),
 }
 
-/// The lines of a file, lent: the pieces between its newlines, at least one.
+/// The lines of a file, borrowed: the pieces between its newlines, at least one.
 #[derive(Drop)]
 pub struct FileRef<'t, A: Allocator> {
     lines: &'t Vec<Bytes<A>, A>,
@@ -46,7 +46,7 @@ impl<'t, A: Allocator> FileRef<'t, A> {
         self.lines.len()
     }
 
-    /// The line at a place, from 0, lent.
+    /// The line at a place, from 0, borrowed.
     pub fn line(&self, i: usize) -> &[u8]
         requires { i < length self.now }
         ensures { result.now ≡ slice_index_or self.now i [] }

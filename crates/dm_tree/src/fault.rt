@@ -5,34 +5,47 @@ ghost use Rattle.dm_tree.specs.declared.fault.PathFault.TheVariants as path;
 ghost use Rattle.dm_tree.specs.declared.fault.LineFault.TheVariants as line;
 
 use std::alloc::AllocError;
+use thiserror::Error;
 
 /// Why a change of a tree is refused. Each call says which of these it answers, and in which
 /// order.
-#[derive(Clone, Copy, Debug, PartialEq, Eq)]
+#[derive(Clone, Copy, Debug, PartialEq, Eq, Error)]
 pub enum TreeFault {
     /// The parent of the new path is not a directory that is there.
+    #[error("the parent is not a directory that is there")]
     NoParent,
     /// Something stands at the new path.
+    #[error("something stands at the path")]
     Occupied,
     /// Nothing stands at the path.
+    #[error("nothing stands at the path")]
     Missing,
     /// A directory stands at the path.
+    #[error("a directory stands at the path")]
     NotFile,
     /// A file stands at the path.
+    #[error("a file stands at the path")]
     NotDir,
     /// The directory holds something, or the file is not one empty line.
+    #[error("the directory holds something, or the file is not empty")]
     NotEmpty,
     /// The new path is the old one, or inside it.
+    #[error("the new path is the old one, or inside it")]
     IntoItself,
     /// The line is 0, or the old lines would reach past the end of the file.
+    #[error("the lines reach past the end of the file, or begin at line 0")]
     LineRange,
     /// The lines that stand there are not the old lines.
+    #[error("the lines that stand there are not the old lines")]
     OldDiffers,
     /// No line would be left in the file.
+    #[error("no line would be left in the file")]
     NoLines,
     /// A path of more than 32 names would arise.
+    #[error("a path would have more than 32 names")]
     TooDeep,
     /// The allocator refused to give memory.
+    #[error("no memory")]
     NoMemory,
 }
 
@@ -45,17 +58,22 @@ impl From<AllocError> for TreeFault {
 }
 
 /// Why names make no path.
-#[derive(Clone, Copy, Debug, PartialEq, Eq)]
+#[derive(Clone, Copy, Debug, PartialEq, Eq, Error)]
 pub enum PathFault {
     /// There is no name.
+    #[error("the path has no name")]
     Empty,
     /// A name is empty, `.`, `..` or `_darcs`, or holds `/` or a zero byte.
+    #[error("a name is empty, `.`, `..` or `_darcs`, or holds `/` or a zero byte")]
     BadName,
     /// There are more than 32 names.
+    #[error("the path has more than 32 names")]
     TooDeep,
     /// A name has more than 255 bytes.
+    #[error("a name has more than 255 bytes")]
     TooLong,
     /// The allocator refused to give memory.
+    #[error("no memory")]
     NoMemory,
 }
 
@@ -68,11 +86,13 @@ impl From<AllocError> for PathFault {
 }
 
 /// Why a line is refused.
-#[derive(Clone, Copy, Debug, PartialEq, Eq)]
+#[derive(Clone, Copy, Debug, PartialEq, Eq, Error)]
 pub enum LineFault {
     /// The line holds a newline byte.
+    #[error("the line holds a newline")]
     Newline,
     /// The allocator refused to give memory.
+    #[error("no memory")]
     NoMemory,
 }
 

@@ -1,5 +1,5 @@
 //! A list of lines, none of which has a newline.
-ghost use Rattle.std.specs.Prelude.{◌≡◌, ◌<◌, ◌++◌, ◌∷◌, [], length, IfOk, OnOk, OnErr, slice_index_or};
+ghost use Rattle.std.specs.Prelude.{◌≡◌, ◌↔◌, ◌<◌, ◌++◌, ◌∷◌, [], length, IsTrue, IfOk, OnOk, OnErr, slice_index_or};
 ghost use Rattle.dm_tree.specs.Validity.{AnswersLine, ArePlain, IsPlain, line_fault};
 
 use crate::bytes::{Bytes, copy_all};
@@ -42,7 +42,14 @@ impl<A: Allocator> Lines<A> {
         self.lines.len()
     }
 
-    /// The line at a place, from 0, lent.
+    /// Whether there is no line.
+    pub fn is_empty(&self) -> bool
+        ensures { IsTrue result ↔ (self.now ≡ []) }
+    {
+        self.lines.is_empty()
+    }
+
+    /// The line at a place, from 0, borrowed.
     pub fn line(&self, i: usize) -> &[u8]
         requires { i < length self.now }
         ensures { result.now ≡ slice_index_or self.now i [] }

@@ -65,7 +65,7 @@ pub(crate) fn place<A: Allocator>(children: &[Node<A>], name: &[u8]) -> Result<u
     children.binary_search_by(|child| child.name().cmp(name))
 }
 
-/// What stands at a path, lent.
+/// What stands at a path, borrowed.
 pub(crate) fn find<'t, A: Allocator, B: Allocator>(
     children: &'t [Node<A>],
     path: &[Bytes<B>],

@@ -100,7 +100,7 @@ impl<A: Allocator> Path<A> {
         self.names.len()
     }
 
-    /// The name at a place, from 0, lent.
+    /// The name at a place, from 0, borrowed.
     pub fn part(&self, i: usize) -> &[u8]
         requires { i < length self.now }
         ensures { result.now ≡ slice_index_or self.now i [] }

@@ -200,7 +200,7 @@ impl<A: Allocator + Copy> Tree<A> {
 }
 
 impl<A: Allocator> Tree<A> {
-    /// What stands at the path, lent without a copy.
+    /// What stands at the path, borrowed without a copy.
     pub fn entry<B: Allocator>(&self, path: &Path<B>) -> Option<Entry<'_, A>>
         ensures { option_map seen result ≡ map.get self.now path.now }
     {

@@ -48,7 +48,7 @@ fn brace_fault(text: &[u8], at: usize) -> FaultKind
     FaultKind::BadPatch
 }
 
-/// The primitives of a body, and the place behind it.
+/// The primitives of a body, and the place after it.
 pub(crate) fn body_at<A: Allocator + Copy>(
     alloc: A,
     text: &[u8],

@@ -1,6 +1,7 @@
 //! The dependencies of a named patch as text.
 
 ghost use Rattle.std.specs.Prelude.{◌≤◌, length, drop, IfOk, IfErr};
+ghost use Rattle.dm_info.specs.Spelling.{open_bracket};
 ghost use Rattle.dm_named.specs.Many.{Many};
 ghost use Rattle.dm_named.specs.Words.{skipped, Begins};
 ghost use Rattle.dm_named.specs.Patches.{NextInfo, Dependencies};
@@ -11,7 +12,7 @@ use crate::text::{begins_at, info_at, skip};
 use dm_info::Info;
 use std::alloc::Allocator;
 
-/// As many informations as stand there, each behind white space, and the place behind the last.
+/// As many patch infos as stand there, each after white space, and the place after the last.
 fn infos_at<A: Allocator + Copy>(
     alloc: A,
     text: &[u8],
@@ -19,7 +20,7 @@ fn infos_at<A: Allocator + Copy>(
 ) -> Result<(Vec<Info<A>, A>, usize), ReadFault>
     requires { start ≤ length text.now }
     ensures ok { IfOk result (λ x. Many NextInfo (drop start text.now) x.0.items (drop x.1 text.now)) }
-    ensures closed { IfOk result (λ x. Begins 91 (skipped (drop x.1 text.now)) → ⊥) }
+    ensures closed { IfOk result (λ x. Begins open_bracket (skipped (drop x.1 text.now)) → ⊥) }
     ensures within { IfOk result (λ x. x.1 ≤ length text.now) }
     ensures forward { IfOk result (λ x. start ≤ x.1) }
     ensures err { IfErr result (λ e. InfosFaultAt e.kind (drop start text.now) (drop e.at text.now)) }
@@ -42,7 +43,7 @@ fn infos_at<A: Allocator + Copy>(
     Ok((infos, end))
 }
 
-/// Dependencies in angle brackets, or none, and the place behind them.
+/// Dependencies in angle brackets, or none, and the place after them.
 pub(crate) fn deps_at<A: Allocator + Copy>(
     alloc: A,
     text: &[u8],

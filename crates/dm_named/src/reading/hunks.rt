@@ -1,4 +1,4 @@
-//! Hunks as text, from behind their path.
+//! Hunks as text, from after their path.
 
 ghost use Rattle.std.specs.Prelude.{◌≡◌, ◌≤◌, ℕ, List, length, drop, IfOk, IfErr};
 ghost use Rattle.dm_named.specs.Words.{LineGroup};
@@ -12,7 +12,7 @@ use dm_prim::{Hunk, HunkFault};
 use dm_tree::{Lines, Path};
 use std::alloc::{AllocError, Allocator};
 
-/// The lines that begin with a byte, without it, and the place behind them.
+/// The lines that begin with a byte, without it, and the place after them.
 fn lines_at<A: Allocator + Copy>(
     alloc: A,
     byte: u8,
@@ -34,7 +34,7 @@ fn lines_at<A: Allocator + Copy>(
     Ok((lines, at))
 }
 
-/// The place behind the lines that begin with a space.
+/// The place after the lines that begin with a space.
 fn skip_lines(text: &[u8], start: usize) -> usize
     requires { start ≤ length text.now }
     ensures group { (lines : List (List ℕ)) × LineGroup 32 (drop start text.now) lines (drop result text.now) }
@@ -49,7 +49,7 @@ fn skip_lines(text: &[u8], start: usize) -> usize
     at
 }
 
-/// A hunk from behind its path, whose word stands at a place, and the place behind it.
+/// A hunk from after its path, whose word stands at a place, and the place after it.
 pub(crate) fn hunk_at<A: Allocator + Copy>(
     alloc: A,
     path: Path<A>,

@@ -69,7 +69,7 @@ fn byte_of_code(digits: &[u8]) -> Option<u8>
     Some(number as u8)
 }
 
-/// What stands behind this byte, if the text begins with it.
+/// What stands after this byte, if the text begins with it.
 pub(crate) fn strip(byte: u8, text: &[u8]) -> Option<&[u8]>
     ensures { MatchOption result ((rest : List ℕ) → text.now ≡ byte ∷ rest → ⊥) (λ rest. text.now ≡ byte ∷ rest.now) }
 {
@@ -79,7 +79,7 @@ pub(crate) fn strip(byte: u8, text: &[u8]) -> Option<&[u8]>
     }
 }
 
-/// The byte at the front, its escape resolved, and what stands behind it.
+/// The byte at the front, its escape resolved, and what stands after it.
 fn byte_of(text: &[u8]) -> Option<(u8, &[u8])>
     ensures found { IfSome result (λ x. NameByte text.now x.0 x.1.now) }
     ensures none { IfNone result ((b : ℕ) (rest : List ℕ) → NameByte text.now b rest → ⊥) }

@@ -40,7 +40,7 @@ fn is_blank(line: &[u8]) -> bool
     true
 }
 
-/// The number behind white space, alone on its line, and the place behind that line.
+/// The number after white space, alone on its line, and the place after that line.
 pub(crate) fn number_at(text: &[u8], at: usize) -> Result<(u32, usize), ReadFault>
     requires { at ≤ length text.now }
     ensures ok { IfOk result (λ x. NumberLine (skipped (drop at text.now)) x.0 (drop x.1 text.now)) }

@@ -35,7 +35,7 @@ fn slash_name<A: Allocator + Copy>(alloc: A, text: &[u8]) -> Result<(Vec<u8, A>,
     Ok((name, rest))
 }
 
-/// Names, each behind its slash.
+/// Names, each after its slash.
 fn names_of<A: Allocator + Copy>(alloc: A, text: &[u8]) -> Result<Vec<Vec<u8, A>, A>, NameFault>
     ensures found { IfOk result (λ x. Many SlashName text.now (map (λ v. v.items) x.items) []) }
     ensures none { IfErr result (λ e. (e ≡ NameFault.BadPath) → (names : List (List ℕ)) → Many SlashName text.now names [] → ⊥) }
@@ -50,7 +50,7 @@ fn names_of<A: Allocator + Copy>(alloc: A, text: &[u8]) -> Result<Vec<Vec<u8, A>
     Ok(names)
 }
 
-/// The names, lent.
+/// The names, borrowed.
 fn parts_of<A: Allocator + Copy>(
     alloc: A,
     names: &[Vec<u8, A>],
@@ -80,7 +80,7 @@ fn path_of<A: Allocator + Copy>(alloc: A, word: &[u8]) -> Result<Path<A>, NameFa
     }
 }
 
-/// The path behind white space, and the place behind it.
+/// The path after white space, and the place after it.
 pub(crate) fn path_at<A: Allocator + Copy>(
     alloc: A,
     text: &[u8],

@@ -18,7 +18,7 @@ use std::alloc::Allocator;
 /// A named patch has at most so many primitives.
 const MOST_PRIMS: usize = 10000;
 
-/// The primitive whose word stands from one place to another, and the place behind it.
+/// The primitive whose word stands from one place to another, and the place after it.
 fn prim_at<A: Allocator + Copy>(
     alloc: A,
     word: PrimWord,
@@ -52,7 +52,7 @@ fn prim_at<A: Allocator + Copy>(
     }
 }
 
-/// As many primitives as stand there, each behind white space, and the place behind the last.
+/// As many primitives as stand there, each after white space, and the place after the last.
 pub(crate) fn prims_at<A: Allocator + Copy>(
     alloc: A,
     text: &[u8],

@@ -77,7 +77,7 @@ pub(crate) fn body_word(word: &[u8]) -> BodyWord
     BodyWord::Other
 }
 
-/// The primitive's word behind white space, its place, and the place behind it.
+/// The primitive's word after white space, its place, and the place after it.
 pub(crate) fn prim_word_at(text: &[u8], at: usize) -> Option<(PrimWord, usize, usize)>
     requires { at ≤ length text.now }
     ensures word { IfSome result (λ x. Word (drop x.1 text.now) (word_of x.0) (drop x.2 text.now)) }

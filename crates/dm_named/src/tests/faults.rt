@@ -5,7 +5,7 @@ use super::*;
 /// What the row shows; what stands before the fault, `^`, and the rest; the fault's word. `|` is a newline.
 const TEXTS: &str = r"no bracket: ^x => bad-info
 an empty text: ^ => bad-info
-an inverted information: ^[a|p*-20240101000000] adddir ./d| => inverted
+an inverted patch info: ^[a|p*-20240101000000] adddir ./d| => inverted
 dependencies of words: [t|p**20240101000000] <|^x> {|}| => bad-depends
 dependencies that do not end: [t|p**20240101000000] < [a|p**d] ^ => bad-depends
 a dependency that is none: [t|p**20240101000000] < ^[a> => bad-info
@@ -23,15 +23,15 @@ a merger: [a|p**20240101000000] ^merger 0.0 => unsupported
 an undone merger: [a|p**20240101000000] ^regrem 0.0 => unsupported
 a conflictor: [a|p**20240101000000] {^conflictor x => unsupported
 an inverse conflictor: [a|p**20240101000000] ^rotcilfnoc => unsupported
-a duplicate behind a primitive: [a|p**20240101000000] adddir ./d|^duplicate => unsupported
+a duplicate after a primitive: [a|p**20240101000000] adddir ./d|^duplicate => unsupported
 an inverse duplicate: [a|p**20240101000000] ^etacilpud => unsupported
 no line 0: [a|p**20240101000000] hunk ./a ^0|+x| => bad-number
 a line past the last: [a|p**20240101000000] hunk ./a ^4294967296|+x| => bad-number
-a word behind a number: [a|p**20240101000000] hunk ./a ^1 x|+x| => bad-number
+a word after a number: [a|p**20240101000000] hunk ./a ^1 x|+x| => bad-number
 a number with a letter: [a|p**20240101000000] hunk ./a ^1x| => bad-number
 no lines in a hunk: [a|p**20240101000000] ^hunk ./a 1||Context:|| => empty-hunk
 lines for people alone: [a|p**20240101000000] {^hunk ./a 1| x|} => empty-hunk
-the end behind a move's first path: [a|p**20240101000000] move ./a |^ => bad-path
+the end after a move's first path: [a|p**20240101000000] move ./a |^ => bad-path
 the end in braces: [a|p**20240101000000] {adddir ./d |^ => unclosed
 ";
 
@@ -40,7 +40,7 @@ const PATHS: &str = r"no name: ./
 no dot: a
 no slash: .
 an empty name: ./a//b
-a slash behind the last name: ./a/
+a slash after the last name: ./a/
 a dot: ./a/.
 two dots: ./../x
 the directory of the store: ./_darcs/x

@@ -4,18 +4,18 @@ use super::*;
 use bumpalo::Bump;
 use dm_tree::Path;
 
-/// What the row shows; a patch, `^`, and what stands behind it; its canonical text. `|` is a newline.
+/// What the row shows; a patch, `^`, and what stands after it; its canonical text. `|` is a newline.
 const ENDS: &str =
-    r"a run before an information: [a|p**d] adddir ./d^|[b|p**d] {} => [a|p**d] adddir ./d|
+    r"a run before a patch info: [a|p**d] adddir ./d^|[b|p**d] {} => [a|p**d] adddir ./d|
 a run before a brace: [a|p**d] adddir ./d^|{} => [a|p**d] adddir ./d|
 a run before the context: [a|p**d] adddir ./d^||Context:| => [a|p**d] adddir ./d|
 a run before a word that is longer: [a|p**d] adddir ./d^ adddirs ./e => [a|p**d] adddir ./d|
 a run before the end: [a|p**d] adddir ./d^ => [a|p**d] adddir ./d|
 a run of two: [a|p**d]adddir ./d adddir ./e^ => [a|p**d] {|adddir ./d|adddir ./e|}|
 no primitive before the context: [a|p**d]^ Context: => [a|p**d] {|}|
-no primitive behind dependencies: [t|p**d]<[a|p**d]>^ Context: => [t|p**d] <|[a|p**d] |> {|}|
+no primitive after dependencies: [t|p**d]<[a|p**d]>^ Context: => [t|p**d] <|[a|p**d] |> {|}|
 braces: [a|p**d]{adddir ./d|}^adddir ./e => [a|p**d] adddir ./d|
-lines for people behind a hunk: [a|p**d]hunk ./f 1| above|+x| below|^+y => [a|p**d] hunk ./f 1|+x|
+lines for people after a hunk: [a|p**d]hunk ./f 1| above|+x| below|^+y => [a|p**d] hunk ./f 1|+x|
 ";
 
 /// What the row shows; what stands before the fault, `^`, and the rest; the fault's word. `|` is a newline.

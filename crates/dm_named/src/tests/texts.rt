@@ -3,7 +3,7 @@
 use super::*;
 use dm_tree::Path;
 
-/// What the row shows; a patch, `^`, and what stands behind it; its canonical text. `|` is a newline.
+/// What the row shows; a patch, `^`, and what stands after it; its canonical text. `|` is a newline.
 const TEXTS: &str =
     r"a hunk alone: [n|p**20240101000000] hunk ./f 1|-1|+one|^ => [n|p**20240101000000] hunk ./f 1|-1|+one|
 a dependency and no primitive: [t|p**20240101000000] <|[a|p**20240101000000] |> {|}^| => [t|p**20240101000000] <|[a|p**20240101000000] |> {|}|
@@ -11,7 +11,7 @@ several primitives without braces, before the next patch: [a|p**20240101000000] 
 braces around white space: [c|p**20240101000000] |{ }^| => [c|p**20240101000000] {|}|
 braces without white space: [c|p**20240101000000]{}^ => [c|p**20240101000000] {|}|
 a run of no primitives before the context: [a|p**20240101000000]^ |Context:| => [a|p**20240101000000] {|}|
-a run of no primitives behind dependencies: [a|p**20240101000000]<[b|p**d] [b|p**d]>^[c|p**d] => [a|p**20240101000000] <|[b|p**d] |[b|p**d] |> {|}|
+a run of no primitives after dependencies: [a|p**20240101000000]<[b|p**d] [b|p**d]>^[c|p**d] => [a|p**20240101000000] <|[b|p**d] |[b|p**d] |> {|}|
 lines for people round a hunk's lines: [a|p**20240101000000] hunk ./a 2| above|-old|+new| below|^ => [a|p**20240101000000] hunk ./a 2|-old|+new|
 an old line that is empty: [a|p**20240101000000] {|addfile ./a|hunk ./a 1|-|+x|}^| => [a|p**20240101000000] {|addfile ./a|hunk ./a 1|-|+x|}|
 a last line without its newline: [m|p**20240101000000] hunk ./f 1|+x|+y^ => [m|p**20240101000000] hunk ./f 1|+x|+y|
@@ -27,7 +27,7 @@ a tab to a carriage return: ./\9\\10\\11\\12\\13\ => ./\9\\10\\11\\12\\13\
 a backslash: ./\92\ => ./\92\
 a letter: ./\97\/\098\ => ./a/b
 bytes above 127: ./é => ./é
-a dot behind a dot: ./.a/..b => ./.a/..b
+a dot after a dot: ./.a/..b => ./.a/..b
 32 names: ./s/s/s/s/s/s/s/s/s/s/s/s/s/s/s/s/s/s/s/s/s/s/s/s/s/s/s/s/s/s/s/s => ./s/s/s/s/s/s/s/s/s/s/s/s/s/s/s/s/s/s/s/s/s/s/s/s/s/s/s/s/s/s/s/s
 ";
 
@@ -40,7 +40,7 @@ fn reads_and_writes(rt: HostRuntime) -> Result<(), Fail> {
     let text = b"[m\np**20240101000000] hunk ./f 1\r\n+x\r\n";
     let written = b"[m\np**20240101000000] hunk ./f 1\n+x\r\n";
     reads(&rt, alloc, what, text, 38, written)?;
-    let what = "leading zeros, and white space behind the number";
+    let what = "leading zeros, and white space after the number";
     let text = b"[a\np**20240101000000] hunk ./a 007 \t\n+x\n";
     let written = b"[a\np**20240101000000] hunk ./a 7\n+x\n";
     reads(&rt, alloc, what, text, 40, written)

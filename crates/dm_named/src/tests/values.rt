@@ -67,7 +67,7 @@ fn copies(rt: HostRuntime) -> Result<(), Fail> {
     assert_eq!(rt; text.as_slice(), WHOLE.as_bytes(), "a copy");
     let named = read(alloc, b"[b\np**d]")?;
     assert!(rt; copy.depends_on(named.info()), "a dependency is named");
-    assert!(rt; !copy.depends_on(patch.info()), "its own information is not");
+    assert!(rt; !copy.depends_on(patch.info()), "its own patch info is not");
     Ok(())
 }
 

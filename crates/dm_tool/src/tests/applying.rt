@@ -228,7 +228,7 @@ fn a_bundle_is_taken_after_a_base(rt: HostRuntime) -> Result<(), Fail> {
 fn the_repository_is_shown_as_a_bundle(rt: HostRuntime) -> Result<(), Fail> {
     for row in [
         (
-            "a hunk behind lines that were added",
+            "a hunk after lines that were added",
             "%N(a){|addfile ./f|hunk ./f 1|+1|+2|+3|+4|+5|}|(m)hunk ./f 1|+x|+y|%C",
             "%N(n)hunk ./f 5|-5|+five|%C(a)|",
             "taken 1|%N(a){|addfile ./f|hunk ./f 1|+1|+2|+3|+4|+5|}|(m)hunk ./f 1|+x|+y|(n)hunk ./f 7|-5|+five|%C",
@@ -271,7 +271,7 @@ fn a_bundle_that_rests_on_what_is_missing(rt: HostRuntime) -> Result<(), Fail> {
 #[test]
 fn a_base_that_is_not_taken(rt: HostRuntime) -> Result<(), Fail> {
     let text = text_of(rt.alloc(), ONE_LINE)?;
-    for (row, base, told) in [
+    for (row, base, reported) in [
         ("an empty base", "", "base malformed no-new-patches 0"),
         (
             "a base that rests on more",
@@ -284,7 +284,7 @@ fn a_base_that_is_not_taken(rt: HostRuntime) -> Result<(), Fail> {
             Ok(_) => panic!(rt; "{row}: an answer"),
             Err(fault) => {
                 let found = format!(in rt.alloc(); "{fault}")?;
-                assert_eq!(rt; found.as_str(), told, "{row}");
+                assert_eq!(rt; found.as_str(), reported, "{row}");
             }
         }
     }

@@ -75,7 +75,7 @@ fn a_malformed_text_is_told_by_its_fault(rt: HostRuntime) -> Result<(), Fail> {
             "malformed doubled 58|",
         ),
         (
-            "a dependency that is no information",
+            "a dependency that is no patch info",
             "%N(t)<|x> {|}|%C",
             "malformed bad-depends 38|",
         ),

@@ -1,21 +1,21 @@
-use Rattle.std.proofs.Common.{sym, ◌∙◌}
-use Rattle.std.proofs.lemmas.Bool.{false≢true}
-use Rattle.dm_prim.specs.Prims.{prims_of}
-use Rattle.dm_named.proofs.NamedLemmas.{commuted, commuted_back}
+use Rattle.std.proofs.Common.{rules, ◌≡◌, true, false}
+use Rattle.dm_named.specs.Commuting.{NamedCommutes}
+use Rattle.dm_named.proofs.NamedLemmas.{commuted_back, commuted_laws}
 use Rattle.dm_named.proofs.commuting.commute_named.Goals as goal
 
-pub returns-in-None-clause-answer : goal.returns-in-None-clause-answer
-returns-in-None-clause-answer g c = λ y' x' n. (rw (c.in-None.is, c.prims.ensures, c.prims-2.ensures) at c.in_ok-commute_lists.ensures.answer) y'.prims x'.prims n.prims
+pub returns-then-branch-clause-laws : goal.returns-then-branch-clause-laws
+returns-then-branch-clause-laws g c =
+    let yes : c.in_ok-commute_named_in_place.field-0 ≡ true = search rules in
+    let n = rw (yes, c.in_ok-first.ensures, c.in_ok-second.ensures) at c.in_ok-commute_named_in_place.ensures.commutes in
+    commuted_laws c.args.x.now c.args.y.now _ _ n
 
-pub returns-in_ok-first-in-Some-clause-answer : goal.returns-in_ok-first-in-Some-clause-answer
-returns-in_ok-first-in-Some-clause-answer g c =
-    commuted c.args.x.now c.args.y.now c.in_ok-second-in-Some.second c.in_ok-first-in-Some.first (prims_of c.in-Some.second.items) (prims_of c.in-Some.first.items)
-    (λ h. false≢true (sym c.if-depends_on.false ∙ (rw c.info.ensures at c.depends_on.ensures).1 h)) (λ h. false≢true (sym c.if-depends_on-2.false ∙ (rw c.info-else-depends_on.ensures at c.depends_on-else-depends_on.ensures).1 h))
-    c.in_ok-second-in-Some.ensures c.in_ok-first-in-Some.ensures (rw (c.in-Some.is, c.prims.ensures, c.prims-2.ensures) at c.in_ok-commute_lists.ensures.answer)
+pub returns-then-branch-clause-back : goal.returns-then-branch-clause-back
+returns-then-branch-clause-back g c =
+    let yes : c.in_ok-commute_named_in_place.field-0 ≡ true = search rules in
+    let n = rw (yes, c.in_ok-first.ensures, c.in_ok-second.ensures) at c.in_ok-commute_named_in_place.ensures.commutes in
+    commuted_back c.args.x.now c.args.y.now _ _ n
 
-pub returns-in_ok-first-in-Some-clause-back : goal.returns-in_ok-first-in-Some-clause-back
-returns-in_ok-first-in-Some-clause-back g c =
-    let laws = rw (c.in-Some.is, c.prims.ensures, c.prims-2.ensures) at c.in_ok-commute_lists.ensures.laws in
-    commuted_back c.args.x.now c.args.y.now c.in_ok-second-in-Some.second c.in_ok-first-in-Some.first (prims_of c.in-Some.second.items) (prims_of c.in-Some.first.items)
-    (λ h. false≢true (sym c.if-depends_on.false ∙ (rw c.info.ensures at c.depends_on.ensures).1 h)) (λ h. false≢true (sym c.if-depends_on-2.false ∙ (rw c.info-else-depends_on.ensures at c.depends_on-else-depends_on.ensures).1 h))
-    c.in_ok-second-in-Some.ensures c.in_ok-first-in-Some.ensures laws.back
+pub returns-clause-answer : goal.returns-clause-answer
+returns-clause-answer g c =
+    let no : c.in_ok-commute_named_in_place.field-0 ≡ false = search rules in
+    rw (no, c.in_ok-first.ensures, c.in_ok-second.ensures) at c.in_ok-commute_named_in_place.ensures.commutes

@@ -10,16 +10,16 @@ loop-k-init g c = record { passed = rw (drop_all (length c.args.rest.now) c.args
 
 pub returns-then-not-branch : goal.returns-then-not-branch
 returns-then-not-branch g c =
-    let no : c.in_ok-commute_square.field-0 ≡ false = search rules in (
+    let no : c.in_ok-commute_named_in_place.field-0 ≡ false = search rules in (
       c.index-rest-k.result,
       ap (λ (x : Placed). x.0) (sym c.index-rest-k.is),
       pass_stop PlacedCommutes c.args.rest.now c.loop-k.rest c.loop-k.k c.index-rest-k.result (search rules) (search rules) (search rules) c.loop-k.invariant.ahead c.index-rest-k.is c.loop-k.invariant.passed
-          (no_placed_square _ c.loop-k.patch (rw no at c.in_ok-commute_square.ensures)),
+          (no_placed_square _ c.loop-k.patch (rw no at c.in_ok-commute_named_in_place.ensures.commutes)),
     )
 
 pub loop-k-preserved : goal.loop-k-preserved
 loop-k-preserved g c =
-    let yes : c.in_ok-commute_square.field-0 ≡ true = search rules in
+    let yes : c.in_ok-commute_named_in_place.field-0 ≡ true = search rules in
     let s = pass_step PlacedCommutes c.args.rest.now c.loop-k.rest c.loop-k.k c.index-rest-k.result _ (search rules) (search rules) (search rules) c.loop-k.invariant.ahead c.loop-k.invariant.passed
-    (placed_square _ c.loop-k.patch c.commute_square.new.y c.commute_square.new.x (rw yes at c.in_ok-commute_square.ensures)) in
+    (placed_square _ c.loop-k.patch c.commute_named_in_place.new.y c.commute_named_in_place.new.x (rw yes at c.in_ok-commute_named_in_place.ensures.commutes)) in
     record { passed = s.0; ahead = s.1 }

@@ -1,4 +1,4 @@
-use Rattle.std.proofs.Common.{◌∙◌}
+use Rattle.std.proofs.Common.{◌≡◌, true, rules, refl}
 use Rattle.dm_info.specs.Compared.{text_eq}
 use Rattle.dm_info.proofs.Same.{joined}
 use Rattle.dm_info.proofs.info.Info.same.Goals as goal
@@ -7,8 +7,10 @@ pub returns : goal.returns
 returns g c =
     let x = c.args.self.now in
     let y = c.args.other.now in
-    joined x y c.eq-name.result c.eq-author.result c.eq-date.result c.are_same_lines-log.result
-    (c.eq-name.ensures ∙ (λ i. text_eq (c.name.ensures i) (c.name-2.ensures i)))
-    (c.eq-author.ensures ∙ (λ i. text_eq (c.author.ensures i) (c.author-2.ensures i)))
-    (c.eq-date.ensures ∙ (λ i. text_eq (c.date.ensures i) (c.date-2.ensures i)))
-    (rw (← c.self.view_is, ← c.other.view_is, ← c.deref.ensures.value, ← c.deref-2.ensures.value) c.are_same_lines-log.ensures)
+    let name : text_eq x.name y.name ≡ true = search rules in
+    let author : text_eq x.author y.author ≡ true = search rules in
+    let date : text_eq x.date y.date ≡ true = search rules in
+    let h = c.if-ne.ensures in
+    rw (name, author, date) at
+    (joined x y (text_eq x.name y.name) (text_eq x.author y.author) (text_eq x.date y.date) c.are_same_lines.result refl refl refl
+    (rw (← c.self.view_is, ← c.other.view_is, ← c.deref.ensures.value, ← c.deref-2.ensures.value) c.are_same_lines.ensures))
