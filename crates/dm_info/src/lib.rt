@@ -10,10 +10,10 @@
 mod fault;
 mod info;
 pub mod laws;
-mod validity;
 mod reading;
 #[cfg(test)]
 mod tests;
+mod validity;
 mod writing;
 
 pub use fault::{InfoFault, InfoReadFault};

@@ -4,10 +4,9 @@ use Rattle.std.proofs.lemmas.Bool.{false≢true}
 use Rattle.std.specs.List.{AllByRecursion, list_any}
 use Rattle.dm_tree.specs.Paths.{Path}
 use Rattle.dm_tree.specs.Trees.{Lines}
-use Rattle.dm_tree.specs.Validity.{IsGoodPath, names_fault, is_name, is_bad_name, has_newline, IsPlain, ArePlain, line_fault}
+use Rattle.dm_tree.specs.Validity.{IsGoodPath, names_fault, is_name, is_bad_name, IsPlain, ArePlain}
 use Rattle.dm_tree.specs.declared.fault.PathFault.{PathFault}
 use Rattle.dm_tree.specs.declared.fault.PathFault.TheVariants as path
-use Rattle.dm_tree.specs.declared.fault.LineFault.TheVariants as line
 use Rattle.std.specs.Prelude.{Option, ◌⊎◌}
 use Rattle.dm_named.specs.Words.{NoNewline}
 use Rattle.dm_named.specs.Paths.{NoSlash}

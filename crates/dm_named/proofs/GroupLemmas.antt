@@ -1,10 +1,9 @@
 -- Groups of lines, and that a text has one.
-use Rattle.std.proofs.Common.{◌≡◌, ℕ, ◌+◌, ◌<◌, ◌≤◌, zero, suc, true, List, [], ◌∷◌, ◌++◌, length, get_or, take, drop, ◌-◌, ◌*◌, refl, sym, ap, subst, ◌∙◌, arith, inl, inr, Some, None}
+use Rattle.std.proofs.Common.{◌≡◌, ℕ, ◌+◌, ◌<◌, ◌≤◌, suc, true, List, [], ◌∷◌, ◌++◌, length, get_or, drop, ◌-◌, ◌*◌, refl, sym, ap, subst, ◌∙◌, arith, inl, inr}
 use Rattle.std.proofs.lemmas.Bool.{false≢true}
-use Rattle.std.proofs.lemmas.List.{length-append, drop-drop, drop_more, drop_all}
-use Rattle.memchr.specs.Find.{IsFirstByte, is_byte}
+use Rattle.std.proofs.lemmas.List.{drop_more, drop_all}
 use Rattle.std.specs.List.{AllByRecursion}
-use Rattle.dm_info.proofs.Cuts.{cut_found, cut_takes, byte_is, false_is}
+use Rattle.dm_info.proofs.Cuts.{false_is}
 use Rattle.dm_info.specs.PatchInfo.{is_newline}
 use Rattle.dm_named.specs.Words.{NoNewline, is_white, Begins, Word, Line, MarkedLine, LineGroup, BlankLine, IsNumberText, IsDigit, number_from, NumberLine, skipped}
 use Rattle.dm_named.specs.Faults.{NoChange}

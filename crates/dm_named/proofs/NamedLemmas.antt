@@ -1,13 +1,11 @@
 -- Lists of which elements are compared or copied one after the other.
-use Rattle.std.proofs.Common.{◌≡◌, ◌<◌, ◌≤◌, ◌+◌, ℕ, zero, suc, List, [], ◌∷◌, ◌++◌, length, get_or, take, map, refl, sym, ap, ◌∙◌, arith}
+use Rattle.std.proofs.Common.{◌≡◌, ◌<◌, ◌+◌, ℕ, List, [], ◌∷◌, ◌++◌, length, get_or, take, map, refl, sym, ap, ◌∙◌}
 use Rattle.std.proofs.lemmas.List.{take_more, map_push}
-use Rattle.std.specs.Prelude.{Contains}
 use Rattle.std.specs.List.{AllByRecursion}
 use Rattle.dm_prim.specs.Laws.{ListLaws}
 use Rattle.dm_prim.proofs.LawProofs.{lists_back, list_laws}
 use Rattle.dm_named.specs.Patches.{Patch}
 use Rattle.dm_named.specs.Commuting.{NamedCommutes}
-use borrow.Author.Count.{below_more}
 
 -- one more element is copied
 pub copied_more : {X Y V : Type 0} (f : X → V) (g : Y → V) (xs : List X) (ys ys' : List Y) (i : ℕ) (x : X) (y : Y) → i < length xs → x ≡ get_or xs i x → g y ≡ f x → ys' ≡ ys ++ y ∷ [] → map g ys ≡ map f (take i xs) → map g ys' ≡ map f (take (i + 1) xs)

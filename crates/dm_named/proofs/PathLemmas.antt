@@ -1,7 +1,7 @@
 -- A path's text is cut in one way.
 use Rattle.std.proofs.Common.{◌≡◌, ◌<◌, ◌+◌, ℕ, suc, true, false, List, [], ◌∷◌, ◌++◌, length, get_or, take, drop, refl, sym, ap, subst, ◌∙◌, arith, inl, inr, Some, None, ◌==◌}
 use Rattle.std.proofs.lemmas.Bool.{false≢true}
-use Rattle.std.proofs.lemmas.List.{take-append-drop, drop_more, length-append}
+use Rattle.std.proofs.lemmas.List.{take-append-drop, drop_more}
 use Rattle.memchr.specs.Find.{IsFirstByte, is_byte}
 use Rattle.dm_info.proofs.Cuts.{cut_found, cut_takes, byte_is, false_is}
 use Rattle.dm_tree.specs.Paths.{Path}

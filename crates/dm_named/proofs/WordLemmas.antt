@@ -2,8 +2,8 @@
 use Rattle.std.proofs.Common.{◌≡◌, ◌≤◌, ◌<◌, ◌-◌, ◌+◌, ℕ, zero, suc, true, false, List, [], ◌∷◌, ◌++◌, length, get_or, take, drop, refl, sym, ap, ◌∙◌, arith}
 use Rattle.std.specs.List.{AllByRecursion}
 use Rattle.std.proofs.lemmas.Bool.{false≢true}
-use Rattle.std.proofs.lemmas.List.{get_or-drop, drop_more, drop_all, drop-drop, take-append-drop, length-drop}
-use Rattle.dm_named.specs.Words.{is_white, EndsWord, Word, Begins}
+use Rattle.std.proofs.lemmas.List.{get_or-drop, drop_more, drop_all, drop-drop, take-append-drop}
+use Rattle.dm_named.specs.Words.{is_white, EndsWord, Word}
 
 solid : (xs : List ℕ) (k : ℕ) → ((j : ℕ) → j < k → j < length xs → is_white (get_or xs j 0) ≡ false) → AllByRecursion (λ b. is_white b ≡ false) (take k xs)
 solid xs zero h = tt

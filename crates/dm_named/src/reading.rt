@@ -13,10 +13,10 @@ ghost use Rattle.std.specs.Prelude.{◌≡◌, ◌≤◌, ◌<◌, ℕ, List, le
 ghost use Rattle.dm_named.specs.Patches.{Patch, PatchText};
 ghost use Rattle.dm_named.specs.Faults.{PatchFaultAt, ExcludesPatch};
 
-use crate::reading::bodies::body_at;
-use crate::reading::dependencies::deps_at;
 use crate::fault::{FaultKind, ReadFault};
 use crate::named::Named;
+use crate::reading::bodies::body_at;
+use crate::reading::dependencies::deps_at;
 use crate::text::info_at;
 use std::alloc::Allocator;
 

@@ -16,9 +16,9 @@ ghost use Rattle.dm_repo.specs.Splitting.{SplitsInto, RefusesToSplit};
 ghost use Rattle.dm_repo.specs.Stops.{AtPlaces, BlockedBy, IsMarked};
 
 use crate::marks::{Marks, common_marks};
+use crate::passing::pass;
 use crate::refusal::Refusal;
 use crate::repo::{Repo, copy_patches};
-use crate::passing::pass;
 use crate::stop::Blocked;
 use dm_bundle::Bundle;
 use dm_named::Named;

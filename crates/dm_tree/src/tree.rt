@@ -19,7 +19,7 @@ use crate::lines::Lines;
 use crate::listing::{Listed, list_children};
 use crate::node::{Body, Leaf, Node, add, copy_children, cut, find};
 use crate::path::Path;
-use crate::rename::{add_refused, rename_allowed, move_node};
+use crate::rename::{add_refused, move_node, rename_allowed};
 use std::alloc::{AllocError, Allocator};
 use std::marker::Model;
 

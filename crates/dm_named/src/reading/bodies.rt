@@ -8,8 +8,8 @@ ghost use Rattle.dm_named.specs.Faults.{BraceFaultAt, BodyFaultAt};
 
 use crate::fault::{FaultKind, ReadFault};
 use crate::reading::primitives::prims_at;
-use crate::text::{begins_at, skip, word_at};
 use crate::reading::words::{BodyWord, body_word};
+use crate::text::{begins_at, skip, word_at};
 use dm_prim::Prim;
 use std::alloc::Allocator;
 

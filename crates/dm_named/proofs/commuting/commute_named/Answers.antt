@@ -1,5 +1,4 @@
 use Rattle.std.proofs.Common.{rules, ◌≡◌, true, false}
-use Rattle.dm_named.specs.Commuting.{NamedCommutes}
 use Rattle.dm_named.proofs.NamedLemmas.{commuted_back, commuted_laws}
 use Rattle.dm_named.proofs.commuting.commute_named.Goals as goal
 
