@@ -1,7 +1,5 @@
 -- From what the tree's calls promise to what applying a primitive does.
-use Rattle.std.proofs.Common.{◌≡◌, ◌≢◌, ℕ, ◌+◌, ◌-◌, ◌<◌, ◌≤◌, true, false, cond, List, [], ◌∷◌, ◌++◌, take, drop, length, get_or, Option, Some, None, Result, Ok, Err, OnOk, OnErr, ◌⊎◌, inl, inr, refl, sym, ap, ap₂, subst, ◌∙◌, arith, append_assoc, length-append}
-use Rattle.std.proofs.Math.Seq.{drop-append_seam, take-append_seam}
-use Rattle.std.proofs.lemmas.List.{take_all}
+use Rattle.std.proofs.Common.{◌≡◌, ◌≢◌, ℕ, ◌+◌, ◌<◌, true, false, cond, List, [], ◌∷◌, ◌++◌, take, drop, length, get_or, Option, Some, None, Result, Ok, Err, OnOk, OnErr, ◌⊎◌, inl, inr, refl, sym, ap, subst, ◌∙◌, append_assoc}
 use Rattle.std.proofs.lemmas.Bool.{cases_Bool}
 use Rattle.std.specs.FinMap as map
 use Rattle.std.specs.Ordering.{eq_by_cmp}
@@ -9,17 +7,18 @@ use Rattle.dm_tree.specs.declared.fault.TreeFault.{TreeFault}
 use Rattle.dm_tree.specs.declared.fault.TreeFault.TheVariants.{NoParent, Occupied, Missing, NotFile, NotDir, NotEmpty, IntoItself, LineRange, OldDiffers, NoLines, TooDeep, NoMemory}
 use Rattle.dm_tree.specs.Paths.{Path, Apart}
 use Rattle.dm_tree.specs.Trees.{Lines, Entry, Dir, File, Map, Tree, path_cmp, IsLawful, Deep, empty_file}
-use Rattle.dm_tree.specs.Changes.{AddAnswers, RemoveFileAnswers, RemoveDirAnswers, MayMove, RenameAnswers, Renamed, InRange, ReplacesLines, EditAnswers, Edited}
+use Rattle.dm_tree.specs.Changes.{AddAnswers, RemoveFileAnswers, RemoveDirAnswers, MayMove, RenameAnswers, Renamed, ReplacesLines, EditAnswers, Edited}
 use Rattle.dm_tree.proofs.Paths.{swap, swap-right}
 use Rattle.dm_tree.proofs.Trees.{path_total, equal_by}
 use Rattle.dm_tree.proofs.MoveLemmas.{self_equal}
+use Rattle.dm_tree.proofs.OneAnswer.{in_range, old_there, some_left}
 use Rattle.dm_prim.specs.InTurn.{InTurn, done, step}
 use Rattle.dm_prim.specs.Primitives.{AddFile, RmFile, AddDir, RmDir, Hunk, Prim, At, Move, Applies}
 use Rattle.dm_prim.specs.Prims.{prim_of, prims_of}
 use Rattle.dm_prim.specs.Applying.{Applied, FaultsAs, AppliesToTree, AppliedAll}
 use Rattle.dm_prim.specs.declared.primitive.Primitive as code
 use Rattle.dm_prim.proofs.Maps.{below_absent, moves_from}
-use Rattle.dm_prim.proofs.ListLemmas.{prims_more, parted, count_of}
+use Rattle.dm_prim.proofs.ListLemmas.{prims_more, parted}
 use Rattle.dm_prim.proofs.RectangleLemmas.{runs_on}
 
 -- finite maps at one path, and elsewhere
@@ -158,28 +157,6 @@ module _ (t t' : Tree) (a b : Path) (l : IsLawful (map.get t)) where
   renames (Err NoMemory) f ok err = (err, tt)
 
 -- editing
-module _ (n : ℕ) (old new ls ls' : Lines) (e : ReplacesLines n old new ls ls') where
-  count_is : length ls ≡ length e.front + (length old + length e.back)
-  count_is = ap length e.before ∙ length-append e.front (old ++ e.back) ∙ ap (λ k. length e.front + k) (length-append old e.back)
-
-  in_range : InRange n (length old) (length ls)
-  in_range = (omega (arith, e.at), omega (arith, e.at, count_is))
-
-  old_there : take (length old) (drop (n - 1) ls) ≡ old
-  old_there = let k : n - 1 ≡ length e.front = omega (arith, e.at) in
-      ap₂ (λ i x. take (length old) (drop i x)) k e.before ∙ ap (λ x. take (length old) x) (drop-append_seam e.front (old ++ e.back)) ∙ take-append_seam old e.back
-
-  nothing : (xs : Lines) → length xs ≡ 0 → xs ≡ []
-  nothing [] h = refl
-  nothing (x ∷ xs) h = absurd (omega arith)
-
-  some_left : ls ≡ old → new ≡ [] → ⊥
-  some_left c z =
-      let k : length ls ≡ length old = ap length c in
-      let f : e.front ≡ [] = nothing e.front (omega (arith, k, count_is)) in
-      let g : e.back ≡ [] = nothing e.back (omega (arith, k, count_is)) in
-      e.left (e.after ∙ rw (f, g, z) refl)
-
 module _ (m : Map) (p : Path) (n : ℕ) (old new : Lines) where
   same_lines : (o : Option Entry) (xs ys : Lines) → o ≡ Some (File xs) → o ≡ Some (File ys) → xs ≡ ys
   same_lines o xs ys h k = let z : Some (File xs) ≡ Some (File ys) = sym h ∙ k in cc
@@ -218,8 +195,8 @@ module _ (t t' : Tree) (p : Path) (n : ℕ) (old new : Lines) where
 
 -- a list
 module _ {Y : Type 0} (prims : List (code.Primitive Y)) (i : ℕ) (p : code.Primitive Y) (l : i < length prims) (e : p ≡ get_or prims i p) where
-  pub one_more : {T : Type 0} (x : T) (r : Result T TreeFault) (t u z : Tree) → r ≡ Ok x → Applied (prim_of p) u z r → InTurn AppliesToTree (take i (prims_of prims)) t u → InTurn AppliesToTree (take (i + 1) (prims_of prims)) t z
-  one_more x r t u z is a k = rw (prims_more prims i p l e) (runs_on Prim Tree AppliesToTree k (step (rw is at a) done))
+  pub one_more : {T : Type 0} (x : T) (r : Result T TreeFault) (t u z : Tree) → r ≡ Ok x → Applied (prim_of p) u z r → (Deep (map.get z) → ⊥) → InTurn AppliesToTree (take i (prims_of prims)) t u → InTurn AppliesToTree (take (i + 1) (prims_of prims)) t z
+  one_more x r t u z is a d k = rw (prims_more prims i p l e) (runs_on Prim Tree AppliesToTree k (step (rw is at a, d) done))
 
   pub stops_at : {T : Type 0} (f : TreeFault) (r : Result T TreeFault) (t u z : Tree) → r ≡ Err f → Applied (prim_of p) u z r → FaultsAs (prim_of p) (map.get u) r → InTurn AppliesToTree (take i (prims_of prims)) t u →
       AppliedAll {T = T} (prims_of prims) t z (Err (i, f))

@@ -6,10 +6,11 @@ use Rattle.dm_prim.specs.InTurn.{done, step}
 use Rattle.dm_prim.specs.Rectangles.{CellRow, none, next, empty, row}
 use Rattle.dm_prim.specs.Primitives.{AddFile, RmFile, AddDir, RmDir, Hunk, Prim, At, Move, inv, inv_all, LawfulMap, Leads, LeadsAll}
 use Rattle.dm_prim.specs.Commuting.{IsGoodPrim, Commutes, ListsCommute}
-use Rattle.dm_prim.specs.Laws.{PairLaws, ListLaws, CommutedPairsEndAlike, PairsCommuteBack, PairsCommutePastAnInverse, CommutedListsEndAlike, ListsCommuteBack, ListsCommutePastAnInverse, InversesLeadBack, ListInversesLeadBack}
+use Rattle.dm_prim.specs.Laws.{PairLaws, ListLaws, CommutedPairsEndAlike, PairsCommuteBack, PairsCommutePastAnInverse, CommutedListsEndAlike, ListsCommuteBack, ListsCommutePastAnInverse, InversesLeadBack, ListInversesLeadBack, OneWayToApply, OneWayToCommute, OneWayToCommuteLists}
 use Rattle.dm_prim.proofs.Undoing.{OffRoot, undone, kept}
 use Rattle.dm_prim.proofs.TableRows.{square_from, row_turn, row_inv}
 use Rattle.dm_prim.proofs.Ends.{square_runs, inv_inv}
+use Rattle.dm_prim.proofs.Single.{applies_one, commutes_one, lists_one, same_map}
 use Rattle.dm_prim.proofs.RectangleLemmas.{beside, one, rectangle_turn, rectangle_runs, runs_on}
 
 not_root : (f : Path) → IsGoodPath f → f ≢ []
@@ -84,3 +85,13 @@ inv_all-inv_all (x ∷ xs) = inv_all-append (inv_all xs) (inv x ∷ []) ∙ ap�
 
 pub list_inverses_lead_back : ListInversesLeadBack
 list_inverses_lead_back ps s t = (all_lead_back ps s t, λ h. rw (inv_all-inv_all ps) at (all_lead_back (inv_all ps) t s h))
+
+-- one answer
+pub one_map : OneWayToApply
+one_map p t u v l h k = same_map u v (applies_one p t u v l h k)
+
+pub one_pair : OneWayToCommute
+one_pair p q q1 p1 q2 p2 g h = commutes_one p q q1 p1 q2 p2 g h
+
+pub one_pair_of_lists : OneWayToCommuteLists
+one_pair_of_lists xs ys ys1 xs1 ys2 xs2 g h = lists_one g h

@@ -5,6 +5,7 @@ pub mod TableRows
 pub mod Ends
 pub mod RectangleLemmas
 pub mod Single
+pub mod OneAnswer
 pub mod LawProofs
 pub mod TableLemmas
 pub mod ListLemmas

@@ -1,6 +1,6 @@
 -- Lists that are gone through one by one.
 use Rattle.std.proofs.Common.{◌≡◌, ℕ, ◌+◌, ◌<◌, ◌≤◌, List, [], ◌∷◌, ◌++◌, take, drop, length, reverse, map, get_or, sym, ap, ap₂, ◌∙◌, refl, arith, append_assoc, append-nil, length-append, take-append-drop}
-use Rattle.std.proofs.lemmas.List.{take_more, map_push, get_or-map, length-map, take_all, same_from_push}
+use Rattle.std.proofs.lemmas.List.{take_more, map_push, get_or-map, length-map, same_from_push}
 use Rattle.std.proofs.lemmas.Grind.{reverse_onto}
 use Rattle.dm_prim.specs.Rectangles.{CellRow, none, next, empty, row}
 use Rattle.dm_prim.specs.Primitives.{Prim, Move, inv, inv_all}

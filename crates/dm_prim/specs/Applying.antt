@@ -28,11 +28,11 @@ FaultsAs (At p RmDir) m r = RemoveDirAnswers m p r
 FaultsAs (At p (Hunk n old new)) m r = EditAnswers m p n old new r
 FaultsAs (Move a b) m r = RenameAnswers m a b r
 
--- a primitive makes one tree of another
+-- a primitive makes one tree of another, in which no path has more than 32 names
 abbrev pub AppliesToTree : Prim → Tree → Tree → Type 0
-AppliesToTree p t t' = Applies p (map.get t) (map.get t')
+AppliesToTree p t t' = Applies p (map.get t) (map.get t') × (Deep (map.get t') → ⊥)
 
--- the tree t became t' by all of ps in turn; after a fault at place k, by the first k of them, and the next is refused there
+-- the tree t became t' by all of ps in turn, no tree on the way being too deep; after a fault at place k, by the first k of them, and the next is the first with a fault, which is this one
 abbrev pub AppliedAll : {T : Type 0} → List Prim → Tree → Tree → Result T (ℕ × TreeFault) → Type 0
 AppliedAll ps t t' (Ok x) = InTurn AppliesToTree ps t t'
 AppliedAll {T} ps t t' (Err r) = (p : Prim) × (rest : List Prim) × (ps ≡ take r.0 ps ++ p ∷ rest) × InTurn AppliesToTree (take r.0 ps) t t' ×

@@ -1,7 +1,15 @@
--- What holds of all primitives that commute, and of all lists of them, whether or not they ever apply to a tree.
-use Rattle.std.specs.Prelude.{◌↔◌, List}
-use Rattle.dm_prim.specs.Primitives.{Prim, inv, inv_all, LawfulMap, Leads, LeadsAll}
+-- What holds of all primitives that commute, and of all lists of them, whether or not they ever apply to a tree; and that each question has one answer.
+use Rattle.std.specs.Prelude.{◌≡◌, ◌≢◌, ◌↔◌, ℕ, List, Result, Ok, Err}
+use Rattle.std.specs.FinMap as map
+use Rattle.dm_tree.specs.declared.fault.TreeFault.{TreeFault}
+use Rattle.dm_tree.specs.declared.fault.TreeFault.TheVariants.{NoMemory}
+use Rattle.dm_tree.specs.Trees.{Map, Tree, IsLawful}
+use Rattle.dm_tree.specs.Laws.{fault_of_change}
+use Rattle.dm_prim.specs.Primitives.{Prim, inv, inv_all, Applies, LawfulMap, Leads, LeadsAll}
 use Rattle.dm_prim.specs.Commuting.{Commutes, ListsCommute}
+use Rattle.dm_prim.specs.Applying.{FaultsAs, AppliedAll}
+use Rattle.dm_prim.specs.Hunks.{HunkParts, MakesHunk}
+use Rattle.dm_prim.specs.declared.hunk.HunkFault.{HunkFault}
 
 -- the three laws, of one pair
 pub record PairLaws (p q q' p' : Prim) : Type 0 where
@@ -46,3 +54,33 @@ InversesLeadBack = (p : Prim) (s t : LawfulMap) → Leads p s t ↔ Leads (inv p
 
 abbrev pub ListInversesLeadBack : Type 0
 ListInversesLeadBack = (ps : List Prim) (s t : LawfulMap) → LeadsAll ps s t ↔ LeadsAll (inv_all ps) t s
+
+-- a primitive makes at most one map of a lawful map
+abbrev pub OneWayToApply : Type 0
+OneWayToApply = (p : Prim) (t u v : Map) → IsLawful t → Applies p t u → Applies p t v → u ≡ v
+
+-- two primitives commute to at most one pair
+abbrev pub OneWayToCommute : Type 0
+OneWayToCommute = (p q q1 p1 q2 p2 : Prim) → Commutes p q q1 p1 → Commutes p q q2 p2 → (q1 ≡ q2) × (p1 ≡ p2)
+
+-- two lists commute to at most one pair of lists
+abbrev pub OneWayToCommuteLists : Type 0
+OneWayToCommuteLists = (xs ys ys1 xs1 ys2 xs2 : List Prim) → ListsCommute xs ys ys1 xs1 → ListsCommute xs ys ys2 xs2 → (ys1 ≡ ys2) × (xs1 ≡ xs2)
+
+-- two answers to applying a primitive to the same map report the same fault, or both none
+abbrev pub ApplyingHasOneAnswer : Type 0
+ApplyingHasOneAnswer = (p : Prim) (m : Map) (r s : Result (Unit {0}) TreeFault) → FaultsAs p m r → FaultsAs p m s → fault_of_change r ≡ fault_of_change s
+
+-- the answer is not that memory ran out
+abbrev pub IsNotOutOfMemory : Result (Unit {0}) (ℕ × TreeFault) → Type 0
+IsNotOutOfMemory (Ok x) = Unit {0}
+IsNotOutOfMemory (Err r) = r.1 ≢ NoMemory
+
+-- two answers to applying a list to the same lawful tree, neither of them out of memory, are the same, and so are the trees that are left
+abbrev pub ApplyingAListHasOneAnswer : Type 0
+ApplyingAListHasOneAnswer = (ps : List Prim) (t u v : Tree) (r s : Result (Unit {0}) (ℕ × TreeFault)) → IsLawful (map.get t) → IsNotOutOfMemory r → IsNotOutOfMemory s →
+    AppliedAll ps t u r → AppliedAll ps t v s → (r ≡ s) × (u ≡ v)
+
+-- two answers to the same parts of a hunk are the same
+abbrev pub HunkHasOneAnswer : Type 0
+HunkHasOneAnswer = (h : HunkParts) (r s : Result HunkParts HunkFault) → MakesHunk h r → MakesHunk h s → r ≡ s

@@ -32,6 +32,9 @@ pub fn apply<A: Allocator + Copy, B: Allocator>(
 }
 
 /// Applies them in turn. After a fault at place k the tree is the one after the first k.
+///
+/// The list and the tree decide the answer, unless it runs out of memory
+/// ([`laws::applying_a_list_has_one_answer`](crate::laws::applying_a_list_has_one_answer)).
 pub fn apply_all<A: Allocator + Copy, B: Allocator>(
     prims: &[Primitive<B>],
     tree: &mut Tree<A>,
@@ -48,9 +51,10 @@ fn apply_each<A: Allocator + Copy, B: Allocator>(
     ensures { AppliedAll (prims_of prims.now) tree.old tree.new result }
 {
     for k in 0..prims.len() {
-        if let Err(fault) = apply(&prims[k], tree) {
+        if let Err(fault) = apply(&prims[k], tree) && fault != TreeFault::TooDeep {
             return Err((k, fault));
         }
+        tree_is_lawful(tree);
     }
     Ok(())
 }

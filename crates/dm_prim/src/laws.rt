@@ -1,6 +1,6 @@
 //! The laws of the definitions alone, for all values, whether or not they ever apply to a tree.
 //! Each call does nothing; whoever calls it knows the law from there on.
-ghost use Rattle.dm_prim.specs.Laws.{CommutedPairsEndAlike, PairsCommuteBack, PairsCommutePastAnInverse, CommutedListsEndAlike, ListsCommuteBack, ListsCommutePastAnInverse, InversesLeadBack, ListInversesLeadBack};
+ghost use Rattle.dm_prim.specs.Laws.{CommutedPairsEndAlike, PairsCommuteBack, PairsCommutePastAnInverse, CommutedListsEndAlike, ListsCommuteBack, ListsCommutePastAnInverse, InversesLeadBack, ListInversesLeadBack, OneWayToApply, OneWayToCommute, OneWayToCommuteLists, ApplyingHasOneAnswer, ApplyingAListHasOneAnswer, HunkHasOneAnswer};
 
 /// Every lawful map on which two primitives apply in turn has the same end by those that they
 /// commute to.
@@ -42,4 +42,35 @@ pub fn commuting_lists_past_an_inverse()
 /// A list leads from one lawful map to another exactly where its inverse leads back.
 pub fn applying_a_list_is_undone_by_its_inverse()
     ensures { ListInversesLeadBack }
+{}
+
+/// A primitive makes at most one map of a lawful map.
+pub fn one_way_to_apply()
+    ensures { OneWayToApply }
+{}
+
+/// Two primitives commute to at most one pair.
+pub fn one_way_to_commute()
+    ensures { OneWayToCommute }
+{}
+
+/// Two lists commute to at most one pair of lists.
+pub fn one_way_to_commute_lists()
+    ensures { OneWayToCommuteLists }
+{}
+
+/// What stands there decides whether a primitive may be applied to a map, and why not.
+pub fn applying_has_one_answer()
+    ensures { ApplyingHasOneAnswer }
+{}
+
+/// The list and the tree decide the answer of [`apply_all`](crate::apply_all) and the tree that it
+/// leaves, unless it runs out of memory.
+pub fn applying_a_list_has_one_answer()
+    ensures { ApplyingAListHasOneAnswer }
+{}
+
+/// The parts decide whether there is such a hunk, and why not.
+pub fn a_hunk_has_one_answer()
+    ensures { HunkHasOneAnswer }
 {}

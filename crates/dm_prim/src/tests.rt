@@ -368,6 +368,36 @@ fn lists_apply_in_turn<A: Allocator + Copy>(rt: &impl Abort, alloc: A) -> Result
     Ok(())
 }
 
+/// Beside `x` stand 32 directories `s`, each inside the one before it.
+fn no_tree_on_the_way_is_too_deep<A: Allocator + Copy>(
+    rt: &impl Abort,
+    alloc: A,
+) -> Result<(), Fail> {
+    let there_and_back = read(
+        alloc,
+        "move s x/s then move x/s s because they undo each other",
+    )?;
+    let Some(there_and_back) = there_and_back.get(0) else {
+        return Err(AllocError)?;
+    };
+    let mut tree = Tree::new(alloc);
+    tree.add_dir(&path(alloc, "x")?)?;
+    let names = [b"s".as_slice(); 32];
+    for n in 1..33 {
+        tree.add_dir(&Path::from_parts(alloc, &names[..n])?)?;
+    }
+    assert_eq!(rt;
+        apply_all(there_and_back, &mut tree),
+        Err((0, TreeFault::TooDeep)),
+        "33 names on the way"
+    );
+    assert!(rt;
+        tree.entry(&Path::from_parts(alloc, &names)?).is_some(),
+        "the tree is as it was"
+    );
+    Ok(())
+}
+
 fn copies_are_equal<A: Allocator + Copy, B: Allocator + Copy>(
     rt: &impl Abort,
     alloc: A,
@@ -391,7 +421,8 @@ fn all<A: Allocator + Copy>(rt: &impl Abort, alloc: A) -> Result<(), Fail> {
     lists_commute_by_rectangles(rt, alloc)?;
     lists_are_inverted(rt, alloc)?;
     hunks_need_a_line_and_a_change(rt, alloc)?;
-    lists_apply_in_turn(rt, alloc)
+    lists_apply_in_turn(rt, alloc)?;
+    no_tree_on_the_way_is_too_deep(rt, alloc)
 }
 
 /// So many hunks of the file, at one line, with as many old lines each, and one new line.

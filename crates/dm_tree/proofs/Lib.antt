@@ -6,6 +6,7 @@ pub mod Listings
 pub mod Moved
 pub mod ValidityLemmas
 pub mod Paths
+pub mod OneAnswer
 pub mod Removes
 pub mod Renames
 pub mod Search

@@ -8,3 +8,4 @@ pub mod Children
 pub mod Nested
 pub mod NodeFalls
 pub mod Walks
+pub mod Laws
