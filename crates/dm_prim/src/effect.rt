@@ -51,7 +51,7 @@ fn apply_each<A: Allocator + Copy, B: Allocator>(
     ensures { AppliedAll (prims_of prims.now) tree.old tree.new result }
 {
     for k in 0..prims.len() {
-        if let Err(fault) = apply(&prims[k], tree) && fault != TreeFault::TooDeep {
+        if let Err(fault) = apply(&prims[k], tree) {
             return Err((k, fault));
         }
         tree_is_lawful(tree);

@@ -1,0 +1,4 @@
+pub mod MailLemmas
+pub mod WorldLemmas
+pub mod RingWorlds
+pub mod Totals

@@ -1,0 +1,5 @@
+pub mod Mails
+pub mod World
+pub mod Faults
+pub mod Ends
+pub mod Laws
