@@ -62,7 +62,7 @@ impl<A: Allocator> Tree<A> {
 }
 
 impl<A: Allocator + Copy> Tree<A> {
-    /// AddAnswers an empty file (`addfile`): one empty line.
+    /// Adds an empty file (`addfile`): one empty line.
     ///
     /// Errors: [`TreeFault::NoParent`], [`TreeFault::Occupied`], [`TreeFault::NoMemory`].
     pub fn add_file<B: Allocator>(&mut self, path: &Path<B>) -> Result<(), TreeFault>
@@ -95,7 +95,7 @@ impl<A: Allocator + Copy> Tree<A> {
         Ok(())
     }
 
-    /// AddAnswers a directory (`adddir`).
+    /// Adds a directory (`adddir`).
     ///
     /// Errors: [`TreeFault::NoParent`], [`TreeFault::Occupied`], [`TreeFault::NoMemory`].
     pub fn add_dir<B: Allocator>(&mut self, path: &Path<B>) -> Result<(), TreeFault>
@@ -184,7 +184,7 @@ impl<A: Allocator + Copy> Tree<A> {
         Ok(())
     }
 
-    /// AddAnswers a directory with nothing in it, or an empty file.
+    /// Adds a directory with nothing in it, or an empty file.
     fn add_leaf<B: Allocator>(&mut self, path: &Path<B>, leaf: Leaf) -> Result<(), TreeFault>
         ensures fault { AddAnswers (map.get self.old) path.now result }
         ensures ok { OnOk result (self.new ≡ map.insert self.old path.now (leaf_entry leaf)) }
