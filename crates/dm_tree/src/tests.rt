@@ -1,478 +1,445 @@
-//! The same examples over the global allocator and over an arena.
+//! The same rows over the heap, with copies into an arena, and over an arena, with copies into the heap.
+
 use crate::{Entry, Kind, LineFault, Lines, Path, PathFault, Tree, TreeFault};
 use bumpalo::Bump;
 use std::alloc::Allocator;
-use std::fmt::Debug;
 use std::process::Abort;
 use std::test::Fail;
 
-/// Compares a row's value with the one that is wanted.
-fn row<T: PartialEq + Debug + Drop>(rt: &impl Abort, found: T, wanted: T, name: &str) {
-    assert_eq!(rt; found, wanted, "{name}");
-}
+/// What the row shows, a question and its answer. Paths have a slash between names. `relate` tells whether a path is the
+/// other or is inside it; `forward` where a path is once what is at the second has moved to the third.
+const PATHS: &str = "\
+no name: path  => Empty
+32 names: path a/a/a/a/a/a/a/a/a/a/a/a/a/a/a/a/a/a/a/a/a/a/a/a/a/a/a/a/a/a/a/a => Ok
+33 names: path a/a/a/a/a/a/a/a/a/a/a/a/a/a/a/a/a/a/a/a/a/a/a/a/a/a/a/a/a/a/a/a/a => TooDeep
+the parent: path a/.. => BadName
+256 bytes: path nnnnnnnnnnnnnnnnnnnnnnnnnnnnnnnnnnnnnnnnnnnnnnnnnnnnnnnnnnnnnnnnnnnnnnnnnnnnnnnnnnnnnnnnnnnnnnnnnnnnnnnnnnnnnnnnnnnnnnnnnnnnnnnnnnnnnnnnnnnnnnnnnnnnnnnnnnnnnnnnnnnnnnnnnnnnnnnnnnnnnnnnnnnnnnnnnnnnnnnnnnnnnnnnnnnnnnnnnnnnnnnnnnnnnnnnnnnnnnnnnnnnnnnnnnnnnnnn => TooLong
+255 bytes: path nnnnnnnnnnnnnnnnnnnnnnnnnnnnnnnnnnnnnnnnnnnnnnnnnnnnnnnnnnnnnnnnnnnnnnnnnnnnnnnnnnnnnnnnnnnnnnnnnnnnnnnnnnnnnnnnnnnnnnnnnnnnnnnnnnnnnnnnnnnnnnnnnnnnnnnnnnnnnnnnnnnnnnnnnnnnnnnnnnnnnnnnnnnnnnnnnnnnnnnnnnnnnnnnnnnnnnnnnnnnnnnnnnnnnnnnnnnnnnnnnnnnnnnnnnnnnnn => Ok
+a long name before a bad one: path nnnnnnnnnnnnnnnnnnnnnnnnnnnnnnnnnnnnnnnnnnnnnnnnnnnnnnnnnnnnnnnnnnnnnnnnnnnnnnnnnnnnnnnnnnnnnnnnnnnnnnnnnnnnnnnnnnnnnnnnnnnnnnnnnnnnnnnnnnnnnnnnnnnnnnnnnnnnnnnnnnnnnnnnnnnnnnnnnnnnnnnnnnnnnnnnnnnnnnnnnnnnnnnnnnnnnnnnnnnnnnnnnnnnnnnnnnnnnnnnnnnnnnnnnnnnnnnn/_darcs => TooLong
+a zero byte in a name: path a\0b => BadName
+the byte 1 in a name: path a\u{1}b => Ok
+itself: relate d d => itself
+a path inside: relate d/e d => inside
+the directory above: relate d d/e => outside
+a longer name: relate de d => outside
+a path inside moves along: forward d/f d x/y => x/y/f
+another path stays: forward x/y d x/y => x/y
+a move to 33 names: forward d/d/d/d/d/d/d/d/d/d/d/d/d/d/d/d/d/d/d/d/d/d/d/d/d/d/d/d/d/d/d/d d x/y => none
+a copy of a path: copy d/f => d/f
+";
 
-/// A path from its names, with a slash between them.
-fn path<A: Allocator + Copy>(alloc: A, text: &str) -> Result<Path<A>, Fail> {
-    let mut names = Vec::new(alloc);
-    for name in text.as_bytes().split(|byte| *byte == b'/') {
-        names.push(name)?;
+/// Each part begins with a new tree and has a title. Its rows: what it shows, a change of the tree or a question,
+/// and the answer, in which a number has two digits.
+/// `edit` has the file, its line, old lines behind `-` and new ones behind `+`; `add_dirs` adds each
+/// directory of a path; `size` is the counts of lines and of bytes of a file; a list tells the bytes of each file.
+const TREES: &str = "\
+edits replace lines
+a file: add_file f => Ok
+before the empty line: edit f 1 +x => Ok
+two past the end: edit f 4 +y => LineRange
+all lines by nothing: edit f 1 -x - => NoLines
+all lines, one of them another, by nothing: edit f 1 -x -z => OldDiffers
+other old lines: edit f 1 -z +y => OldDiffers
+the lines and the bytes after the refusals: size f => 02 02
+right past the end: edit f 3 +y => Ok
+the lines and the bytes: size f => 03 04
+
+changes that are refused
+a directory: add_dir d => Ok
+a file in it: add_file d/f => Ok
+a directory that holds a file: remove_dir d => NotEmpty
+a directory as a file: remove_file d => NotFile
+a file as a directory: remove_dir d/f => NotDir
+nothing: remove_file z => Missing
+no parent: add_file z/q => NoParent
+a file as the parent: add_file d/f/q => NoParent
+a directory that is there: add_dir d => Occupied
+the directory and the file after the refusals: list => d, d/f 00
+
+moves that are refused
+a directory: add_dir d => Ok
+a file in it: add_file d/f => Ok
+nothing onto itself: rename z z => Missing
+to a parent that isn't there: rename d q/e => NoParent
+onto its parent: rename d/f d => Occupied
+onto itself: rename d d => IntoItself
+into itself: rename d d/e => IntoItself
+a file into itself: rename d/f d/f/q => IntoItself
+the directory and the file after the refusals: list => d, d/f 00
+
+a directory moves whole
+a directory: add_dir d => Ok
+a file in it: add_file d/f => Ok
+a line: edit d/f 1 +x => Ok
+a file with a line: remove_file d/f => NotEmpty
+the move: rename d e => Ok
+the directory and the file inside: list => e, e/f 02
+
+a directory of four names moves whole
+four directories: add_dirs a/b/c/d => Ok
+a file in the last: add_file a/b/c/d/f => Ok
+a directory beside it: add_dir a/b/c/d/g => Ok
+the move: rename a/b/c/d a/e => Ok
+what stays, and what moved along: list => a, a/b, a/b/c, a/e, a/e/f 00, a/e/g
+
+no path gets too deep
+32 directories, each in the one before: add_dirs s/s/s/s/s/s/s/s/s/s/s/s/s/s/s/s/s/s/s/s/s/s/s/s/s/s/s/s/s/s/s/s => Ok
+a directory beside: add_dir x => Ok
+33 names: rename s x/s => TooDeep
+33 names without a parent: rename s q/s => NoParent
+a directory in the one beside: add_dir x/y => Ok
+33 names where a directory stands: rename s x/y => Occupied
+32 names: rename s y => Ok
+the count of entries: count => 34
+
+a part of a deep path moves
+32 directories, each in the one before: add_dirs s/s/s/s/s/s/s/s/s/s/s/s/s/s/s/s/s/s/s/s/s/s/s/s/s/s/s/s/s/s/s/s => Ok
+three directories beside: add_dirs x/y/z => Ok
+33 names: rename s/s/s x/y/z/t => TooDeep
+32 names: rename s/s/s x/y/t => Ok
+the count of entries: count => 35
+
+listings go by names
+a longer name: add_dir a.b => Ok
+a directory: add_dir a => Ok
+a file in it: add_file a/z => Ok
+upper case: add_dir B => Ok
+upper case, a directory, what it holds, a longer name: list => B, a, a/z 00, a.b
+
+a copy stays as it was
+a directory: add_dir d => Ok
+a file in it: add_file d/f => Ok
+the copy: copy => Ok
+an empty file: remove_file d/f => Ok
+an empty directory: remove_dir d => Ok
+what is left of the tree: count => 00
+the directory and the file of the copy: list_copy => d, d/f 00
+";
+
+/// The name of a fault of a path.
+fn path_word(fault: PathFault) -> &'static str {
+    match fault {
+        PathFault::Empty => "Empty",
+        PathFault::BadName => "BadName",
+        PathFault::TooDeep => "TooDeep",
+        PathFault::TooLong => "TooLong",
+        PathFault::NoMemory => "NoMemory",
     }
-    Ok(Path::from_parts(alloc, &names)?)
 }
 
-/// Lines from a text in which each ends with a newline.
-fn lines<A: Allocator + Copy>(alloc: A, text: &str) -> Result<Lines<A>, Fail> {
+/// The name of what a change answers.
+fn tree_word(answer: Result<(), TreeFault>) -> &'static str {
+    match answer {
+        Ok(()) => "Ok",
+        Err(TreeFault::NoParent) => "NoParent",
+        Err(TreeFault::Occupied) => "Occupied",
+        Err(TreeFault::Missing) => "Missing",
+        Err(TreeFault::NotFile) => "NotFile",
+        Err(TreeFault::NotDir) => "NotDir",
+        Err(TreeFault::NotEmpty) => "NotEmpty",
+        Err(TreeFault::IntoItself) => "IntoItself",
+        Err(TreeFault::LineRange) => "LineRange",
+        Err(TreeFault::OldDiffers) => "OldDiffers",
+        Err(TreeFault::NoLines) => "NoLines",
+        Err(TreeFault::TooDeep) => "TooDeep",
+        Err(TreeFault::NoMemory) => "NoMemory",
+    }
+}
+
+/// A number's digit.
+fn digit(n: u128) -> u8 {
+    b'0'.wrapping_add((n % 10) as u8)
+}
+
+/// The last two digits of a number.
+fn number(n: u128) -> [u8; 2] {
+    [digit(n / 10), digit(n)]
+}
+
+/// What names with a slash between them make.
+fn made<A: Allocator + Copy>(alloc: A, text: &str) -> Result<Result<Path<A>, PathFault>, Fail> {
+    let mut names = Vec::new(alloc);
+    if !text.is_empty() {
+        for name in text.as_bytes().split(|byte| *byte == b'/') {
+            names.push(name)?;
+        }
+    }
+    Ok(Path::from_parts(alloc, &names))
+}
+
+/// A path.
+fn path<A: Allocator + Copy>(alloc: A, text: &str) -> Result<Path<A>, Fail> {
+    Ok(made(alloc, text)??)
+}
+
+/// The names of a path with a slash between them.
+fn text<A: Allocator, B: Allocator + Copy>(alloc: B, path: &Path<A>) -> Result<Vec<u8, B>, Fail> {
+    let mut out = Vec::new(alloc);
+    for i in 0..path.len() {
+        if i > 0 {
+            out.push(b'/')?;
+        }
+        out.extend_from_slice(path.part(i))?;
+    }
+    Ok(out)
+}
+
+/// How two paths stand to one another.
+fn relation<A: Allocator>(this: &Path<A>, that: &Path<A>) -> &'static str {
+    match (this.same(that), this.is_inside(that), this.is_under(that)) {
+        (true, false, true) => "itself",
+        (false, true, true) => "inside",
+        (false, false, false) => "outside",
+        _ => "at odds",
+    }
+}
+
+/// Where a path is once what is at the first of two has moved to the second.
+fn forward<A: Allocator + Copy, B: Allocator + Copy>(
+    alloc: A,
+    other: B,
+    path_of: &Path<A>,
+    names: &str,
+) -> Result<Vec<u8, B>, Fail> {
+    let (from, to) = names.split_once(" ").ok_or("a move")?;
+    let from = path(alloc, from)?;
+    let to = path(alloc, to)?;
+    match path_of.forward(other, &from, &to)? {
+        Some(moved) => text(other, &moved),
+        None => Ok(Vec::from_slice(other, b"none")?),
+    }
+}
+
+/// What a question of the table of paths answers.
+fn answer<A: Allocator + Copy, B: Allocator + Copy>(
+    alloc: A,
+    other: B,
+    question: &str,
+) -> Result<Vec<u8, B>, Fail> {
+    let (word, names) = question.split_once(" ").ok_or("a path")?;
+    let (first, more) = names.split_once(" ").unwrap_or((names, ""));
+    let first = match made(alloc, first)? {
+        Ok(first) => first,
+        Err(fault) => return Ok(Vec::from_slice(other, path_word(fault).as_bytes())?),
+    };
+    if word == "path" {
+        return Ok(Vec::from_slice(other, b"Ok")?);
+    }
+    if word == "copy" {
+        return text(other, &first.copy_into(other)?);
+    }
+    if word == "relate" {
+        let that = path(alloc, more)?;
+        return Ok(Vec::from_slice(other, relation(&first, &that).as_bytes())?);
+    }
+    forward(alloc, other, &first, more)
+}
+
+/// The lines behind a sign.
+fn signed<A: Allocator + Copy>(alloc: A, texts: &str, sign: &[u8]) -> Result<Lines<A>, Fail> {
     let mut lines = Lines::new(alloc);
-    if let Some((_, rest)) = text.as_bytes().split_last() {
-        for line in rest.split(|byte| *byte == b'\n') {
+    for text in texts.as_bytes().split(|byte| *byte == b' ') {
+        if let Some(line) = text.strip_prefix(sign) {
             lines.push(line)?;
         }
     }
     Ok(lines)
 }
 
-fn fault<A: Allocator + Copy>(alloc: A, names: &[&[u8]]) -> Option<PathFault> {
-    Path::from_parts(alloc, names).err()
-}
-
-fn names_are_counted<A: Allocator + Copy>(rt: &impl Abort, alloc: A) {
-    let names = [b"a".as_slice(); 33];
-    row(rt, fault(alloc, &[]), Some(PathFault::Empty), "no name");
-    row(rt, fault(alloc, &names[..32]), None, "32 names");
-    row(
-        rt,
-        fault(alloc, &names),
-        Some(PathFault::TooDeep),
-        "33 names",
-    );
-}
-
-fn names_are_checked<A: Allocator + Copy>(rt: &impl Abort, alloc: A) {
-    let name = [b'n'; 256];
-    let long = name.as_slice();
-    let parent = [b"a".as_slice(), b"..".as_slice()];
-    let both = [long, b"_darcs".as_slice()];
-    row(
-        rt,
-        fault(alloc, &parent),
-        Some(PathFault::BadName),
-        "the parent",
-    );
-    row(
-        rt,
-        fault(alloc, &[long]),
-        Some(PathFault::TooLong),
-        "256 bytes",
-    );
-    row(rt, fault(alloc, &[&long[..255]]), None, "255 bytes");
-    row(
-        rt,
-        fault(alloc, &both),
-        Some(PathFault::TooLong),
-        "a long name before a bad one",
-    );
-}
-
-/// Whether a path is the other, is inside it, and is either.
-fn relation<A: Allocator + Copy>(
-    alloc: A,
-    text: &str,
-    other: &str,
-) -> Result<(bool, bool, bool), Fail> {
-    let this = path(alloc, text)?;
-    let that = path(alloc, other)?;
-    Ok((
-        this.same(&that),
-        this.is_inside(&that),
-        this.is_under(&that),
-    ))
-}
-
-fn paths_are_compared<A: Allocator + Copy>(rt: &impl Abort, alloc: A) -> Result<(), Fail> {
-    let rows = [
-        ("d", "d", (true, false, true), "itself"),
-        ("d/e", "d", (false, true, true), "a path inside"),
-        ("d", "d/e", (false, false, false), "the directory above"),
-        ("de", "d", (false, false, false), "a longer name"),
-    ];
-    for (text, other, wanted, name) in rows {
-        row(rt, relation(alloc, text, other)?, wanted, name);
-    }
-    Ok(())
-}
-
-/// Whether a path gets there when `from` moves to `to`.
-fn gets<A: Allocator + Copy>(
-    alloc: A,
-    text: &str,
-    from: &str,
-    to: &str,
-    there: &str,
-) -> Result<bool, Fail> {
-    let moved = path(alloc, text)?.forward(alloc, &path(alloc, from)?, &path(alloc, to)?)?;
-    match moved {
-        Some(moved) => Ok(moved.same(&path(alloc, there)?)),
-        None => Ok(false),
-    }
-}
-
-fn paths_move<A: Allocator + Copy>(rt: &impl Abort, alloc: A) -> Result<(), Fail> {
-    let inside = gets(alloc, "d/f", "d", "x/y", "x/y/f")?;
-    row(rt, inside, true, "a path inside moves along");
-    let other = gets(alloc, "x/y", "d", "x/y", "x/y")?;
-    row(rt, other, true, "another path stays");
-    let deep = Path::from_parts(alloc, &[b"d".as_slice(); 32])?;
-    let moved = deep.forward(alloc, &path(alloc, "d")?, &path(alloc, "x/y")?)?;
-    row(rt, moved.is_none(), true, "33 names");
-    Ok(())
-}
-
-fn lines_have_no_newline<A: Allocator + Copy>(rt: &impl Abort, alloc: A) {
-    let mut lines = Lines::new(alloc);
-    row(
-        rt,
-        lines.push(b"x\ny"),
-        Err(LineFault::Newline),
-        "a newline",
-    );
-    row(rt, lines.push(b"x"), Ok(()), "a line");
-    row(rt, lines.push_plain(b"y").is_ok(), true, "a plain line");
-    row(rt, lines.len(), 2, "the count");
-}
-
-/// A change of a tree; paths have a slash between names, and lines a newline each.
-#[derive(Clone, Copy)]
-enum Change {
-    AddFile(&'static str),
-    RemoveFile(&'static str),
-    AddDir(&'static str),
-    RemoveDir(&'static str),
-    Rename(&'static str, &'static str),
-    Edit(&'static str, u32, &'static str, &'static str),
-}
-
-fn rename<A: Allocator + Copy>(
-    alloc: A,
-    tree: &mut Tree<A>,
-    from: &str,
-    to: &str,
-) -> Result<Result<(), TreeFault>, Fail> {
-    let from = path(alloc, from)?;
-    let to = path(alloc, to)?;
-    Ok(tree.rename(&from, &to))
-}
-
+/// Edits a file; the rest of the row is a line, and old and new lines.
 fn edit<A: Allocator + Copy>(
     alloc: A,
     tree: &mut Tree<A>,
-    text: &str,
-    line: u32,
-    old: &str,
-    new: &str,
+    path: &Path<A>,
+    rest: &str,
 ) -> Result<Result<(), TreeFault>, Fail> {
-    let path = path(alloc, text)?;
-    let old = lines(alloc, old)?;
-    let new = lines(alloc, new)?;
-    Ok(tree.edit(&path, line, &old, &new))
+    let (line, texts) = rest.split_once(" ").ok_or("lines")?;
+    let [line] = line.as_bytes() else {
+        return Err("a line of one digit".into());
+    };
+    let line = line.wrapping_sub(b'0') as u32;
+    let old = signed(alloc, texts, b"-")?;
+    let new = signed(alloc, texts, b"+")?;
+    Ok(tree.edit(path, line, &old, &new))
+}
+
+/// Adds each directory of a path.
+fn add_dirs<A: Allocator + Copy>(
+    alloc: A,
+    tree: &mut Tree<A>,
+    path: &Path<A>,
+) -> Result<Result<(), TreeFault>, Fail> {
+    let mut names = Vec::new(alloc);
+    for i in 0..path.len() {
+        names.push(path.part(i))?;
+        if let Err(fault) = tree.add_dir(&Path::from_parts(alloc, &names)?) {
+            return Ok(Err(fault));
+        }
+    }
+    Ok(Ok(()))
 }
 
 /// What the tree answers to a change.
-fn answer<A: Allocator + Copy>(
+fn change<A: Allocator + Copy>(
     alloc: A,
     tree: &mut Tree<A>,
-    change: Change,
+    word: &str,
+    names: &str,
 ) -> Result<Result<(), TreeFault>, Fail> {
-    match change {
-        Change::AddFile(text) => Ok(tree.add_file(&path(alloc, text)?)),
-        Change::RemoveFile(text) => Ok(tree.remove_file(&path(alloc, text)?)),
-        Change::AddDir(text) => Ok(tree.add_dir(&path(alloc, text)?)),
-        Change::RemoveDir(text) => Ok(tree.remove_dir(&path(alloc, text)?)),
-        Change::Rename(from, to) => rename(alloc, tree, from, to),
-        Change::Edit(text, line, old, new) => edit(alloc, tree, text, line, old, new),
+    let (first, rest) = names.split_once(" ").unwrap_or((names, ""));
+    let first = path(alloc, first)?;
+    if word == "add_file" {
+        return Ok(tree.add_file(&first));
     }
+    if word == "remove_file" {
+        return Ok(tree.remove_file(&first));
+    }
+    if word == "add_dir" {
+        return Ok(tree.add_dir(&first));
+    }
+    if word == "remove_dir" {
+        return Ok(tree.remove_dir(&first));
+    }
+    if word == "add_dirs" {
+        return add_dirs(alloc, tree, &first);
+    }
+    if word == "rename" {
+        return Ok(tree.rename(&first, &path(alloc, rest)?));
+    }
+    edit(alloc, tree, &first, rest)
 }
 
-/// Makes the changes of a table in turn, and compares each answer with the one that is wanted.
-fn changes<A: Allocator + Copy>(
-    rt: &impl Abort,
-    alloc: A,
-    tree: &mut Tree<A>,
-    rows: &[(Change, Result<(), TreeFault>, &str)],
-) -> Result<(), Fail> {
-    for (change, wanted, name) in rows {
-        row(rt, answer(alloc, tree, *change)?, *wanted, name);
-    }
-    Ok(())
-}
-
-/// Whether the tree lists exactly these paths and kinds.
-fn lists<A: Allocator + Copy>(
-    alloc: A,
-    tree: &Tree<A>,
-    wanted: &[(&str, Kind)],
-) -> Result<bool, Fail> {
-    let rows = tree.listing(alloc)?;
-    if rows.len() != wanted.len() {
-        return Ok(false);
-    }
-    for (row, (text, kind)) in rows.iter().zip(wanted) {
-        if !row.path.same(&path(alloc, text)?) || row.kind != *kind {
-            return Ok(false);
+/// Each entry of a tree, and the bytes of a file.
+fn list<A: Allocator, B: Allocator + Copy>(alloc: B, tree: &Tree<A>) -> Result<Vec<u8, B>, Fail> {
+    let mut out = Vec::new(alloc);
+    for row in &tree.listing(alloc)? {
+        if !out.is_empty() {
+            out.extend_from_slice(b", ")?;
+        }
+        out.extend_from_slice(&text(alloc, &row.path)?)?;
+        if let Kind::File(size) = row.kind {
+            out.push(b' ')?;
+            out.extend_from_slice(&number(size))?;
         }
     }
-    Ok(true)
+    Ok(out)
 }
 
-/// The count of lines and of bytes of a file.
-fn size<A: Allocator>(tree: &Tree<A>, path: &Path<A>) -> Option<(usize, u128)> {
-    match tree.entry(path) {
-        Some(Entry::File(file)) => Some((file.count(), file.bytes())),
-        _ => None,
+/// The counts of lines and of bytes of a file.
+fn size<A: Allocator + Copy>(alloc: A, tree: &Tree<A>, names: &str) -> Result<Vec<u8, A>, Fail> {
+    let path = path(alloc, names)?;
+    let Some(Entry::File(file)) = tree.entry(&path) else {
+        return Err("a file".into());
+    };
+    let mut out = Vec::from_slice(alloc, &number(file.count() as u128))?;
+    out.push(b' ')?;
+    out.extend_from_slice(&number(file.bytes()))?;
+    Ok(out)
+}
+
+/// What a row of the table of trees answers.
+fn done<A: Allocator + Copy, B: Allocator + Copy>(
+    alloc: A,
+    tree: &mut Tree<A>,
+    other: B,
+    copy: &mut Tree<B>,
+    row: &str,
+) -> Result<Vec<u8, A>, Fail> {
+    let (word, names) = row.split_once(" ").unwrap_or((row, ""));
+    if word == "list" {
+        return list(alloc, tree);
     }
-}
-
-fn edits_replace_lines<A: Allocator + Copy>(rt: &impl Abort, alloc: A) -> Result<(), Fail> {
-    let mut tree = Tree::new(alloc);
-    let rows = [
-        (Change::AddFile("f"), Ok(()), "a file"),
-        (
-            Change::Edit("f", 1, "", "x\n"),
-            Ok(()),
-            "before the empty line",
-        ),
-        (
-            Change::Edit("f", 4, "", "y\n"),
-            Err(TreeFault::LineRange),
-            "two past the end",
-        ),
-        (
-            Change::Edit("f", 1, "x\n\n", ""),
-            Err(TreeFault::NoLines),
-            "all lines by nothing",
-        ),
-        (
-            Change::Edit("f", 1, "z\n", "y\n"),
-            Err(TreeFault::OldDiffers),
-            "other old lines",
-        ),
-        (
-            Change::Edit("f", 3, "", "y\n"),
-            Ok(()),
-            "right past the end",
-        ),
-    ];
-    changes(rt, alloc, &mut tree, &rows)?;
-    let found = size(&tree, &path(alloc, "f")?);
-    row(rt, found, Some((3, 4)), "the lines and the bytes");
-    Ok(())
-}
-
-fn changes_are_refused<A: Allocator + Copy>(rt: &impl Abort, alloc: A) -> Result<(), Fail> {
-    let rows = [
-        (Change::AddDir("d"), Ok(()), "a directory"),
-        (Change::AddFile("d/f"), Ok(()), "a file in it"),
-        (
-            Change::RemoveDir("d"),
-            Err(TreeFault::NotEmpty),
-            "a directory that holds a file",
-        ),
-        (
-            Change::RemoveFile("d"),
-            Err(TreeFault::NotFile),
-            "a directory as a file",
-        ),
-        (
-            Change::RemoveDir("d/f"),
-            Err(TreeFault::NotDir),
-            "a file as a directory",
-        ),
-        (Change::RemoveFile("z"), Err(TreeFault::Missing), "nothing"),
-        (
-            Change::AddFile("z/q"),
-            Err(TreeFault::NoParent),
-            "no parent",
-        ),
-        (
-            Change::AddFile("d/f/q"),
-            Err(TreeFault::NoParent),
-            "a file as the parent",
-        ),
-        (
-            Change::AddDir("d"),
-            Err(TreeFault::Occupied),
-            "a directory that is there",
-        ),
-    ];
-    changes(rt, alloc, &mut Tree::new(alloc), &rows)
-}
-
-fn moves_are_refused<A: Allocator + Copy>(rt: &impl Abort, alloc: A) -> Result<(), Fail> {
-    let rows = [
-        (Change::AddDir("d"), Ok(()), "a directory"),
-        (Change::AddFile("d/f"), Ok(()), "a file in it"),
-        (
-            Change::Rename("z", "z"),
-            Err(TreeFault::Missing),
-            "nothing onto itself",
-        ),
-        (
-            Change::Rename("d", "q/e"),
-            Err(TreeFault::NoParent),
-            "to a parent that isn't there",
-        ),
-        (
-            Change::Rename("d/f", "d"),
-            Err(TreeFault::Occupied),
-            "onto its parent",
-        ),
-        (
-            Change::Rename("d", "d"),
-            Err(TreeFault::IntoItself),
-            "onto itself",
-        ),
-        (
-            Change::Rename("d", "d/e"),
-            Err(TreeFault::IntoItself),
-            "into itself",
-        ),
-    ];
-    changes(rt, alloc, &mut Tree::new(alloc), &rows)
-}
-
-fn a_directory_moves_whole<A: Allocator + Copy>(rt: &impl Abort, alloc: A) -> Result<(), Fail> {
-    let mut tree = Tree::new(alloc);
-    let rows = [
-        (Change::AddDir("d"), Ok(()), "a directory"),
-        (Change::AddFile("d/f"), Ok(()), "a file in it"),
-        (Change::Edit("d/f", 1, "", "x\n"), Ok(()), "a line"),
-        (
-            Change::RemoveFile("d/f"),
-            Err(TreeFault::NotEmpty),
-            "a file with a line",
-        ),
-        (Change::Rename("d", "e"), Ok(()), "the move"),
-    ];
-    changes(rt, alloc, &mut tree, &rows)?;
-    let found = lists(alloc, &tree, &[("e", Kind::Dir), ("e/f", Kind::File(2))])?;
-    row(rt, found, true, "the directory and the file inside");
-    Ok(())
-}
-
-/// A tree of 32 directories, each in the one before.
-fn deep_tree<A: Allocator + Copy>(alloc: A) -> Result<Tree<A>, Fail> {
-    let mut tree = Tree::new(alloc);
-    let names = [b"s".as_slice(); 32];
-    for n in 1..33 {
-        tree.add_dir(&Path::from_parts(alloc, &names[..n])?)?;
+    if word == "list_copy" {
+        return list(alloc, copy);
     }
-    Ok(tree)
+    if word == "count" {
+        let count = tree.listing(alloc)?.len() as u128;
+        return Ok(Vec::from_slice(alloc, &number(count))?);
+    }
+    if word == "size" {
+        return size(alloc, tree, names);
+    }
+    if word == "copy" {
+        *copy = tree.copy_into(other)?;
+        return Ok(Vec::from_slice(alloc, b"Ok")?);
+    }
+    let answer = tree_word(change(alloc, tree, word, names)?);
+    Ok(Vec::from_slice(alloc, answer.as_bytes())?)
 }
 
-fn no_path_gets_too_deep<A: Allocator + Copy>(rt: &impl Abort, alloc: A) -> Result<(), Fail> {
-    let mut tree = deep_tree(alloc)?;
-    let rows = [
-        (Change::AddDir("x"), Ok(()), "a directory beside"),
-        (
-            Change::Rename("s", "x/s"),
-            Err(TreeFault::TooDeep),
-            "33 names",
-        ),
-        (Change::Rename("s", "y"), Ok(()), "32 names"),
-    ];
-    changes(rt, alloc, &mut tree, &rows)?;
-    row(rt, tree.listing(alloc)?.len(), 33, "the count of entries");
-    Ok(())
-}
-
-fn listings_go_by_names<A: Allocator + Copy>(rt: &impl Abort, alloc: A) -> Result<(), Fail> {
-    let mut tree = Tree::new(alloc);
-    let rows = [
-        (Change::AddDir("a.b"), Ok(()), "a longer name"),
-        (Change::AddDir("a"), Ok(()), "a directory"),
-        (Change::AddFile("a/z"), Ok(()), "a file in it"),
-        (Change::AddDir("B"), Ok(()), "upper case"),
-    ];
-    changes(rt, alloc, &mut tree, &rows)?;
-    let wanted = [
-        ("B", Kind::Dir),
-        ("a", Kind::Dir),
-        ("a/z", Kind::File(0)),
-        ("a.b", Kind::Dir),
-    ];
-    let found = lists(alloc, &tree, &wanted)?;
-    row(
-        rt,
-        found,
-        true,
-        "upper case, a directory, what it holds, a longer name",
-    );
-    Ok(())
-}
-
-fn trees_are_copied<A: Allocator + Copy, B: Allocator + Copy>(
+/// Each row of the table of paths.
+fn asked<A: Allocator + Copy, B: Allocator + Copy>(
     rt: &impl Abort,
     alloc: A,
     other: B,
 ) -> Result<(), Fail> {
-    let mut tree = Tree::new(alloc);
-    let made = [
-        (Change::AddDir("d"), Ok(()), "a directory"),
-        (Change::AddFile("d/f"), Ok(()), "a file in it"),
-    ];
-    changes(rt, alloc, &mut tree, &made)?;
-    let copy = tree.copy_into(other)?;
-    let removed = [
-        (Change::RemoveFile("d/f"), Ok(()), "an empty file"),
-        (Change::RemoveDir("d"), Ok(()), "an empty directory"),
-    ];
-    changes(rt, alloc, &mut tree, &removed)?;
-    let found = lists(other, &copy, &[("d", Kind::Dir), ("d/f", Kind::File(0))])?;
-    row(rt, found, true, "the directory and the file of the copy");
+    for line in PATHS.lines() {
+        let (what, row) = line.split_once(": ").ok_or("what the row shows")?;
+        let (question, wanted) = row.split_once(" => ").ok_or("an answer")?;
+        let found = answer(alloc, other, question)?;
+        assert_eq!(rt; found.as_slice(), wanted.as_bytes(), "{what}");
+    }
     Ok(())
 }
 
-fn parts_are_copied<A: Allocator + Copy, B: Allocator + Copy>(
+/// Each row of a part of the table of trees.
+fn changed<A: Allocator + Copy, B: Allocator + Copy>(
+    rt: &impl Abort,
+    alloc: A,
+    other: B,
+    part: &str,
+) -> Result<(), Fail> {
+    let (title, rows) = part.split_once("\n").ok_or("what the part shows")?;
+    let mut tree = Tree::new(alloc);
+    let mut copy = Tree::new(other);
+    for line in rows.lines() {
+        let (what, row) = line.split_once(": ").ok_or("what the row shows")?;
+        let (row, wanted) = row.split_once(" => ").ok_or("an answer")?;
+        let found = done(alloc, &mut tree, other, &mut copy, row)?;
+        assert_eq!(rt; found.as_slice(), wanted.as_bytes(), "{title}: {what}");
+    }
+    Ok(())
+}
+
+/// Lines one by one, and a copy of them.
+fn lines<A: Allocator + Copy, B: Allocator + Copy>(
     rt: &impl Abort,
     alloc: A,
     other: B,
 ) -> Result<(), Fail> {
-    let f = path(alloc, "d/f")?;
-    row(rt, f.copy_into(other)?.same(&f), true, "a path");
-    let count = lines(alloc, "x\n\n")?.copy_into(other)?.len();
-    row(rt, count, 2, "lines");
+    let mut lines = Lines::new(alloc);
+    let fault = lines.push(b"x\ny").err();
+    assert_eq!(rt; fault, Some(LineFault::Newline), "a newline");
+    assert!(rt; lines.push(b"x").is_ok(), "a line");
+    assert!(rt; lines.push_plain(b"y").is_ok(), "a plain line");
+    assert!(rt; lines.len() == 2, "the count");
+    assert!(rt; lines.push(b"").is_ok(), "an empty line");
+    assert!(rt; lines.copy_into(other)?.len() == 3, "the count of a copy");
     Ok(())
 }
 
-fn all<A: Allocator + Copy>(rt: &impl Abort, alloc: A) -> Result<(), Fail> {
-    names_are_counted(rt, alloc);
-    names_are_checked(rt, alloc);
-    paths_are_compared(rt, alloc)?;
-    paths_move(rt, alloc)?;
-    lines_have_no_newline(rt, alloc);
-    edits_replace_lines(rt, alloc)?;
-    changes_are_refused(rt, alloc)?;
-    moves_are_refused(rt, alloc)?;
-    a_directory_moves_whole(rt, alloc)?;
-    no_path_gets_too_deep(rt, alloc)?;
-    listings_go_by_names(rt, alloc)
+/// All rows, with copies under the second allocator.
+fn all<A: Allocator + Copy, B: Allocator + Copy>(
+    rt: &impl Abort,
+    alloc: A,
+    other: B,
+) -> Result<(), Fail> {
+    lines(rt, alloc, other)?;
+    asked(rt, alloc, other)?;
+    for part in TREES.split("\n\n") {
+        changed(rt, alloc, other, part)?;
+    }
+    Ok(())
 }
 
 #[test]
-fn over_the_global_allocator(rt: HostRuntime) -> Result<(), Fail> {
-    all(&rt, rt.alloc())
+fn over_the_heap(rt: HostRuntime) -> Result<(), Fail> {
+    let arena = Bump::new(rt.alloc());
+    all(&rt, rt.alloc(), &arena)
 }
 
 #[test]
 fn over_an_arena(rt: HostRuntime) -> Result<(), Fail> {
-    let bump = Bump::new(rt.alloc());
-    all(&rt, &bump)
-}
-
-#[test]
-fn copies_both_ways(rt: HostRuntime) -> Result<(), Fail> {
-    let bump = Bump::new(rt.alloc());
-    trees_are_copied(&rt, rt.alloc(), &bump)?;
-    trees_are_copied(&rt, &bump, rt.alloc())?;
-    parts_are_copied(&rt, rt.alloc(), &bump)?;
-    parts_are_copied(&rt, &bump, rt.alloc())
+    let arena = Bump::new(rt.alloc());
+    all(&rt, &arena, rt.alloc())
 }
