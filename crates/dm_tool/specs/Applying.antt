@@ -19,7 +19,7 @@ pub record IsBase (text : List ℕ) (repo : List Patch) : Type 0 where
   pub accepted : IsAccepted verdict
   pub takes : Takes [] text verdict repo
 
--- the base's text isn't taken: out of memory, or this verdict
+-- the base's text isn't taken: memory ran out, or this verdict
 abbrev pub RefusesBase : List ℕ → ToolFault → Type 0
 RefusesBase text NoMemory = Unit {0}
 RefusesBase text (BadBase verdict) = (IsAccepted verdict → ⊥) × (verdict ≢ Refused refusals.NoMemory) × Takes [] text verdict []

@@ -10,7 +10,7 @@ use Rattle.dm_scratch.specs.Taking.{Reads}
 use Rattle.dm_scratch.specs.Words.{verdict_text}
 use Rattle.dm_tool.specs.Printing.{line_of}
 
--- these bytes and this exit status: the canonical text of the bundle that the text stands for, the line of the text's fault, or that of out of memory
+-- these bytes and this exit status: the canonical text of the bundle that the text stands for, the line of the text's fault, or the line that memory ran out
 pub data Checks (text printed : List ℕ) (status : ℕ) : Type 0 where
   canonical : (b : Contents) → Reads text b → printed ≡ bundle_text b → status ≡ 0 → Checks text printed status
   malformed : (fault : ReadFault) → FaultAt text fault.kind fault.at → printed ≡ line_of (verdict_text (Malformed fault)) → status ≡ 1 → Checks text printed status

@@ -81,7 +81,7 @@ pub is_none : (x : Option Entry) → (x ≢ None → ⊥) → x ≡ None
 is_none None h = refl
 is_none (Some x) h = absurd (h (λ e. cc))
 
--- an error that came from out of memory
+-- an error that came from a refused growth
 pub err_memory : (P : Result (Unit {0}) TreeFault → Type 0) (r : Result (Unit {0}) TreeFault) → IsErrAnd r (λ e. e ≡ NoMemory) → P (Err NoMemory) → P r
 err_memory P (Ok x) h p = absurd h
 err_memory P (Err e) h p = subst (λ (z : TreeFault). P (Err z)) (sym h) p
