@@ -30,8 +30,8 @@ a copy of a path: copy d/f => d/f
 
 /// Each part begins with a new tree and has a title. Its rows: what it shows, a change of the tree or a question,
 /// and the answer, in which a number has two digits.
-/// `edit` has the file, its line, old lines behind `-` and new ones behind `+`; `add_dirs` adds each
-/// directory of a path; `size` is the counts of lines and of bytes of a file; a list tells the bytes of each file.
+/// `edit` has the file, its line, old lines after `-` and new ones after `+`; `add_dirs` adds each
+/// directory of a path; `size` is the counts of lines and of bytes of a file; a list has the bytes of each file.
 const TREES: &str = "\
 edits replace lines
 a file: add_file f => Ok
@@ -235,7 +235,7 @@ fn answer<A: Allocator + Copy, B: Allocator + Copy>(
     forward(alloc, other, &first, more)
 }
 
-/// The lines behind a sign.
+/// The lines after a sign.
 fn signed<A: Allocator + Copy>(alloc: A, texts: &str, sign: &[u8]) -> Result<Lines<A>, Fail> {
     let mut lines = Lines::new(alloc);
     for text in texts.as_bytes().split(|byte| *byte == b' ') {
