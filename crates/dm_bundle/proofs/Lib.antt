@@ -4,6 +4,7 @@ pub mod Members
 pub mod PatchesLemmas
 pub mod ContextLemmas
 pub mod OneBundle
+pub mod OneFault
 pub mod NoBundle
 pub mod WithinLimits
 pub mod RoundTrips

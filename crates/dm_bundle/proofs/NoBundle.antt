@@ -50,9 +50,10 @@ no_new kind text here k f b s =
 
 no_known : (kind : FaultKind) (new : List PatchInfo) (text here : List ℕ) → ExcludesPatch kind → ContextInfoFaultAt kind new text here → Begins 91 text × ((i : PatchInfo) (after : List ℕ) → Stands text i after → (Contains new i → ⊥) → ⊥)
 no_known kind new text here k (doubled e h d) = (stands_opens text d.info d.rest d.stands, λ i after s none. none (subst (Contains new) (one_info text d.info i d.rest after d.stands s).0 d.is_known))
-no_known kind new text here k (in_info b f) = (b, λ i after s none. no_info kind text here k f i after s)
+no_known kind new text here k (in_info b f) = (b, λ i after s none. no_info kind text here k.memory f i after s)
 
-apart_at : (new is : List PatchInfo) (i : PatchInfo) (js : List PatchInfo) → AreDisjoint new (is ++ i ∷ js) → Contains new i → ⊥
+-- a patch info of the context is none of a new patch
+pub apart_at : (new is : List PatchInfo) (i : PatchInfo) (js : List PatchInfo) → AreDisjoint new (is ++ i ∷ js) → Contains new i → ⊥
 apart_at new is i js a h = a i h (Contains-append_right is (i ∷ js) i (here i i js refl))
 
 no_more : (kind : FaultKind) (new is more : List PatchInfo) (mid rest here : List ℕ) → ExcludesPatch kind → ContextInfoFaultAt kind new (skipped mid) here → Many NextInfo mid more rest → (Begins 91 (skipped rest) → ⊥) → AreDisjoint new (is ++ more) → ⊥

@@ -30,14 +30,14 @@ one_heading text r s a b = one_summary text a.summary b.summary a.here b.here r 
 
 -- ---- the new patches
 
-one_next : (text : List ℕ) (p q : Patch) (r s : List ℕ) → NextPatch text p r → NextPatch text q s → (p ≡ q) × (r ≡ s)
+pub one_next : (text : List ℕ) (p q : Patch) (r s : List ℕ) → NextPatch text p r → NextPatch text q s → (p ≡ q) × (r ≡ s)
 one_next text p q r s a b = one_patch (skipped text) p q r s a b
 
 -- where the word of the context stands, no patch info does
 pub word_opens : (text rest : List ℕ) → Word text context_word rest → Begins 91 text → ⊥
 word_opens text rest w b = omega (arith, front_same 67 91 (codes "ontext:" ++ rest) b.0 (sym w.parts ∙ b.1))
 
-no_patch_at_context : (text rest : List ℕ) → ContextWord text rest → Closed NextPatch text
+pub no_patch_at_context : (text rest : List ℕ) → ContextWord text rest → Closed NextPatch text
 no_patch_at_context text rest w p after t = word_opens (skipped text) rest w (stands_opens (skipped text) p.info t.after t.info)
 
 pub one_patches : (text : List ℕ) (ps qs : List Patch) (r s c d : List ℕ) → Many NextPatch text ps r → Many NextPatch text qs s → ContextWord r c → ContextWord s d → (ps ≡ qs) × (r ≡ s)

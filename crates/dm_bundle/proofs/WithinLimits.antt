@@ -17,7 +17,7 @@ use Rattle.dm_bundle.proofs.OneBundle.{one_heading, word_opens, patches_follow}
 use Rattle.dm_bundle.proofs.PatchesLemmas.{count_map}
 use Rattle.dm_bundle.proofs.NoBundle.{no_sections, fault_excludes_bundle}
 
-few_at : (ps : List Patch) (p : Patch) (more : List Patch) → AllByRecursion (λ q. length q.prims ≤ 10000) (ps ++ p ∷ more) → length p.prims ≤ 10000
+pub few_at : (ps : List Patch) (p : Patch) (more : List Patch) → AllByRecursion (λ q. length q.prims ≤ 10000) (ps ++ p ∷ more) → length p.prims ≤ 10000
 few_at [] p more a = a.0
 few_at (q ∷ ps) p more a = few_at ps p more a.1
 

@@ -39,11 +39,8 @@ pub(crate) fn context_at<A: Allocator + Copy>(
                 at: here,
             });
         }
-        if infos.push(info).is_err() {
-            return Err(ReadFault {
-                kind: FaultKind::NoMemory,
-                at: here,
-            });
+        if let Err(e) = infos.push(info) {
+            return Err(ReadFault::no_memory(e.into(), here));
         }
         here = skip(text, next);
     }

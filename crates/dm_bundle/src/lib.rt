@@ -9,6 +9,7 @@
 
 mod bundle;
 mod context;
+pub mod goodness;
 mod heading;
 mod known;
 pub mod laws;

@@ -52,11 +52,9 @@ fn patch_at<A: Allocator + Copy>(
     }
     // The patch info is read by itself first: a double is reported before a fault in the rest of the patch.
     let (info, _) = info_at(alloc, text, here)?;
-    let Ok(is_new) = known.insert(info) else {
-        return Err(ReadFault {
-            kind: FaultKind::NoMemory,
-            at: here,
-        });
+    let is_new = match known.insert(info) {
+        Ok(is_new) => is_new,
+        Err(e) => return Err(ReadFault::no_memory(e, here)),
     };
     if !is_new {
         return Err(ReadFault {
@@ -89,11 +87,8 @@ pub(crate) fn patches_at<A: Allocator + Copy>(
     let mut here = skip(text, end);
     while begins_at(text, here, b'[') {
         let (patch, next) = patch_at(alloc, text, here, &patches, &mut known)?;
-        if patches.push(patch).is_err() {
-            return Err(ReadFault {
-                kind: FaultKind::NoMemory,
-                at: here,
-            });
+        if let Err(e) = patches.push(patch) {
+            return Err(ReadFault::no_memory(e.into(), here));
         }
         end = next;
         here = skip(text, end);

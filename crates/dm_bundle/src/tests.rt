@@ -86,6 +86,7 @@ a new patch in the context: %N(a)adddir ./d|%C(a)| => malformed doubled 58
 a new patch in the context after others: %N(a)adddir ./d|%C(b)|(c)|(a)| => malformed doubled 104
 a new patch twice: %N(a)adddir ./d|(b)adddir ./e|(a)adddir ./f|%C => malformed doubled 80
 a new patch twice, before what is wrong in it: %N(a)adddir ./d|(a)adddir d|%C => malformed doubled 47
+a new patch in the context, before what is no patch info: %N(a)adddir ./d|%C(a)|[x => malformed doubled 58
 no patch info among dependencies: %N(t)<|x> {|}|%C => malformed bad-depends 38
 an unknown word in braces: %N(a){|foo ./a|}|%C => malformed bad-patch 38
 an escape that does not end: %N(a)addfile ./a\3 => malformed bad-path 44
@@ -233,6 +234,20 @@ fn limits(rt: HostRuntime) -> Result<(), Fail> {
         checked(alloc, &many_prims(alloc, 10001)?)?.as_slice(),
         b"malformed too-many 110038".as_slice(),
         "10,001 primitives"
+    );
+    Ok(())
+}
+
+#[test]
+fn counts_before_it_compares(rt: HostRuntime) -> Result<(), Fail> {
+    let alloc = rt.alloc();
+    let most = many_patches(alloc, 1000)?;
+    let mut text = Vec::from_slice(alloc, most.get(..29014).ok_or("the new patches")?)?;
+    text.extend_from_slice(b"[0000\np**20240101000000] {\n}\n")?;
+    assert_eq!(rt;
+        checked(alloc, &text)?.as_slice(),
+        b"malformed too-many 29014".as_slice(),
+        "the 1,001st new patch is doubled"
     );
     Ok(())
 }

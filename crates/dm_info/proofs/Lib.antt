@@ -1,6 +1,7 @@
 pub mod Cuts
 pub mod Hashed
 pub mod LogLemmas
+pub mod OneFault
 pub mod Places
 pub mod ReadingLemmas
 pub mod Same

@@ -1,11 +1,12 @@
 -- The laws of reading, at a place of a text.
-use Rattle.std.proofs.Common.{◌≡◌, ℕ, ◌+◌, ◌-◌, ◌≤◌, List, ◌++◌, length, drop, Result, Ok, Err, refl, sym, ap, ◌∙◌, arith, inl, inr}
+use Rattle.std.proofs.Common.{◌≡◌, ℕ, ◌+◌, ◌-◌, ◌≤◌, List, ◌++◌, length, drop, Ok, refl, sym, ap, ◌∙◌, arith, inl, inr}
 use Rattle.std.proofs.lemmas.List.{drop-drop, drop_at, length-drop, length-append, drop_all, nil_from_length}
 use Rattle.std.proofs.lemmas.Bool.{cases_lt}
 use Rattle.dm_info.specs.declared.fault.InfoReadFault.{InfoReadFault}
 use Rattle.dm_info.specs.declared.fault.InfoReadFault.TheVariants.{BadInfo, Inverted, NoMemory}
 use Rattle.dm_info.specs.PatchInfo.{PatchInfo}
-use Rattle.dm_info.specs.Spelling.{StandsFrom, NoneStands, StandsInverted}
+use Rattle.dm_info.specs.Spelling.{StandsFrom, StandsInverted}
+use Rattle.dm_info.specs.Refusals.{HasReadFault}
 use Rattle.dm_info.specs.Reading.{Fails, info_at}
 use Rattle.dm_info.proofs.ReadingLemmas.{ok_pair, info_takes, info_again, inverted_takes, inverted_again}
 
@@ -45,21 +46,14 @@ turned_err Inverted text f s is = cc
 pub turned_ok : (text : List ℕ) (i : PatchInfo) (rest : List ℕ) → info_at text ≡ Ok (i, rest) → StandsInverted text → ⊥
 turned_ok text i rest e s = let both = sym e ∙ inverted_again text s in cc
 
-abbrev pub failed : {T : Type 0} → InfoReadFault → Result T InfoReadFault
-failed e = Err e
-
-pub inverted_err : {T : Type 0} (e : InfoReadFault) (text : List ℕ) → Fails e (info_at text) → failed {T = T} e ≡ failed Inverted → StandsInverted text
-inverted_err NoMemory text f is = absurd cc
-inverted_err BadInfo text f is = absurd cc
-inverted_err Inverted text f is = inverted_takes text f
-
 pub shorter_rest : (text : List ℕ) (at : ℕ) (i : PatchInfo) (rest : List ℕ) → info_at (drop at text) ≡ Ok (i, rest) → length rest ≤ length text
 shorter_rest text at i rest e = let s = info_takes (drop at text) i rest e in omega (arith, length-drop at text, length-append s.own rest, ap length s.parts)
 
-pub bad_err : {T : Type 0} (e : InfoReadFault) (text : List ℕ) → Fails e (info_at text) → failed {T = T} e ≡ failed BadInfo → NoneStands text
-bad_err NoMemory text f is = absurd cc
-bad_err Inverted text f is = absurd cc
-bad_err BadInfo text f is = record {
+-- where reading fails the text has that fault
+pub has_fault : (e : InfoReadFault) (text : List ℕ) → Fails e (info_at text) → HasReadFault text e
+has_fault NoMemory text f = tt
+has_fault Inverted text f = inverted_takes text f
+has_fault BadInfo text f = record {
   none = λ i rest stands. let both = sym f ∙ info_again text i rest stands in cc;
   none_inverted = λ s. let both = sym f ∙ inverted_again text s in cc;
 }

@@ -4,3 +4,4 @@ pub mod Spelling
 pub mod Compared
 pub mod ComparedLaws
 pub mod Reading
+pub mod Laws

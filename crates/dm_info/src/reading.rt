@@ -1,9 +1,10 @@
 //! Reading from the front of a slice.
 
-ghost use Rattle.std.specs.Prelude.{◌≡◌, ◌≤◌, ◌∷◌, length, drop, ℕ, List, false, map, MatchOption, MatchResult, ◌≢◌, IfOk, IsErrOf};
+ghost use Rattle.std.specs.Prelude.{◌≡◌, ◌≤◌, ◌∷◌, length, drop, ℕ, List, false, map, MatchOption, MatchResult, ◌≢◌, IfOk, IfErr};
 ghost use Rattle.memchr.specs.Find.{is_byte2};
 ghost use Rattle.dm_info.specs.PatchInfo.{PatchInfo, is_newline, ends_author, ends_date};
-ghost use Rattle.dm_info.specs.Spelling.{StandsFrom, NoneStands, StandsInverted};
+ghost use Rattle.dm_info.specs.Spelling.{StandsFrom, StandsInverted};
+ghost use Rattle.dm_info.specs.Refusals.{HasReadFault};
 ghost use Rattle.dm_info.specs.Reading.{Gives, Lacks, Cut, cut, after, star_after, author_at, log_from, end_at, info_at};
 
 use crate::fault::InfoReadFault;
@@ -148,10 +149,9 @@ pub fn read_info<A: Allocator + Copy>(
     // What stands there is what is read, unless memory runs out.
     ensures only { (i : PatchInfo) (next : ℕ) → StandsFrom text.now at i next
         → MatchResult result (λ x. (x.0 ≡ i) × (x.1 ≡ next)) (λ e. e ≡ InfoReadFault.NoMemory) }
-    // BadInfo is answered only where nothing stands.
-    ensures bad { IsErrOf result InfoReadFault.BadInfo → NoneStands (drop at text.now) }
-    // Inverted is answered only where an inverted patch stands, and no other fault but out of memory there.
-    ensures inverted { IsErrOf result InfoReadFault.Inverted → StandsInverted (drop at text.now) }
+    // A fault is answered only where the text has it: BadInfo where nothing stands, Inverted where an inverted patch does.
+    ensures fault { IfErr result (λ e. HasReadFault (drop at text.now) e) }
+    // Where an inverted patch stands no other fault but out of memory is answered.
     ensures turned { StandsInverted (drop at text.now)
         → MatchResult result (λ x. ⊥) (λ e. e ≢ InfoReadFault.BadInfo) }
 {

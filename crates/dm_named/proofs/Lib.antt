@@ -5,6 +5,7 @@ pub mod PathLemmas
 pub mod GroupLemmas
 pub mod PrimLemmas
 pub mod BodyLemmas
+pub mod OneFault
 pub mod OnePatch
 pub mod NoPatch
 pub mod WithinCount

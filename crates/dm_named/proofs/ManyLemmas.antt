@@ -1,5 +1,6 @@
 -- What holds of a repetition whose parts are read in one way.
-use Rattle.std.proofs.Common.{◌≡◌, ℕ, List, [], ◌∷◌, ◌++◌, refl, sym, ap, subst, ◌∙◌}
+use Rattle.std.proofs.Common.{◌≡◌, ℕ, List, [], ◌∷◌, ◌++◌, refl, sym, ap, subst, ◌∙◌, inl, inr}
+use Rattle.std.specs.Prelude.{◌⊎◌}
 use Rattle.std.proofs.lemmas.List.{append-nil}
 use Rattle.dm_named.specs.Many.{Many}
 
@@ -35,3 +36,26 @@ module _ {V : Type 0} (S : List ℕ → V → List ℕ → Type 0) where
       let m = many_follows one text vs ws r s x y q in
       let n = none_more r m.0 s m.2 p in
       (sym (m.1 ∙ ap (λ (l : List V). vs ++ l) n.0 ∙ append-nil vs), n.1)
+
+  -- of two readings one goes on: with this next one, which stands where the other ends
+  pub record GoesOn (vs ws : List V) (mid : List ℕ) : Type 0 where
+    pub next : V
+    pub more : List V
+    pub after : List ℕ
+    pub longer : ws ≡ vs ++ next ∷ more
+    pub stands : S mid next after
+
+  longer_by_one : (v w : V) (vs ws : List V) (mid : List ℕ) → v ≡ w → GoesOn vs ws mid → GoesOn (v ∷ vs) (w ∷ ws) mid
+  longer_by_one v w vs ws mid e g = record { next = g.next; more = g.more; after = g.after; longer = λ k. sym e k ∷ g.longer k; stands = g.stands }
+
+  -- two readings are one, or the first goes on, or the second does
+  pub meet : One → (text : List ℕ) (vs ws : List V) (r s : List ℕ) → Many S text vs r → Many S text ws s → ((vs ≡ ws) × (r ≡ s)) ⊎ (GoesOn vs ws r ⊎ GoesOn ws vs s)
+  meet one text [] [] r s x y = inl (refl, sym x ∙ y)
+  meet one text [] (w ∷ ws) r s x y = inr (inl (record { next = w; more = ws; after = y.0; longer = refl; stands = subst (λ (t : List ℕ). S t w y.0) x y.1 }))
+  meet one text (v ∷ vs) [] r s x y = inr (inr (record { next = v; more = vs; after = x.0; longer = refl; stands = subst (λ (t : List ℕ). S t v x.0) y x.1 }))
+  meet one text (v ∷ vs) (w ∷ ws) r s x y =
+      let same = one text v w x.0 y.0 x.1 y.1 in
+      elim (meet one y.0 vs ws r s (subst (λ (t : List ℕ). Many S t vs r) same.1 x.2) y.2) [
+        | inl e ↦ inl ((λ k. same.0 k ∷ e.0 k), e.1)
+        | inr g ↦ elim g [ inl a ↦ inr (inl (longer_by_one v w vs ws r same.0 a)) | inr a ↦ inr (inr (longer_by_one w v ws vs s (sym same.0) a)) ]
+      ]

@@ -1,7 +1,7 @@
 -- Where a text has a fault, no named patch stands.
 use Rattle.std.proofs.Common.{◌≡◌, ℕ, Bool, ◌||◌, List, [], ◌∷◌, ◌++◌, length, refl, sym, ap, subst, ◌∙◌, arith, inl, inr, false, true}
 use Rattle.std.proofs.lemmas.Bool.{false≢true, eq-eqb}
-use Rattle.std.specs.Prelude.{codes, ◌⊎◌, nat_eq}
+use Rattle.std.specs.Prelude.{codes, ◌≢◌, ◌⊎◌, nat_eq}
 use Rattle.std.specs.Cmp.Lexicographic.{other_text, pointwise}
 use lib.Pointwise.{bytes_decides}
 use Rattle.dm_info.proofs.SpellingLemmas.{one_info, stands_opens, not_both}
@@ -21,10 +21,10 @@ use Rattle.dm_named.proofs.GroupLemmas.{one_group, one_number_line}
 use Rattle.dm_named.proofs.ManyLemmas.{many_follows}
 use Rattle.dm_named.proofs.OnePatch.{one_single, stands_word, prim_word, prim_a_word, one_next, no_next, one_depends}
 
-pub no_info : (kind : FaultKind) (text here : List ℕ) → ExcludesPatch kind → InfoFaultAt kind text here → (i : PatchInfo) (r : List ℕ) → Stands text i r → ⊥
+pub no_info : (kind : FaultKind) (text here : List ℕ) → kind ≢ K.NoMemory → InfoFaultAt kind text here → (i : PatchInfo) (r : List ℕ) → Stands text i r → ⊥
 no_info K.BadInfo text here k f i r s = f.1.none i r s
 no_info K.Inverted text here k f i r s = not_both text i r s f.1
-no_info K.NoMemory text here k f i r s = k.memory refl
+no_info K.NoMemory text here k f i r s = k refl
 no_info K.TooLarge text here k f i r s = elim f [ ]
 no_info K.NoNewPatches text here k f i r s = elim f [ ]
 no_info K.BadDepends text here k f i r s = elim f [ ]
@@ -38,9 +38,9 @@ no_info K.NoContext text here k f i r s = elim f [ ]
 no_info K.Doubled text here k f i r s = elim f [ ]
 no_info K.TooMany text here k f i r s = elim f [ ]
 
-no_path : (kind : FaultKind) (text here : List ℕ) → ExcludesPatch kind → PathFaultAt kind text here → (p : Path) (r : List ℕ) → NextPath text p r → ⊥
+pub no_path : (kind : FaultKind) (text here : List ℕ) → kind ≢ K.NoMemory → PathFaultAt kind text here → (p : Path) (r : List ℕ) → NextPath text p r → ⊥
 no_path K.BadPath text here k f p r s = f.1 p r (subst (λ (t : List ℕ). PathWord t p r) (sym f.0) s)
-no_path K.NoMemory text here k f p r s = k.memory refl
+no_path K.NoMemory text here k f p r s = k refl
 no_path K.TooLarge text here k f p r s = elim f [ ]
 no_path K.NoNewPatches text here k f p r s = elim f [ ]
 no_path K.BadInfo text here k f p r s = elim f [ ]
@@ -68,10 +68,10 @@ no_lines text n old new r e h =
     let news = nothing_read 43 l.news l.last new l.new_read (λ b. e.no_new (subst (Begins 43) (sym olds.1 ∙ sym above.1) b)) in
     elim l.some [ inl x ↦ x olds.0 | inr y ↦ y news.0 ]
 
-no_hunk : (kind : FaultKind) (start text here : List ℕ) → ExcludesPatch kind → HunkFaultAt kind start text here → (n : ℕ) (old new : List (List ℕ)) (r : List ℕ) → HunkBody text n old new r → ⊥
+no_hunk : (kind : FaultKind) (start text here : List ℕ) → kind ≢ K.NoMemory → HunkFaultAt kind start text here → (n : ℕ) (old new : List (List ℕ)) (r : List ℕ) → HunkBody text n old new r → ⊥
 no_hunk K.BadNumber start text here k f n old new r h = f.1 n h.lines (subst (λ (t : List ℕ). NumberLine t n h.lines) (sym f.0) h.number_read)
 no_hunk K.EmptyHunk start text here k f n old new r h = no_lines text n old new r f.1 h
-no_hunk K.NoMemory start text here k f n old new r h = k.memory refl
+no_hunk K.NoMemory start text here k f n old new r h = k refl
 no_hunk K.TooLarge start text here k f n old new r h = elim f [ ]
 no_hunk K.NoNewPatches start text here k f n old new r h = elim f [ ]
 no_hunk K.BadInfo start text here k f n old new r h = elim f [ ]
@@ -94,7 +94,7 @@ first_path text (At p RmDir) r a = (codes "rmdir", a.after, p, r, a.named, a.pat
 first_path text (At p (Hunk n old new)) r a = (codes "hunk", a.first.after, p, a.mid, a.first.named, a.first.path)
 first_path text (Move p q) r a = (codes "move", a.first.after, p, a.mid, a.first.named, a.first.path)
 
-no_second : (kind : FaultKind) (text mid here : List ℕ) (p : Path) → ExcludesPatch kind → WordAndPath (codes "move") text p mid → PathFaultAt kind mid here → (q : Prim) (r : List ℕ) → codes "move" ≡ prim_word q → PrimText text q r → ⊥
+no_second : (kind : FaultKind) (text mid here : List ℕ) (p : Path) → kind ≢ K.NoMemory → WordAndPath (codes "move") text p mid → PathFaultAt kind mid here → (q : Prim) (r : List ℕ) → codes "move" ≡ prim_word q → PrimText text q r → ⊥
 no_second kind text mid here p k s f (At q AddFile) r e t = other_text (codes "move") (codes "addfile") refl e
 no_second kind text mid here p k s f (At q RmFile) r e t = other_text (codes "move") (codes "rmfile") refl e
 no_second kind text mid here p k s f (At q AddDir) r e t = other_text (codes "move") (codes "adddir") refl e
@@ -104,7 +104,7 @@ no_second kind text mid here p k s f (Move q v) r e t =
     let one = one_single (codes "move") text q p t.mid mid t.first s in
     no_path kind mid here k f v r (subst (λ (x : List ℕ). NextPath x v r) one.1 t.second)
 
-no_body : (kind : FaultKind) (text mid here : List ℕ) (p : Path) → ExcludesPatch kind → WordAndPath (codes "hunk") text p mid → HunkFaultAt kind text mid here → (q : Prim) (r : List ℕ) → codes "hunk" ≡ prim_word q → PrimText text q r → ⊥
+no_body : (kind : FaultKind) (text mid here : List ℕ) (p : Path) → kind ≢ K.NoMemory → WordAndPath (codes "hunk") text p mid → HunkFaultAt kind text mid here → (q : Prim) (r : List ℕ) → codes "hunk" ≡ prim_word q → PrimText text q r → ⊥
 no_body kind text mid here p k s f (At q AddFile) r e t = other_text (codes "hunk") (codes "addfile") refl e
 no_body kind text mid here p k s f (At q RmFile) r e t = other_text (codes "hunk") (codes "rmfile") refl e
 no_body kind text mid here p k s f (At q AddDir) r e t = other_text (codes "hunk") (codes "adddir") refl e
@@ -117,7 +117,7 @@ no_body kind text mid here p k s f (At q (Hunk n old new)) r e t =
 word_is : (text w after : List ℕ) (q : Prim) (r : List ℕ) → Word text w after → PrimText text q r → w ≡ prim_word q
 word_is text w after q r a t = let s = stands_word text q r t in (one_word text w (prim_word q) after s.0 a s.1).0
 
-no_prim : (kind : FaultKind) (text here : List ℕ) → ExcludesPatch kind → PrimFaultAt kind text here → (q : Prim) (r : List ℕ) → PrimText text q r → ⊥
+pub no_prim : (kind : FaultKind) (text here : List ℕ) → kind ≢ K.NoMemory → PrimFaultAt kind text here → (q : Prim) (r : List ℕ) → PrimText text q r → ⊥
 no_prim kind text here k (path stands f) q r t =
     let x = first_path text q r t in
     let one = one_word text x.0 stands.word x.1 stands.rest x.4 stands.stands in
@@ -125,7 +125,7 @@ no_prim kind text here k (path stands f) q r t =
 no_prim kind text here k (second p mid s f) q r t = no_second kind text mid here p k s f q r (word_is text (codes "move") s.after q r s.named t) t
 no_prim kind text here k (hunk p mid s f) q r t = no_body kind text mid here p k s f q r (word_is text (codes "hunk") s.after q r s.named t) t
 
-prim_due : (kind : FaultKind) (text here : List ℕ) → PrimFaultAt kind text here → WordAmong prim_words text
+pub prim_due : (kind : FaultKind) (text here : List ℕ) → PrimFaultAt kind text here → WordAmong prim_words text
 prim_due kind text here (path stands f) = stands
 prim_due kind text here (second p mid s f) = record { word = codes "move"; rest = s.after; stands = s.named; among = inr (inr (inr (inr (inl refl)))) }
 prim_due kind text here (hunk p mid s f) = record { word = codes "hunk"; rest = s.after; stands = s.named; among = inr (inr (inr (inr (inr (inl refl))))) }
@@ -166,7 +166,7 @@ no_prims kind text here k f qs s r closed =
       | inl n ↦ no_next_fault kind (length f.prims) (skipped f.mid) here k n
       | inr w ↦ elim (ahead text f.prims qs f.mid s f.read r closed) [
         | inl e ↦ closed (subst (λ (t : List ℕ). WordAmong prim_words (skipped t)) e (prim_due kind (skipped f.mid) here w.1))
-        | inr q ↦ no_prim kind (skipped f.mid) here k w.1 q.0 q.1 q.2
+        | inr q ↦ no_prim kind (skipped f.mid) here k.memory w.1 q.0 q.1 q.2
       ]
     ]
 
@@ -236,8 +236,9 @@ front_nil : (w rest : List ℕ) → w ++ rest ≡ [] → w ≡ []
 front_nil [] rest e = refl
 front_nil (x ∷ w) rest e = absurd (let f : x ∷ (w ++ rest) ≡ [] = e in cc)
 
-no_word_end : (text : List ℕ) → text ≡ [] → WordAmong prim_words text → ⊥
-no_word_end text e a = not_here prim_words a.word [] refl (front_nil a.word a.rest (sym a.stands.parts ∙ e)) a.among
+-- no word stands at the end
+pub no_word_end : (words : List (List ℕ)) (text : List ℕ) → any_eq words [] ≡ false → text ≡ [] → WordAmong words text → ⊥
+no_word_end words text none e a = not_here words a.word [] none (front_nil a.word a.rest (sym a.stands.parts ∙ e)) a.among
 
 -- ---- bodies
 
@@ -263,8 +264,8 @@ not_closed K.Doubled text here r f e = elim f [ ]
 not_closed K.TooMany text here r f e = elim f [ ]
 not_closed K.NoMemory text here r f e = elim f [ ]
 
-not_prim : (kind : FaultKind) (text here : List ℕ) → BraceFaultAt kind text here → WordAmong prim_words text → ⊥
-not_prim K.Unclosed text here f w = no_word_end text f.1 w
+pub not_prim : (kind : FaultKind) (text here : List ℕ) → BraceFaultAt kind text here → WordAmong prim_words text → ⊥
+not_prim K.Unclosed text here f w = no_word_end prim_words text refl f.1 w
 not_prim K.Unsupported text here f w =
     elim f.1 [ inl o ↦ both_words text w o | inr p ↦ elim p [ inl b ↦ no_lead 123 prim_words text b.0 refl b.1 w | inr b ↦ no_lead 40 prim_words text b.0 refl b.1 w ] ]
 not_prim K.BadPatch text here f w = f.4.prims w
@@ -305,7 +306,7 @@ run_goes_on K.Doubled text here f e = elim f [ ]
 run_goes_on K.TooMany text here f e = elim f [ ]
 run_goes_on K.NoMemory text here f e = elim f [ ]
 
-run_no_prim : (kind : FaultKind) (text here : List ℕ) → RunFaultAt kind text here → WordAmong prim_words text → ⊥
+pub run_no_prim : (kind : FaultKind) (text here : List ℕ) → RunFaultAt kind text here → WordAmong prim_words text → ⊥
 run_no_prim K.Unsupported text here f w = elim f.1 [ inl o ↦ both_words text w o | inr b ↦ no_lead 40 prim_words text b.0 refl b.1 w ]
 run_no_prim K.TooLarge text here f w = elim f [ ]
 run_no_prim K.NoNewPatches text here f w = elim f [ ]
@@ -376,7 +377,7 @@ not_depends K.Doubled text here r f e = elim f [ ]
 not_depends K.TooMany text here r f e = elim f [ ]
 not_depends K.NoMemory text here r f e = elim f [ ]
 
-no_more_infos : (kind : FaultKind) (text here : List ℕ) → DependsFaultAt kind text here → Begins 91 text → ⊥
+pub no_more_infos : (kind : FaultKind) (text here : List ℕ) → DependsFaultAt kind text here → Begins 91 text → ⊥
 no_more_infos K.BadDepends text here f b = f.1 b
 no_more_infos K.TooLarge text here f b = elim f [ ]
 no_more_infos K.NoNewPatches text here f b = elim f [ ]
@@ -393,7 +394,7 @@ no_more_infos K.Doubled text here f b = elim f [ ]
 no_more_infos K.TooMany text here f b = elim f [ ]
 no_more_infos K.NoMemory text here f b = elim f [ ]
 
-no_infos : (kind : FaultKind) (text here : List ℕ) → ExcludesPatch kind → InfosFaultAt kind text here → (js : List PatchInfo) (s : List ℕ) → Many NextInfo text js s → (Begins 91 (skipped s) → ⊥) → ⊥
+no_infos : (kind : FaultKind) (text here : List ℕ) → kind ≢ K.NoMemory → InfosFaultAt kind text here → (js : List PatchInfo) (s : List ℕ) → Many NextInfo text js s → (Begins 91 (skipped s) → ⊥) → ⊥
 no_infos kind text here k f js s r closed =
     elim (infos_ahead text f.infos js f.mid s f.read r closed) [
       | inl e ↦ closed (subst (λ (t : List ℕ). Begins 91 (skipped t)) e f.opens)
@@ -407,7 +408,7 @@ no_open kind text here f js s r q closes =
       | inr p ↦ no_more_infos kind (skipped f.mid) here f.wrong (stands_opens (skipped f.mid) p.0 p.1 p.2)
     ]
 
-no_deps : (kind : FaultKind) (text here : List ℕ) → ExcludesPatch kind → DepsFaultAt kind text here → (ds : List PatchInfo) (r : List ℕ) → Dependencies text ds r → ⊥
+pub no_deps : (kind : FaultKind) (text here : List ℕ) → kind ≢ K.NoMemory → DepsFaultAt kind text here → (ds : List PatchInfo) (r : List ℕ) → Dependencies text ds r → ⊥
 no_deps kind text here k f ds r d =
     elim d [
       | inl x ↦
@@ -424,10 +425,10 @@ one_deps : (text : List ℕ) (ds es : List PatchInfo) (r s : List ℕ) → Depen
 one_deps = one_depends
 
 pub no_patch : (kind : FaultKind) (text here : List ℕ) → ExcludesPatch kind → PatchFaultAt kind text here → (p : Patch) (r : List ℕ) → PatchText text p r → ⊥
-no_patch kind text here k (info f) p r t = no_info kind text here k f p.info t.after t.info
+no_patch kind text here k (info f) p r t = no_info kind text here k.memory f p.info t.after t.info
 no_patch kind text here k (deps i after s f) p r t =
     let one = one_info text p.info i t.after after t.info s in
-    no_deps kind after here k f p.deps t.body (subst (λ (x : List ℕ). Dependencies x p.deps t.body) one.1 t.deps)
+    no_deps kind after here k.memory f p.deps t.body (subst (λ (x : List ℕ). Dependencies x p.deps t.body) one.1 t.deps)
 no_patch kind text here k (body i ds after start s d f) p r t =
     let one = one_info text p.info i t.after after t.info s in
     let two = one_deps after p.deps ds t.body start (subst (λ (x : List ℕ). Dependencies x p.deps t.body) one.1 t.deps) d in

@@ -5,9 +5,12 @@ use Rattle.std.proofs.lemmas.List.{take-append-drop, drop_more}
 use Rattle.memchr.specs.Find.{IsFirstByte, is_byte}
 use Rattle.dm_info.proofs.Cuts.{cut_found, cut_takes, byte_is, false_is}
 use Rattle.dm_tree.specs.Paths.{Path}
-use Rattle.dm_named.specs.Words.{Word}
+use Rattle.dm_named.specs.Words.{skipped, Word}
 use Rattle.dm_named.specs.Many.{Many}
 use Rattle.dm_named.specs.Paths.{NoSlash, EndsPiece, Piece, SlashName, IsNameText, IsPathText, PathWord}
+use Rattle.dm_named.specs.Faults.{kind_of_name, PathFaultAt}
+use Rattle.dm_named.specs.declared.reading.names.NameFault.{NameFault}
+use Rattle.dm_named.specs.declared.reading.names.NameFault.TheVariants.{BadPath, NoMemory}
 use Rattle.dm_named.proofs.NameLemmas.{one_name}
 use Rattle.dm_named.proofs.ManyLemmas.{many_follows, one_many}
 use Rattle.dm_named.proofs.WordLemmas.{one_word}
@@ -110,3 +113,8 @@ pub no_path_here : (here word rest : List ℕ) → Word here word rest → ((p :
 no_path_here here word rest w none p r a =
     let one = one_word here a.word word r rest a.stands w in
     none p (subst (λ (t : List ℕ). IsPathText t p) one.0 a.spelled)
+
+-- what is wrong with the names is wrong with the path
+pub path_wrong : (fault : NameFault) (text here word rest : List ℕ) → here ≡ skipped text → Word here word rest → ((fault ≡ BadPath) → (p : Path) → IsPathText word p → ⊥) → PathFaultAt (kind_of_name fault) text here
+path_wrong BadPath text here word rest e w none = (e, no_path_here here word rest w (none refl))
+path_wrong NoMemory text here word rest e w none = tt

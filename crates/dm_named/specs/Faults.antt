@@ -8,8 +8,23 @@ use Rattle.dm_named.specs.Many.{Many}
 use Rattle.dm_named.specs.Words.{skipped, Begins, NextByte, WordAmong, LineGroup, NumberLine}
 use Rattle.dm_named.specs.Paths.{PathWord}
 use Rattle.dm_named.specs.Patches.{WordAndPath, NextPrim, NextInfo, Dependencies, prim_words, unsupported_words, RunEnds}
+use Rattle.dm_info.specs.declared.fault.InfoReadFault.{InfoReadFault}
+use Rattle.dm_info.specs.declared.fault.InfoReadFault.TheVariants as in_info
+use Rattle.dm_named.specs.declared.reading.names.NameFault.{NameFault}
+use Rattle.dm_named.specs.declared.reading.names.NameFault.TheVariants as in_name
 use Rattle.dm_named.specs.declared.fault.FaultKind.{FaultKind}
 use Rattle.dm_named.specs.declared.fault.FaultKind.TheVariants.{BadInfo, Inverted, BadDepends, BadPatch, Unsupported, BadPath, BadNumber, EmptyHunk, Unclosed, TooMany, NoMemory}
+
+-- what a fault of reading a patch info is here
+abbrev pub kind_of_info : InfoReadFault → FaultKind
+kind_of_info in_info.BadInfo = BadInfo
+kind_of_info in_info.Inverted = Inverted
+kind_of_info in_info.NoMemory = NoMemory
+
+-- what a fault of reading a path's names is here
+abbrev pub kind_of_name : NameFault → FaultKind
+kind_of_name in_name.BadPath = BadPath
+kind_of_name in_name.NoMemory = NoMemory
 
 -- where a patch info is due
 abbrev pub InfoFaultAt : FaultKind → List ℕ → List ℕ → Type 0

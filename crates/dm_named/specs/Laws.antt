@@ -1,5 +1,5 @@
 -- Laws of the text of paths, primitives and named patches.
-use Rattle.std.specs.Prelude.{◌≡◌, ℕ, List, ◌++◌}
+use Rattle.std.specs.Prelude.{◌≡◌, ◌≢◌, ◌≤◌, ℕ, List, ◌++◌, length}
 use Rattle.dm_tree.specs.Paths.{Path}
 use Rattle.dm_tree.specs.Validity.{IsGoodPath}
 use Rattle.dm_prim.specs.Primitives.{Prim}
@@ -10,6 +10,7 @@ use Rattle.dm_named.specs.Patches.{PrimText, Patch, PatchText, IsGoodPatch, RunE
 use Rattle.dm_named.specs.Canonical.{path_text, prim_text, patch_text}
 use Rattle.dm_named.specs.Faults.{PatchFaultAt, ExcludesPatch}
 use Rattle.dm_named.specs.declared.fault.FaultKind.{FaultKind}
+use Rattle.dm_named.specs.declared.fault.FaultKind.TheVariants.{NoMemory}
 
 -- no line of a hunk goes on there
 pub record NoLine (rest : List ℕ) : Type 0 where
@@ -36,6 +37,14 @@ OnePatch = (text : List ℕ) (p q : Patch) (r s : List ℕ) → PatchText text p
 -- where a text has a fault that says so, no named patch stands
 abbrev pub FaultExcludesPatch : Type 0
 FaultExcludesPatch = (kind : FaultKind) (text here : List ℕ) → ExcludesPatch kind → PatchFaultAt kind text here → (p : Patch) (r : List ℕ) → PatchText text p r → ⊥
+
+-- a text has at most one fault of a named patch, at one place, out of memory apart
+abbrev pub OneFault : Type 0
+OneFault = (kind other : FaultKind) (text here there : List ℕ) → kind ≢ NoMemory → other ≢ NoMemory → PatchFaultAt kind text here → PatchFaultAt other text there → (kind ≡ other) × (here ≡ there)
+
+-- where a named patch stands, of no more primitives than there may be, only memory may run out
+abbrev pub NoFaultWithinCount : Type 0
+NoFaultWithinCount = (kind : FaultKind) (text here : List ℕ) → PatchFaultAt kind text here → (p : Patch) (r : List ℕ) → PatchText text p r → length p.prims ≤ 10000 → kind ≡ NoMemory
 
 -- a good path that is written is read again, before whatever ends a word
 abbrev pub PathRoundTrip : Type 0

@@ -2,7 +2,10 @@
 
 ghost use Rattle.std.specs.Prelude.{◌≡◌};
 ghost use Rattle.dm_named.specs.FaultWords.{fault_word};
+ghost use Rattle.dm_named.specs.Faults.{kind_of_info};
 
+use dm_info::InfoReadFault;
+use std::alloc::AllocError;
 use std::fmt::{self, Display, Formatter, Write};
 use thiserror::Error;
 
@@ -76,10 +79,35 @@ impl Display for FaultKind {
     }
 }
 
+impl From<InfoReadFault> for FaultKind {
+    ghost from_gives = { λ fault kind. kind ≡ kind_of_info fault };
+
+    fn from(fault: InfoReadFault) -> FaultKind {
+        match fault {
+            InfoReadFault::BadInfo => FaultKind::BadInfo,
+            InfoReadFault::Inverted => FaultKind::Inverted,
+            InfoReadFault::NoMemory => FaultKind::NoMemory,
+        }
+    }
+}
+
 /// What is wrong, and the place of the byte where it is.
 #[derive(Clone, Copy, Debug, PartialEq, Eq, Error)]
 #[error("{kind} at byte {at}")]
 pub struct ReadFault {
     pub kind: FaultKind,
     pub at: usize,
+}
+
+impl ReadFault {
+    /// A growth was refused while reading stood at this place.
+    pub fn no_memory(_error: AllocError, at: usize) -> ReadFault
+        ensures kind { result.kind ≡ FaultKind.NoMemory }
+        ensures place { result.at ≡ at }
+    {
+        ReadFault {
+            kind: FaultKind::NoMemory,
+            at,
+        }
+    }
 }

@@ -1,6 +1,6 @@
 //! Laws of the text of paths, primitives and named patches. A call of one does nothing: its contract is the law.
 
-ghost use Rattle.dm_named.specs.Laws.{OnePatch, FaultExcludesPatch, PathRoundTrip, PrimRoundTrip, PatchRoundTrip};
+ghost use Rattle.dm_named.specs.Laws.{OnePatch, FaultExcludesPatch, OneFault, NoFaultWithinCount, PathRoundTrip, PrimRoundTrip, PatchRoundTrip};
 
 /// At most one named patch stands at the front of a text.
 pub fn one_patch()
@@ -10,6 +10,16 @@ pub fn one_patch()
 /// Where a text has a fault that says so, no named patch stands.
 pub fn fault_excludes_patch()
     ensures { FaultExcludesPatch }
+{}
+
+/// A text has at most one fault, at one place.
+pub fn one_fault()
+    ensures { OneFault }
+{}
+
+/// Where a named patch stands, of no more primitives than there may be, a text has no fault.
+pub fn no_fault_within_count()
+    ensures { NoFaultWithinCount }
 {}
 
 /// A good path that is written is read again.

@@ -10,6 +10,7 @@
 
 mod commuting;
 mod fault;
+pub mod goodness;
 pub mod laws;
 mod named;
 mod reading;

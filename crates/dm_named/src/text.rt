@@ -6,7 +6,7 @@ ghost use Rattle.dm_named.specs.Words.{is_white, skipped, Word, Line, Begins};
 ghost use Rattle.dm_named.specs.Faults.{InfoFaultAt};
 
 use crate::fault::{FaultKind, ReadFault};
-use dm_info::{Info, InfoReadFault, read_info};
+use dm_info::{Info, read_info};
 use memchr::memchr;
 use std::alloc::Allocator;
 
@@ -80,16 +80,8 @@ pub fn info_at<A: Allocator + Copy>(
 {
     match read_info(alloc, text, at) {
         Ok((info, next)) => Ok((info, next)),
-        Err(InfoReadFault::BadInfo) => Err(ReadFault {
-            kind: FaultKind::BadInfo,
-            at,
-        }),
-        Err(InfoReadFault::Inverted) => Err(ReadFault {
-            kind: FaultKind::Inverted,
-            at,
-        }),
-        Err(InfoReadFault::NoMemory) => Err(ReadFault {
-            kind: FaultKind::NoMemory,
+        Err(fault) => Err(ReadFault {
+            kind: FaultKind::from(fault),
             at,
         }),
     }

@@ -65,8 +65,8 @@ impl<A: Allocator> Primitive<A> {
         }
     }
 
-    /// Reads its parts, and so tells that they are good.
-    pub(crate) fn tells_good(&self)
+    /// Reads its parts, and so tells that it is good. Takes no memory.
+    pub fn tells_good(&self)
         ensures { IsGoodPrim (prim_of self.now) }
     {
         match self {

@@ -1,8 +1,13 @@
--- The patch that stops a split or a merge is determined.
+-- The patch that stops a split, a fit or a merge is determined.
 use Rattle.std.proofs.Common.{◌≡◌, List, [], ◌∷◌, ◌++◌, refl, sym, ap, ◌∙◌}
 use Rattle.dm_repo.specs.Staircases.{PassStops, SplitStops}
 use Rattle.dm_repo.specs.Merging.{MergePastStops, MergeStops}
+use Rattle.dm_prim.specs.Primitives.{LawfulMap}
+use Rattle.dm_repo.specs.Folds.{IsStopped}
+use Rattle.dm_repo.specs.Squares.{Placed}
+use Rattle.dm_repo.specs.Weighing.{FitStops}
 use Rattle.dm_repo.proofs.Staircases.{split_one, pass_stops, split_stops, rect_one, join_stops, merge_stops}
+use Rattle.dm_repo.proofs.Making.{fit_stops_all}
 
 -- two places in one list
 data Meet {P : Type 0} (a : List P) (x : P) (b c : List P) (y : P) (d : List P) : Type 0 where
@@ -59,3 +64,11 @@ module _ (P : Type 0) (Square : P → P → P → P → Type 0) (square_one : (p
       go (same e f g) = (f, joins_at (rect_one P Square square_one e s.so_far t.so_far).1 f s.stops t.stops)
       go (before m e f) = absurd (merge_stops P Square square_one (record { before = s.before; after = m; before' = s.before'; rest1 = s.rest1; at = e; so_far = s.so_far; stops = s.stops }) (_, t.so_far))
       go (behind m e f) = absurd (merge_stops P Square square_one (record { before = t.before; after = m; before' = t.before'; rest1 = t.rest1; at = e; so_far = t.so_far; stops = t.stops }) (_, s.so_far))
+
+pub fit_stops_one : {s : LawfulMap} {xs : List Placed} {x y : Placed} → FitStops IsStopped s xs x → FitStops IsStopped s xs y → x ≡ y
+fit_stops_one {s} {xs} {x} {y} f g = go (meet f.before x f.after g.before y g.after (sym f.at ∙ g.at))
+  where
+    go : Meet f.before x f.after g.before y g.after → x ≡ y
+    go (same e h i) = h
+    go (before m e h) = absurd (fit_stops_all {xs = g.before} {x = x} (record { before = f.before; after = m; tree = f.tree; at = e; leads = f.leads; stops = f.stops }) g.leads)
+    go (behind m e h) = absurd (fit_stops_all {xs = f.before} {x = y} (record { before = g.before; after = m; tree = g.tree; at = e; leads = g.leads; stops = g.stops }) f.leads)

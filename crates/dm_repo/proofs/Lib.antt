@@ -16,4 +16,6 @@ pub mod DependencyLemmas
 pub mod Making
 pub mod Firsts
 pub mod FoldLemmas
+pub mod Depths
 pub mod Following
+pub mod OneAnswer

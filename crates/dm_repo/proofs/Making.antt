@@ -11,11 +11,12 @@ use Rattle.dm_prim.specs.InTurn.{InTurn, done, step}
 use Rattle.dm_named.specs.Patches.{Patch}
 use Rattle.dm_repo.specs.Squares.{Placed, patches}
 use Rattle.dm_repo.specs.Weighing.{FitStops}
-use Rattle.dm_repo.specs.Folds.{IsRoot, PatchLeadsShallowly, ShallowFold}
+use Rattle.dm_repo.specs.Folds.{IsRoot, PatchLeadsShallowly, IsStopped, PatchStops, ShallowFold}
 use Rattle.dm_repo.specs.Repositories.{IsMapOf, IsTreeOf, IsRepo}
 use Rattle.dm_repo.proofs.Staircases.{runs_on, runs_part}
 use Rattle.dm_repo.proofs.Trees.{root_one, runs_one, goes_all_one, fold_one, grows_fold}
 use Rattle.dm_repo.proofs.RowSteps.{around}
+use Rattle.dm_repo.proofs.Applying.{patch_stops_all}
 
 -- a new tree is the root alone
 pub new_root : (t : trees.Tree) → t ≡ map.insert map.empty [] Dir → IsLawful (map.get t) → (s : LawfulMap) × IsMapOf t s × IsRoot s
@@ -26,13 +27,13 @@ pub new_makes : (t : trees.Tree) → t ≡ map.insert map.empty [] Dir → IsLaw
 new_makes t e l = let r = new_root t e l in (r.0, r.1, record { start = r.0; is_root = r.2; runs = done })
 
 -- where a patch leads nowhere, the list leads nowhere
-pub fit_stops_all : {s t : LawfulMap} {xs : List Placed} {x : Placed} → FitStops s xs x → InTurn PatchLeadsShallowly (patches xs) s t → ⊥
+pub fit_stops_all : {s t : LawfulMap} {xs : List Placed} {x : Placed} → FitStops IsStopped s xs x → InTurn PatchLeadsShallowly (patches xs) s t → ⊥
 fit_stops_all {s} {t} {x} f r = go (runs_part (patches f.before) (rw (ap patches f.at ∙ map-append (λ y. y.1) f.before (x ∷ f.after)) at r))
   where
     go : (v : LawfulMap) × InTurn PatchLeadsShallowly (patches f.before) s v × InTurn PatchLeadsShallowly (x.1 ∷ patches f.after) v t → ⊥
-    go (v, q, step {u = w} i j) = let e : v ≡ f.tree = runs_one goes_all_one q f.leads in f.stops w (rw e at i)
+    go (v, q, step {u = w} i j) = let e : v ≡ f.tree = runs_one goes_all_one q f.leads in patch_stops_all f.stops (rw e at i)
 
-pub front_stops : {s t : LawfulMap} {xs : List Placed} {x : Placed} → IsRoot s → FitStops s xs x → ShallowFold (patches xs) t → ⊥
+pub front_stops : {s t : LawfulMap} {xs : List Placed} {x : Placed} → IsRoot s → FitStops IsStopped s xs x → ShallowFold (patches xs) t → ⊥
 front_stops {s} r f g = let e : g.start ≡ s = root_one g.start s g.is_root r in fit_stops_all f (rw e at g.runs)
 
 -- a list of patches makes one tree
@@ -53,10 +54,10 @@ pub makes_more : (xs : List Patch) (k : ℕ) (x : Patch) {s t : LawfulMap} → k
 makes_more xs k x l e g h = record { start = g.start; is_root = g.is_root; runs = rw (take_more xs k x l, ← e) (runs_on g.runs (step h done)) }
 
 -- a patch of a repository always leads on
-pub always_goes : (xs : List Patch) (k : ℕ) (x : Patch) {s : LawfulMap} → k < length xs → x ≡ get_or xs k x → IsRepo xs → ShallowFold (take k xs) s → ((t : LawfulMap) → PatchLeadsShallowly x s t → ⊥) → ⊥
+pub always_goes : (xs : List Patch) (k : ℕ) (x : Patch) {s : LawfulMap} → k < length xs → x ≡ get_or xs k x → IsRepo xs → ShallowFold (take k xs) s → PatchStops IsStopped x s → ⊥
 always_goes xs k x {s} l e r g h =
     let same : r.folds.start ≡ g.start = root_one r.folds.start g.start r.folds.is_root g.is_root in
     go (runs_part (take k xs) (rw (around xs k x l e, same) at r.folds.runs))
   where
     go : (v : LawfulMap) × InTurn PatchLeadsShallowly (take k xs) g.start v × InTurn PatchLeadsShallowly (x ∷ drop (k + 1) xs) v r.tree → ⊥
-    go (v, q, step {u = w} i j) = let f : v ≡ s = runs_one goes_all_one q g.runs in h w (rw f at i)
+    go (v, q, step {u = w} i j) = let f : v ≡ s = runs_one goes_all_one q g.runs in patch_stops_all h (rw f at i)

@@ -1,5 +1,5 @@
 -- From marks, stops and blocks to what weighing answers.
-use Rattle.std.proofs.Common.{◌≡◌, ◌↔◌, ℕ, zero, suc, ◌+◌, ◌<◌, Bool, true, false, List, [], ◌∷◌, ◌++◌, length, map, slice_get, Some, Result, Ok, Err, MatchResult, inr, refl, sym, ap, ap₂, subst, arith, add-zero}
+use Rattle.std.proofs.Common.{◌≡◌, ◌↔◌, ℕ, zero, suc, ◌+◌, ◌<◌, Bool, true, false, List, [], ◌∷◌, ◌++◌, length, map, slice_get, Some, Result, Ok, Err, MatchResult, refl, sym, ap, ap₂, subst, arith, add-zero}
 use Rattle.std.specs.List.{All, Contains}
 use Rattle.dm_info.specs.PatchInfo.{PatchInfo}
 use Rattle.dm_named.specs.Patches.{Patch}
@@ -18,8 +18,7 @@ use Rattle.dm_repo.specs.Repositories.{Holds}
 use Rattle.dm_repo.specs.CommonSets.{HoldsAll}
 use Rattle.dm_repo.specs.MarkLists.{AreMarksOf}
 use Rattle.dm_repo.specs.Marking.{RefusesContext}
-use Rattle.dm_repo.specs.Weighing.{MergeIsFull, RefusesBundle}
-use Rattle.dm_repo.specs.Weighed.{FullFor}
+use Rattle.dm_repo.specs.Weighing.{RefusesBundle}
 use Rattle.dm_prim.specs.Primitives.{Prim}
 use Rattle.dm_repo.proofs.Inverses.{inv_all-inv_all}
 use Rattle.dm_repo.specs.Splitting.{RefusesToSplit}
@@ -125,14 +124,3 @@ undone_twice (x ∷ xs) = ap₂ (λ a b. a ∷ b) (same x) (undone_twice xs)
   where
     same : (x : Placed) → undone (undone x) ≡ x
     same x = ap (λ (ps : List Prim). (x.0, record { info = x.1.info; deps = x.1.deps; prims = ps })) (inv_all-inv_all x.1.prims)
-
--- a repository that is full
-pub full_refuses : (repo : List Patch) (b : Contents) (P : Type 0) (why : Refusal) → (P → MergeIsFull repo b) → FullFor why P → RefusesBundle repo b why
-full_refuses repo b P Full f h = inr (f h)
-full_refuses repo b P NoMemory f h = tt
-full_refuses repo b P (MissingContext c) f h = absurd h
-full_refuses repo b P (MissingDependency n d) f h = absurd h
-full_refuses repo b P (ContextDepends n d) f h = absurd h
-full_refuses repo b P (HeldDepends n d) f h = absurd h
-full_refuses repo b P (DoesNotFit n) f h = absurd h
-full_refuses repo b P (Conflicts n d) f h = absurd h

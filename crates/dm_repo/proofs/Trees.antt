@@ -52,7 +52,7 @@ pub goes_all_one : (x : Patch) (s t u : LawfulMap) → PatchLeadsShallowly x s t
 goes_all_one x s t u h k = runs_one goes_one h k
 
 -- what leads shallowly, leads
-runs_go : {ps : List Prim} {s t : LawfulMap} → InTurn LeadsShallowly ps s t → InTurn Leads ps s t
+pub runs_go : {ps : List Prim} {s t : LawfulMap} → InTurn LeadsShallowly ps s t → InTurn Leads ps s t
 runs_go done = done
 runs_go (step h r) = step h.leads (runs_go r)
 

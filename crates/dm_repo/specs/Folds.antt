@@ -1,11 +1,9 @@
 -- The tree of a list of patches (that no path may have more than 32 names is this project's limit).
-use Rattle.std.specs.Prelude.{◌≡◌, List, [], ◌∷◌, Some, None}
+use Rattle.std.specs.Prelude.{◌≡◌, ◌⊎◌, List, [], ◌∷◌, ◌++◌, Some, None}
 use Rattle.dm_tree.specs.Paths.{Name, Path}
-use Rattle.dm_tree.specs.Trees.{Dir}
-use Rattle.dm_prim.specs.Primitives.{Prim}
-use Rattle.dm_tree.specs.Trees.{Deep}
+use Rattle.dm_tree.specs.Trees.{Map, Dir, Deep}
 use Rattle.dm_prim.specs.InTurn.{InTurn}
-use Rattle.dm_prim.specs.Primitives.{LawfulMap, Leads, LeadsAll}
+use Rattle.dm_prim.specs.Primitives.{Prim, Applies, LawfulMap, Leads, LeadsAll}
 use Rattle.dm_named.specs.Patches.{Patch}
 
 -- the root alone
@@ -31,6 +29,24 @@ pub record LeadsShallowly (p : Prim) (s t : LawfulMap) : Type 0 where
 -- so does each primitive of a patch
 abbrev pub PatchLeadsShallowly : Patch → LawfulMap → LawfulMap → Type 0
 PatchLeadsShallowly x s t = InTurn LeadsShallowly x.prims s t
+
+-- a primitive applies to s, and what it makes has a path of more than 32 names
+abbrev pub MakesTooDeep : Prim → LawfulMap → Type 0
+MakesTooDeep p s = (t : Map) × Applies p s.map t × Deep t
+
+-- a primitive leads nowhere shallowly from s: it doesn't apply, or what it makes has a path of more than 32 names
+abbrev pub IsStopped : Prim → LawfulMap → Type 0
+IsStopped p s = ((t : Map) → Applies p s.map t → ⊥) ⊎ MakesTooDeep p s
+
+-- the primitives of a patch lead shallowly from s up to one, of which Q holds there
+pub record PatchStops (Q : Prim → LawfulMap → Type 0) (x : Patch) (s : LawfulMap) : Type 0 where
+  pub before : List Prim
+  pub prim : Prim
+  pub after : List Prim
+  pub tree : LawfulMap
+  pub at : x.prims ≡ before ++ prim ∷ after
+  pub leads : InTurn LeadsShallowly before s tree
+  pub stops : Q prim tree
 
 -- the patches in turn lead from the root alone to t, and after no primitive a path has more than 32 names
 pub record ShallowFold (patches : List Patch) (t : LawfulMap) : Type 0 where

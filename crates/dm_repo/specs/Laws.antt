@@ -1,5 +1,5 @@
 -- What holds of all repositories and bundles.
-use Rattle.std.specs.Prelude.{◌≡◌, ◌↔◌, List, ◌++◌}
+use Rattle.std.specs.Prelude.{◌≡◌, ◌≢◌, ◌↔◌, List, ◌++◌}
 use Rattle.dm_prim.specs.InTurn.{InTurn}
 use Rattle.dm_prim.specs.Primitives.{LawfulMap}
 use Rattle.dm_named.specs.Patches.{Patch}
@@ -10,7 +10,9 @@ use Rattle.dm_repo.specs.Squares.{Placed, placed, patches, PlacedCommutes, Place
 use Rattle.dm_repo.specs.Folds.{PatchLeads, Fold}
 use Rattle.dm_bundle.specs.Patches.{infos_of, Distinct}
 use Rattle.dm_repo.specs.Repositories.{IsRepo}
-use Rattle.dm_repo.specs.Weighing.{IsCommon, Fits, IsMergeOf}
+use Rattle.dm_repo.specs.declared.refusal.Refusal.{Refusal}
+use Rattle.dm_repo.specs.declared.refusal.Refusal.TheVariants.{NoMemory}
+use Rattle.dm_repo.specs.Weighing.{IsCommon, Fits, RefusesBundle, IsNothingNew, IsMergeOf}
 
 -- front then rest make the repository's tree
 abbrev pub SplitFolds : Type 0
@@ -55,3 +57,20 @@ MergeStopsOnce = (rest new : List Placed) (n r : Placed) → MergeStops PlacedMe
 abbrev pub MergeIsRepo : Type 0
 MergeIsRepo = (repo : List Patch) (b : Contents) (merged : List Patch) →
     IsRepo repo → Distinct (infos_of b.patches) → IsMergeOf repo b merged → IsRepo (repo ++ merged)
+
+-- an answer to weighing: why the bundle isn't taken, that nothing is new, or the merged patches
+pub data Answer : Type 0 where
+  Refused : Refusal → Answer
+  NothingNew : Answer
+  Merged : List Patch → Answer
+
+-- it answers the weighing of the bundle against the repository
+abbrev pub AnswersWeighing : List Patch → Contents → Answer → Type 0
+AnswersWeighing repo b (Refused why) = RefusesBundle repo b why
+AnswersWeighing repo b NothingNew = IsNothingNew repo b
+AnswersWeighing repo b (Merged merged) = IsMergeOf repo b merged
+
+-- weighing has one answer, where memory doesn't run out
+abbrev pub WeighingHasOneAnswer : Type 0
+WeighingHasOneAnswer = (repo : List Patch) (b : Contents) (x y : Answer) → x ≢ Refused NoMemory → y ≢ Refused NoMemory →
+    AnswersWeighing repo b x → AnswersWeighing repo b y → x ≡ y

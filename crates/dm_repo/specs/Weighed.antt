@@ -2,8 +2,6 @@
 use Rattle.std.specs.Prelude.{Bool, List, ◌++◌}
 use Rattle.dm_named.specs.Patches.{Patch}
 use Rattle.dm_bundle.specs.Bundles.{Contents}
-use Rattle.dm_repo.specs.declared.refusal.Refusal.{Refusal}
-use Rattle.dm_repo.specs.declared.refusal.Refusal.TheVariants as refusals
 use Rattle.dm_repo.specs.declared.weighed.Weighed.{Weighed}
 use Rattle.dm_repo.specs.declared.weighed.Weighed.TheVariants.{NothingNew, Merged}
 use Rattle.dm_repo.specs.Repositories.{IsRepo, IsTreeOf}
@@ -24,9 +22,3 @@ Weighs repo b (Merged m) = IsMergeOf repo b m.patches.items × IsTreeOf (repo ++
 abbrev pub LeavesRepo : {Z : Type 0} → List Patch → Weighed Z → Type 0
 LeavesRepo repo NothingNew = Unit {0}
 LeavesRepo repo (Merged m) = IsRepo (repo ++ m.patches.items)
-
--- P holds where the repository is full; memory may run out at any time
-abbrev pub FullFor : Refusal → Type 0 → Type 0
-FullFor refusals.Full P = P
-FullFor refusals.NoMemory P = Unit {0}
-FullFor other P = ⊥

@@ -2,7 +2,7 @@
 -- this project's). Each step, and each refusal, holds what the steps before it found.
 use Rattle.std.specs.Prelude.{◌≡◌, ℕ, ◌+◌, ◌≤◌, ◌<◌, List, ◌∷◌, ◌++◌, length, ◌⊎◌}
 use Rattle.dm_prim.specs.InTurn.{InTurn}
-use Rattle.dm_prim.specs.Primitives.{LawfulMap}
+use Rattle.dm_prim.specs.Primitives.{Prim, LawfulMap}
 use Rattle.dm_named.specs.Patches.{Patch}
 use Rattle.dm_bundle.specs.Bundles.{Contents}
 use Rattle.dm_repo.specs.declared.refusal.Refusal.{Refusal}
@@ -12,7 +12,7 @@ use Rattle.dm_repo.specs.Staircases.{Split, SplitStops}
 use Rattle.dm_repo.specs.Merging.{Merge, MergeStops}
 use Rattle.dm_repo.specs.Squares.{Placed, placed, patches, PlacedCommutes, PlacedMerges}
 use Rattle.dm_repo.specs.Stops.{AtPlaces}
-use Rattle.dm_repo.specs.Folds.{PatchLeadsShallowly, ShallowFold}
+use Rattle.dm_repo.specs.Folds.{IsRoot, PatchLeadsShallowly, MakesTooDeep, IsStopped, PatchStops, ShallowFold}
 use Rattle.dm_repo.specs.Repositories.{Holds}
 use Rattle.dm_repo.specs.CommonSets.{Common, KnowsContext, HasAll, HasDependencies, First, LacksAt, LacksFirst}
 
@@ -45,14 +45,18 @@ pub record IsBundleSplit (repo : List Patch) (b : Contents) (front rest new : Li
   pub held : List Placed
   pub split : Split PlacedCommutes (IsHeld repo) (placed b.patches) held new
 
--- the patches lead shallowly from s up to x, and x leads nowhere shallowly
-pub record FitStops (s : LawfulMap) (xs : List Placed) (x : Placed) : Type 0 where
+-- the patches lead shallowly from s up to x, and so do the primitives of x up to one, of which Q holds there
+pub record FitStops (Q : Prim → LawfulMap → Type 0) (s : LawfulMap) (xs : List Placed) (x : Placed) : Type 0 where
   pub before : List Placed
   pub after : List Placed
   pub tree : LawfulMap
   pub at : xs ≡ before ++ x ∷ after
   pub leads : InTurn PatchLeadsShallowly (patches before) s tree
-  pub stops : (t : LawfulMap) → PatchLeadsShallowly x.1 tree t → ⊥
+  pub stops : PatchStops Q x.1 tree
+
+-- the patches are applied from s on, and a path has more than 32 names on the way
+abbrev pub GoesTooDeep : LawfulMap → List Placed → Type 0
+GoesTooDeep s xs = (x : Placed) × FitStops MakesTooDeep s xs x
 
 -- and the front makes a tree to which the patches to merge apply
 pub record Fits (repo : List Patch) (b : Contents) (rest new : List Placed) : Type 0 where
@@ -63,16 +67,15 @@ pub record Fits (repo : List Patch) (b : Contents) (rest new : List Placed) : Ty
   pub fitted : LawfulMap
   pub leads : InTurn PatchLeadsShallowly (patches new) base fitted
 
--- the merged patches lead nowhere shallowly from the repository's tree, or are too many
+-- there would be too many patches, or a path has more than 32 names while the merged ones are applied to the repository's tree
 abbrev pub IsFull : List Patch → List Placed → Type 0
-IsFull repo merged = (most_patches < length repo + length merged) ⊎
-    ((s t : LawfulMap) → ShallowFold repo s → InTurn PatchLeadsShallowly (patches merged) s t → ⊥)
+IsFull repo merged = (most_patches < length repo + length merged) ⊎ ((tree : LawfulMap) × ShallowFold repo tree × GoesTooDeep tree merged)
 
--- the front leads nowhere shallowly from the root alone
+-- a path has more than 32 names while the front is applied from the root alone
 abbrev pub FrontIsFull : List Patch → Contents → Type 0
 FrontIsFull repo b =
     (front : List Placed) × (rest : List Placed) × (new : List Placed) ×
-    IsBundleSplit repo b front rest new × ((t : LawfulMap) → ShallowFold (patches front) t → ⊥)
+    IsBundleSplit repo b front rest new × ((start : LawfulMap) × IsRoot start × GoesTooDeep start front)
 
 -- the bundle is merged, and then the repository is too full for it
 abbrev pub MergeIsFull : List Patch → Contents → Type 0
@@ -91,7 +94,7 @@ RefusesBundle repo b (HeldDepends h n) =
     AtPlaces (SplitStops PlacedCommutes (IsHeld repo) (placed b.patches)) h n
 RefusesBundle repo b (DoesNotFit n) =
     (front : List Placed) × (rest : List Placed) × (new : List Placed) × IsBundleSplit repo b front rest new ×
-    ((base : LawfulMap) × (x : Placed) × (n ≡ x.0) × ShallowFold (patches front) base × FitStops base new x)
+    ((base : LawfulMap) × (x : Placed) × (n ≡ x.0) × ShallowFold (patches front) base × FitStops IsStopped base new x)
 RefusesBundle repo b (Conflicts n r) =
     (rest : List Placed) × (new : List Placed) × Fits repo b rest new × AtPlaces (MergeStops PlacedMerges rest new) n r
 RefusesBundle repo b Full = FrontIsFull repo b ⊎ MergeIsFull repo b

@@ -1,13 +1,13 @@
 //! Applying patches to a tree, up to the first that leads nowhere, or to a path that is too deep.
-ghost use Rattle.std.specs.Prelude.{List, IfOk, MatchBool, MatchResult};
+ghost use Rattle.std.specs.Prelude.{◌≡◌, ◌≢◌, false, List, IfOk, MatchBool, MatchResult};
 ghost use Rattle.dm_prim.specs.Primitives.{LawfulMap};
 ghost use Rattle.dm_prim.specs.Prims.{prim_of};
 ghost use Rattle.dm_prim.specs.InTurn.{InTurn};
 ghost use Rattle.dm_named.specs.Patches.{Patch};
 ghost use Rattle.dm_bundle.specs.Bundles.{Contents};
-ghost use Rattle.dm_repo.specs.Folds.{LeadsShallowly, PatchLeadsShallowly};
+ghost use Rattle.dm_repo.specs.Folds.{IsStopped, LeadsShallowly, PatchLeadsShallowly, PatchStops};
 ghost use Rattle.dm_repo.specs.Squares.{Placed, patches};
-ghost use Rattle.dm_repo.specs.Repositories.{IsMapOf};
+ghost use Rattle.dm_repo.specs.Repositories.{IsMapOf, IsRepo};
 ghost use Rattle.dm_repo.specs.Weighing.{FitStops, Fits, IsBundleSplit, RefusesBundle};
 ghost use Rattle.dm_repo.specs.Stops.{StopsAt};
 
@@ -19,6 +19,16 @@ use dm_tree::laws::tree_is_lawful;
 use dm_tree::{Tree, TreeFault};
 use std::alloc::{AllocError, Allocator};
 
+/// A fault of a primitive says that it leads nowhere shallowly; out of memory says nothing, and is handed on.
+fn refused(fault: TreeFault) -> Result<bool, AllocError>
+    ensures { IfOk result (λ leads. (leads ≡ false) × (fault ≢ TreeFault.NoMemory)) }
+{
+    match fault {
+        TreeFault::NoMemory => Err(AllocError),
+        _ => Ok(false),
+    }
+}
+
 /// Applies a primitive, and answers whether it leads shallowly: else it doesn't apply, or makes a path that is too deep.
 fn apply_prim<A: Allocator, B: Allocator + Copy>(
     prim: &Prim<A>,
@@ -26,14 +36,13 @@ fn apply_prim<A: Allocator, B: Allocator + Copy>(
 ) -> Result<bool, AllocError>
     ensures { (s : LawfulMap) → IsMapOf tree.old s → IfOk result (λ leads. MatchBool leads
         ((t : LawfulMap) × IsMapOf tree.new t × LeadsShallowly (prim_of prim.now) s t)
-        ((t : LawfulMap) → LeadsShallowly (prim_of prim.now) s t → ⊥)) }
+        (IsStopped (prim_of prim.now) s)) }
 {
     let answer = apply(prim, tree);
     tree_is_lawful(tree);
     match answer {
         Ok(()) => Ok(true),
-        Err(TreeFault::NoMemory) => Err(AllocError),
-        Err(_) => Ok(false),
+        Err(fault) => refused(fault),
     }
 }
 
@@ -44,7 +53,7 @@ pub(crate) fn apply_patch<A: Allocator, B: Allocator + Copy>(
 ) -> Result<bool, AllocError>
     ensures { (s : LawfulMap) → IsMapOf tree.old s → IfOk result (λ leads. MatchBool leads
         ((t : LawfulMap) × IsMapOf tree.new t × PatchLeadsShallowly patch.now s t)
-        ((t : LawfulMap) → PatchLeadsShallowly patch.now s t → ⊥)) }
+        (PatchStops IsStopped patch.now s)) }
 {
     for prim in patch.prims() {
         if !apply_prim(prim, tree)? {
@@ -61,7 +70,7 @@ pub(crate) fn fit<A: Allocator, B: Allocator + Copy>(
 ) -> Result<(), Stop>
     ensures { (s : LawfulMap) → IsMapOf tree.old s → MatchResult result
         (λ _. (t : LawfulMap) × IsMapOf tree.new t × InTurn PatchLeadsShallowly (patches list.now) s t)
-        (λ stop. StopsAt stop (FitStops s list.now)) }
+        (λ stop. StopsAt stop (FitStops IsStopped s list.now)) }
 {
     for patch in list {
         if !apply_patch(&patch.1, tree)? {
@@ -77,7 +86,7 @@ pub(crate) fn check_fit<A: Allocator + Copy>(
     front: &[(usize, Named<A>)],
     new: &[(usize, Named<A>)],
 ) -> Result<(), Refusal>
-    ensures { (repo : List Patch) (b : Contents) (rest : List Placed) → IsBundleSplit repo b front.now rest new.now → MatchResult result
+    ensures { (repo : List Patch) (b : Contents) (rest : List Placed) → IsRepo repo → IsBundleSplit repo b front.now rest new.now → MatchResult result
         (λ _. Fits repo b rest new.now)
         (λ why. RefusesBundle repo b why) }
 {

@@ -1,7 +1,7 @@
 //! Laws of the definitions alone. A call of them does nothing.
 
 ghost use Rattle.dm_repo.specs.Laws.{FoldIsOne, SplitFolds, SplitIsOne, SplitStopsOnce};
-ghost use Rattle.dm_repo.specs.Laws.{MergeApplies, MergeIsOne, MergeStopsOnce, MergeIsRepo};
+ghost use Rattle.dm_repo.specs.Laws.{MergeApplies, MergeIsOne, MergeStopsOnce, MergeIsRepo, WeighingHasOneAnswer};
 
 /// A list of patches makes at most one tree.
 pub fn fold()
@@ -23,4 +23,10 @@ pub fn merge()
     ensures one { MergeIsOne }
     ensures stops_once { MergeStopsOnce }
     ensures is_repo { MergeIsRepo }
+{}
+
+/// A repository and a bundle decide what weighing answers: which refusal, with its places, or that nothing is new, or which
+/// patches are merged. Out of memory is no answer of theirs.
+pub fn weighing_has_one_answer()
+    ensures { WeighingHasOneAnswer }
 {}

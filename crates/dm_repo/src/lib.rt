@@ -7,8 +7,8 @@
 //!
 //! The crate stands on dm_bundle's bundles, on dm_named's patches and when they commute, and on dm_prim's laws of commutation.
 //! Its theorem is the contract of [`weigh`]: it answers the merged patches and the tree after them, or the first refusal in
-//! order, with the place or the pair that it is about; and the [`laws`]: front then rest make the repository's tree, and
-//! what fits and is merged applies after the repository.
+//! order, with the place or the pair that it is about; and the [`laws`]: front then rest make the repository's tree, what
+//! fits and is merged applies after the repository, and weighing has one answer.
 #![tactic(auto)]
 
 mod dependencies;

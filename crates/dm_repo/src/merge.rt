@@ -1,11 +1,10 @@
 //! Merging patches that start where the rest of a repository does.
-ghost use Rattle.std.specs.Prelude.{◌≡◌, ◌↔◌, ◌+◌, ◌<◌, ◌++◌, [], length, map, IfOk, IsTrue, MatchResult};
+ghost use Rattle.std.specs.Prelude.{◌≡◌, ◌↔◌, ◌+◌, ◌<◌, List, ◌++◌, [], length, map, IfOk, IsTrue, MatchResult};
 ghost use Rattle.dm_bundle.specs.Bundles.{Contents};
-ghost use Rattle.dm_repo.specs.Merging.{MergeRectangle, MergeStops};
-ghost use Rattle.dm_repo.specs.Squares.{PlacedMerges, patches, placed, undone};
+ghost use Rattle.dm_repo.specs.Merging.{Merge, MergeRectangle, MergeStops};
+ghost use Rattle.dm_repo.specs.Squares.{Placed, PlacedMerges, patches, placed, undone};
 ghost use Rattle.dm_repo.specs.Repositories.{IsTreeOf};
-ghost use Rattle.dm_repo.specs.Weighing.{Appends, Fits, IsBundleSplit, IsFull, IsMergeOf, RefusesBundle, most_patches};
-ghost use Rattle.dm_repo.specs.Weighed.{FullFor};
+ghost use Rattle.dm_repo.specs.Weighing.{Fits, IsBundleSplit, IsMergeOf, RefusesBundle, most_patches};
 ghost use Rattle.dm_repo.specs.Stops.{AtPlaces, BlockedBy};
 
 use crate::fit::fit;
@@ -83,10 +82,10 @@ fn append<A: Allocator, B: Allocator + Copy>(
     repo: &Repo<A>,
     merged: Vec<(usize, Named<B>), B>,
 ) -> Result<Merged<B>, Refusal>
-    ensures { MatchResult result
-        (λ m. (m.patches.items ≡ patches merged.items) × Appends repo.now.patches m.patches.items ×
-        IsTreeOf (repo.now.patches ++ m.patches.items) m.tree)
-        (λ why. FullFor why (IsFull repo.now.patches merged.items)) }
+    ensures { (b : Contents) (rest new : List Placed) → Fits repo.now.patches b rest new → Merge PlacedMerges rest new merged.items →
+        MatchResult result
+        (λ m. IsMergeOf repo.now.patches b m.patches.items × IsTreeOf (repo.now.patches ++ m.patches.items) m.tree)
+        (λ why. RefusesBundle repo.now.patches b why) }
 {
     if is_too_many(repo.len(), merged.len()) {
         return Err(Refusal::Full);

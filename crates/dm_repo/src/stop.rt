@@ -36,7 +36,7 @@ impl Stop {
         }
     }
 
-    /// Where patches lead nowhere from a tree that the repository needs.
+    /// Where patches that must lead on from a tree are stopped: a path is too deep on the way.
     pub(crate) fn full(self) -> Refusal
         ensures { result ≡ refusal_of (λ _. Full) self }
     {

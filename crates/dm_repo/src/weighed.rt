@@ -50,6 +50,7 @@ fn weigh_new<A: Allocator, B: Allocator + Copy>(
         (λ m. IsMergeOf repo.now.patches b m.patches.items × IsTreeOf (repo.now.patches ++ m.patches.items) m.tree)
         (λ why. RefusesBundle repo.now.patches b why) }
 {
+    repo.lawful();
     if are_set(&marks.common) {
         let chosen = split_held(alloc, new, marks)?;
         return append_to_whole(alloc, repo, chosen);

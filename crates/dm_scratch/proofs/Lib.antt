@@ -1,2 +1,4 @@
 pub mod ReadLemmas
 pub mod EachLemmas
+pub mod OneOutcome
+pub mod PrintLemmas

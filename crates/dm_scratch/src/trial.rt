@@ -38,8 +38,8 @@ pub fn take<A: Allocator + Copy, P: Allocator>(
 ) -> Verdict
     ensures { Takes repo.old.patches text.now result repo.new.patches }
 {
-    if arena.reset().is_err() {
-        return Verdict::Refused(Refusal::NoMemory);
+    if let Err(refused) = arena.reset() {
+        return Verdict::from(refused);
     }
     let trial = &*arena;
     let bundle = match read_bundle(trial, text) {

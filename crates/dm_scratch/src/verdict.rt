@@ -1,7 +1,10 @@
 //! What becomes of a bundle.
-ghost use Rattle.std.specs.Prelude.{◌↔◌, IsTrue};
+ghost use Rattle.std.specs.Prelude.{◌≡◌, ◌↔◌, IsTrue};
+ghost use Rattle.dm_repo.specs.declared.refusal.Refusal.TheVariants.{NoMemory};
 ghost use Rattle.dm_scratch.specs.Taking.{IsAccepted, IsUnread};
+ghost use Rattle.dm_scratch.specs.declared.verdict.Verdict.TheVariants.{Refused};
 
+use bumpalo::ResetError;
 use dm_named::{FaultKind, ReadFault};
 use dm_repo::Refusal;
 use std::fmt;
@@ -40,6 +43,14 @@ impl Verdict {
             Verdict::Malformed(_) => false,
             Verdict::Refused(_) => false,
         }
+    }
+}
+
+impl From<ResetError> for Verdict {
+    ghost from_gives = { λ _ verdict. verdict ≡ Refused NoMemory };
+
+    fn from(_: ResetError) -> Verdict {
+        Verdict::Refused(Refusal::NoMemory)
     }
 }
 

@@ -6,7 +6,8 @@ use Rattle.dm_bundle.specs.Faults.{FaultAt}
 use Rattle.dm_scratch.specs.declared.verdict.Verdict.{Verdict}
 use Rattle.dm_scratch.specs.Taking.{IsUnread}
 use Rattle.dm_scratch.specs.Words.{verdict_text}
-use Rattle.dm_tool.specs.Printing.{line_of, status_of}
+use Rattle.dm_scratch.specs.Printing.{line_of}
+use Rattle.dm_tool.specs.Printing.{status_of}
 use Rattle.dm_tool.specs.Checking.{Checks, malformed, no_memory}
 
 pub unread_checks : (text out : List ℕ) (fault : ReadFault) (v : Verdict) (status : ℕ) → (fault.kind ≢ kind.NoMemory → FaultAt text fault.kind fault.at) → IsUnread fault v

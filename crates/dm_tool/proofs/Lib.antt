@@ -1,3 +1,3 @@
-pub mod PrintLemmas
 pub mod CheckLemmas
 pub mod AnswerLemmas
+pub mod RunLemmas

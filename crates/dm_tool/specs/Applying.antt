@@ -11,7 +11,8 @@ use Rattle.dm_scratch.specs.Taking.{Takes, IsAccepted}
 use Rattle.dm_scratch.specs.Words.{verdict_text}
 use Rattle.dm_tool.specs.declared.fault.ToolFault.{ToolFault}
 use Rattle.dm_tool.specs.declared.fault.ToolFault.TheVariants.{NoMemory, BadBase}
-use Rattle.dm_tool.specs.Printing.{line_of, listing_text, status_of}
+use Rattle.dm_scratch.specs.Printing.{line_of, listing_text}
+use Rattle.dm_tool.specs.Printing.{status_of}
 
 -- the base's text is taken into an empty repository, which then holds these patches
 pub record IsBase (text : List ℕ) (repo : List Patch) : Type 0 where

@@ -8,7 +8,7 @@ use Rattle.dm_repo.specs.declared.refusal.Refusal.TheVariants.{NoMemory}
 use Rattle.dm_scratch.specs.declared.verdict.Verdict.TheVariants.{Malformed, Refused}
 use Rattle.dm_scratch.specs.Taking.{Reads}
 use Rattle.dm_scratch.specs.Words.{verdict_text}
-use Rattle.dm_tool.specs.Printing.{line_of}
+use Rattle.dm_scratch.specs.Printing.{line_of}
 
 -- these bytes and this exit status: the canonical text of the bundle that the text stands for, the line of the text's fault, or the line that memory ran out
 pub data Checks (text printed : List ℕ) (status : ℕ) : Type 0 where

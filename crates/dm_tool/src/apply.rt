@@ -1,5 +1,5 @@
 //! The command `dm apply`.
-ghost use Rattle.std.specs.Prelude.{◌≡◌, ◌≢◌, ℕ, List, [], take, IfOk, IfErr, MatchOption};
+ghost use Rattle.std.specs.Prelude.{◌≡◌, ◌≢◌, ◌⊎◌, ℕ, List, [], take, IfOk, IfErr, MatchOption};
 ghost use Rattle.std.specs.Io.KnownBytes.{Appends, Keeps};
 ghost use Rattle.dm_named.specs.Patches.{Patch};
 ghost use Rattle.dm_scratch.specs.declared.verdict.Verdict.{Verdict};
@@ -50,6 +50,8 @@ pub fn apply_over<R: Read, W: Write>(
         MatchOption base.entry (start ≡ []) (λ b. IsBase b.now start) ×
         Gives (R.remaining reader.old) (R.remaining reader.new) text ×
         Answers start as_bundle text out status × Appends (W.contents writer.old) (W.contents writer.new) out) }
+    ensures base_first { IfErr result (λ e. ((e ≢ ToolFault.Read) × (R.remaining reader.new ≡ R.remaining reader.old)) ⊎
+        ((start : List Patch) × MatchOption base.entry (start ≡ []) (λ b. IsBase b.now start))) }
     ensures bad_base { IfErr result (λ e. (v : Verdict) → (e ≡ ToolFault.BadBase v) → MatchOption base.entry ⊥ (λ b. RefusesBase b.now e)) }
     ensures unread { IfErr result (λ e. (v : Verdict) → (e ≡ ToolFault.BadBase v) → R.remaining reader.new ≡ R.remaining reader.old) }
     ensures silent { IfErr result (λ e. (e ≢ ToolFault.Write) → Keeps (W.contents writer.old) (W.contents writer.new)) }

@@ -5,11 +5,10 @@ ghost use Rattle.dm_tool.specs.Streams.{Gives};
 ghost use Rattle.dm_tool.specs.Checking.{Checks};
 
 use crate::fault::ToolFault;
-use crate::print::push_verdict;
 use crate::status::status_of;
 use crate::streams::{read_text, write_text};
 use dm_bundle::{read_bundle, write_bundle};
-use dm_scratch::Verdict;
+use dm_scratch::{Verdict, push_verdict};
 use std::alloc::{AllocError, Global};
 use std::io::{Read, Write};
 

@@ -1,7 +1,8 @@
 //! Why a command gives no answer.
 ghost use Rattle.std.specs.Prelude.{◌≡◌, ◌≢◌, ◌⊎◌};
-ghost use Rattle.dm_tool.specs.declared.fault.ToolFault.TheVariants.{NoMemory};
+ghost use Rattle.dm_tool.specs.declared.fault.ToolFault.TheVariants.{NoMemory, NoThread, BadPlan};
 
+use dm_mirror::{PlanFault, RunFault};
 use dm_repo::Refusal;
 use dm_scratch::Verdict;
 use std::alloc::{AllocError, AllocFailed};
@@ -22,6 +23,12 @@ pub enum ToolFault {
     /// The base isn't taken into an empty repository: the text is malformed, or its bundle refused. Nothing was read or written.
     #[error("base {0}")]
     BadBase(Verdict),
+    /// There is no plan of these posters, bases and bound. Nothing was written.
+    #[error("{0}")]
+    BadPlan(PlanFault),
+    /// A thread could not be started. Nothing was written.
+    #[error("no thread")]
+    NoThread,
 }
 
 impl ToolFault {
@@ -34,6 +41,28 @@ impl ToolFault {
             return ToolFault::NoMemory;
         }
         ToolFault::BadBase(verdict)
+    }
+}
+
+impl From<PlanFault> for ToolFault {
+    ghost from_gives = { λ fault e. (e ≡ NoMemory) ⊎ (e ≡ BadPlan fault) };
+
+    fn from(fault: PlanFault) -> ToolFault {
+        match fault {
+            PlanFault::NoMemory => ToolFault::NoMemory,
+            _ => ToolFault::BadPlan(fault),
+        }
+    }
+}
+
+impl From<RunFault> for ToolFault {
+    ghost from_gives = { λ fault e. (e ≡ NoMemory) ⊎ (e ≡ NoThread) };
+
+    fn from(fault: RunFault) -> ToolFault {
+        match fault {
+            RunFault::NoMemory => ToolFault::NoMemory,
+            RunFault::NoThread => ToolFault::NoThread,
+        }
     }
 }
 

@@ -3,20 +3,25 @@
 //! `dm check` reads a bundle on standard input and prints its canonical text, or what is wrong with
 //! it and where. `dm apply` reads a bundle, takes it into the repository that another bundle makes, or
 //! into an empty one, and prints the verdict with the listing of the repository's tree, or with all its
-//! patches as a bundle.
+//! patches as a bundle. `dm run` lets posters send bundles to mirrors, in threads, and prints what each
+//! mirror took, and its tree.
 //!
-//! The crate stands on `dm_scratch` for taking a text into a repository, on `dm_bundle` and `dm_named`
-//! for the text of bundles, and on `clap` for the words of the command line. Its theorems are the
-//! contracts of [`check::check_over`] and [`apply::apply_over`]: over a reader and a writer that tell
-//! their bytes, what is written and the exit status are those of the bundle that the text stands for, or
-//! of the text's first fault, or those of taking it.
+//! The crate stands on `dm_scratch` for taking a text into a repository, on `dm_mirror` for posters and
+//! mirrors, on `dm_bundle` and `dm_named` for the text of bundles, and on `clap`, `indexmap` and `memchr`
+//! for the words of the command line. Its theorems are the contracts of [`check::check_over`],
+//! [`apply::apply_over`] and [`running::run_over`]: over a reader and a writer that tell their bytes, what
+//! is written and the exit status are those of the bundle that the text stands for, or of the text's first
+//! fault, or those of taking it, or of a run of which the headline holds.
 #![tactic(auto)]
 
 mod apply;
 mod check;
 mod commands;
 mod fault;
+mod files;
+mod plan_words;
 mod print;
+mod running;
 mod status;
 mod streams;
 #[cfg(test)]

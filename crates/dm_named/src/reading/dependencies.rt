@@ -31,11 +31,8 @@ fn infos_at<A: Allocator + Copy>(
     let mut here = skip(text, end);
     while begins_at(text, here, b'[') {
         let (info, next) = info_at(alloc, text, here)?;
-        if infos.push(info).is_err() {
-            return Err(ReadFault {
-                kind: FaultKind::NoMemory,
-                at: here,
-            });
+        if let Err(e) = infos.push(info) {
+            return Err(ReadFault::no_memory(e.into(), here));
         }
         end = next;
         here = skip(text, end);

@@ -76,17 +76,13 @@ pub(crate) fn hunk_at<A: Allocator + Copy>(
         }
     };
     let olds = skip_lines(text, next);
-    let Ok((old, news)) = lines_at(alloc, b'-', text, olds) else {
-        return Err(ReadFault {
-            kind: FaultKind::NoMemory,
-            at: olds,
-        });
+    let (old, news) = match lines_at(alloc, b'-', text, olds) {
+        Ok(found) => found,
+        Err(e) => return Err(ReadFault::no_memory(e, olds)),
     };
-    let Ok((new, last)) = lines_at(alloc, b'+', text, news) else {
-        return Err(ReadFault {
-            kind: FaultKind::NoMemory,
-            at: news,
-        });
+    let (new, last) = match lines_at(alloc, b'+', text, news) {
+        Ok(found) => found,
+        Err(e) => return Err(ReadFault::no_memory(e, news)),
     };
     let end = skip_lines(text, last);
     match Hunk::new(path, line, old, new) {

@@ -4,7 +4,9 @@ ghost use Rattle.std.specs.Prelude.{◌≡◌, ◌∷◌, Some, List, ℕ, IfOk,
 ghost use Rattle.dm_named.specs.Paths.{IsCode, NameByte, IsNameText};
 ghost use Rattle.dm_tree.specs.Validity.{path_fault_of};
 ghost use Rattle.dm_named.specs.declared.reading.names.NameFault.TheVariants.{BadPath, NoMemory};
+ghost use Rattle.dm_named.specs.Faults.{kind_of_name};
 
+use crate::fault::FaultKind;
 use dm_tree::PathFault;
 use memchr::memchr;
 use std::alloc::{AllocError, AllocFailed, Allocator};
@@ -44,6 +46,17 @@ impl From<PathFault> for NameFault {
             PathFault::TooDeep => NameFault::BadPath,
             PathFault::TooLong => NameFault::BadPath,
             PathFault::NoMemory => NameFault::NoMemory,
+        }
+    }
+}
+
+impl From<NameFault> for FaultKind {
+    ghost from_gives = { λ fault kind. kind ≡ kind_of_name fault };
+
+    fn from(fault: NameFault) -> FaultKind {
+        match fault {
+            NameFault::BadPath => FaultKind::BadPath,
+            NameFault::NoMemory => FaultKind::NoMemory,
         }
     }
 }

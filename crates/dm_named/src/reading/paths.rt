@@ -97,12 +97,8 @@ pub(crate) fn path_at<A: Allocator + Copy>(
     let (word, next) = word_at(text, at);
     match path_of(alloc, word) {
         Ok(path) => Ok((path, next)),
-        Err(NameFault::BadPath) => Err(ReadFault {
-            kind: FaultKind::BadPath,
-            at,
-        }),
-        Err(NameFault::NoMemory) => Err(ReadFault {
-            kind: FaultKind::NoMemory,
+        Err(fault) => Err(ReadFault {
+            kind: FaultKind::from(fault),
             at,
         }),
     }

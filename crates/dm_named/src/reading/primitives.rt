@@ -77,11 +77,8 @@ pub(crate) fn prims_at<A: Allocator + Copy>(
             });
         }
         let (prim, after) = prim_at(alloc, word, text, here, next)?;
-        if prims.push(prim).is_err() {
-            return Err(ReadFault {
-                kind: FaultKind::NoMemory,
-                at: here,
-            });
+        if let Err(e) = prims.push(prim) {
+            return Err(ReadFault::no_memory(e.into(), here));
         }
         end = after;
     }

@@ -46,6 +46,8 @@ two dots: ./../x
 the directory of the store: ./_darcs/x
 the code 0: ./\0\x
 the code 128: ./\128\x
+the code 255: ./\255\x
+a code past a byte: ./\256\x
 a code that does not end: ./\32
 a code of one digit that does not end: ./a\3
 a code of no digits: ./\\
@@ -93,6 +95,7 @@ fn refuses_paths(rt: HostRuntime) -> Result<(), Fail> {
         let (what, path) = line.split_once(": ").ok_or("what the row shows")?;
         refuses_path(&rt, alloc, what, path)?;
     }
+    refuses_path(&rt, alloc, "a name with a zero byte", "./a\0b")?;
     let mut long = String::from_str(alloc, "./")?;
     for _ in 0..256 {
         long.push('x')?;
@@ -142,6 +145,10 @@ fn counts_primitives(rt: HostRuntime) -> Result<(), Fail> {
         text.extend_from_slice(b"adddir ./d\n")?;
     }
     refuses(&rt, alloc, "10,000 primitives", &text, "unclosed", 110038)?;
+    let mut other = Vec::from_slice(alloc, &text)?;
+    other.extend_from_slice(b"replace x")?;
+    let what = "a replace after 10,000 primitives";
+    refuses(&rt, alloc, what, &other, "unsupported", 110038)?;
     text.extend_from_slice(b"adddir x")?;
     refuses(&rt, alloc, "one more primitive", &text, "too-many", 110038)?;
     Ok(())

@@ -72,6 +72,7 @@ fn reads_escapes(rt: HostRuntime) -> Result<(), Fail> {
     let what = "the lowest and the highest code";
     reads_path(&rt, alloc, what, "./\\1\\\\127\\", "./\u{1}\u{7f}")?;
     reads_path(&rt, alloc, "leading zeros", "./\\001\\", "./\u{1}")?;
+    reads_path(&rt, alloc, "the byte 1", "./a\u{1}b", "./a\u{1}b")?;
     let mut long = Vec::from_slice(alloc, b"[a\np**d] addfile ./")?;
     for _ in 0..255 {
         long.push(b'x')?;
@@ -79,6 +80,42 @@ fn reads_escapes(rt: HostRuntime) -> Result<(), Fail> {
     let mut written = Vec::from_slice(alloc, &long)?;
     written.push(b'\n')?;
     reads(&rt, alloc, "a name of 255 bytes", &long, 274, &written)
+}
+
+/// The bytes of white space, and some of those next to them.
+const WHITE: &str = "\t\n\u{b}\u{c}\r ";
+
+const SOLID: &str = "\u{8}\u{e}\u{1f}!\u{7f}";
+
+#[test]
+fn skips_white_space(rt: HostRuntime) -> Result<(), Fail> {
+    let alloc = rt.alloc();
+    for byte in WHITE.chars() {
+        let text = format!(in alloc; "[a\np**d]adddir{byte}./d")?;
+        let written = b"[a\np**d] adddir ./d\n";
+        reads(
+            &rt,
+            alloc,
+            "a word, white space, and its path",
+            text.as_bytes(),
+            18,
+            written,
+        )?;
+    }
+    // A longer word is no primitive's, so the run is empty.
+    for byte in SOLID.chars() {
+        let text = format!(in alloc; "[a\np**d]adddir{byte}./d")?;
+        let written = b"[a\np**d] {\n}\n";
+        reads(
+            &rt,
+            alloc,
+            "a word that goes on",
+            text.as_bytes(),
+            8,
+            written,
+        )?;
+    }
+    Ok(())
 }
 
 #[test]

@@ -5,7 +5,7 @@ use Rattle.dm_bundle.proofs.context.context_at.Goals as goal
 pub loop-alloc-preserved : goal.loop-alloc-preserved
 loop-alloc-preserved g c =
     let text = c.args.text.now in
-    let pushed : c.push.new.self.items ≡ c.loop-alloc.infos.items ++ c.in_ok-info.info ∷ [] = rw c.if-is_err.ensures.negation at c.push.ensures.items in (
+    let pushed : c.push.new.self.items ≡ c.loop-alloc.infos.items ++ c.in_ok-info.info ∷ [] = c.in_default.ensures.items in (
       c.skip-here-in-loop-alloc.ensures.within,
       rw pushed (one_more c.args.known.now (drop c.args.start text) c.loop-alloc.infos.items (drop c.loop-alloc.here text) c.in_ok-info.info (drop c.in_ok-info.next text) (drop c.skip-here-in-loop-alloc.result text) c.loop-alloc.invariant.1 c.in_ok-info.ensures.ok c.if-contains.ensures c.skip-here-in-loop-alloc.ensures.rest),
     )

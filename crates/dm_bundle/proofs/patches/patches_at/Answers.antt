@@ -12,7 +12,7 @@ patch_at-requires-clause-known g c = rw c.deref.ensures.value c.loop-alloc.invar
 
 pub loop-alloc-smaller : goal.loop-alloc-smaller
 loop-alloc-smaller g c =
-    let pushed : c.push.new.self.items ≡ c.loop-alloc.patches.items ++ c.in_ok-patch.patch ∷ [] = rw c.if-is_err.ensures.negation at c.push.ensures.items in
+    let pushed : c.push.new.self.items ≡ c.loop-alloc.patches.items ++ c.in_ok-patch.patch ∷ [] = c.in_default.ensures.items in
     let room : length c.loop-alloc.patches.items < 1000 = rw (← c.deref.ensures.value) c.in_ok-patch.ensures.room in
     rw pushed (omega (arith, room, length-append c.loop-alloc.patches.items (c.in_ok-patch.patch ∷ [])))
 
@@ -22,7 +22,7 @@ loop-alloc-preserved g c =
     let ps = c.loop-alloc.patches.items in
     let p = c.in_ok-patch.patch in
     let l = c.loop-alloc.invariant in
-    let pushed : c.push.new.self.items ≡ ps ++ p ∷ [] = rw c.if-is_err.ensures.negation at c.push.ensures.items in
+    let pushed : c.push.new.self.items ≡ ps ++ p ∷ [] = c.in_default.ensures.items in
     let is_new : Contains (infos_of ps) p.info → ⊥ = rw (← c.deref.ensures.value) c.in_ok-patch.ensures.is_new in
     let noted : SameMembers c.patch_at.new.known (infos_of ps ++ p.info ∷ []) = rw (← c.deref.ensures.value) c.in_ok-patch.ensures.noted in
     let room : length ps < 1000 = rw (← c.deref.ensures.value) c.in_ok-patch.ensures.room in

@@ -1,7 +1,7 @@
 use Rattle.std.proofs.Common.{◌∙◌, ap, subst, sym, List, ℕ, drop}
 use Rattle.std.proofs.lemmas.Result.{err_from_is_err_and}
 use Rattle.dm_info.specs.Reading.{Fails, info_at}
-use Rattle.dm_info.proofs.Places.{placed, place_is, only_err, turned_err, turned_ok, inverted_err, bad_err, shorter_rest}
+use Rattle.dm_info.proofs.Places.{placed, place_is, only_err, turned_err, turned_ok, has_fault, shorter_rest}
 use Rattle.dm_info.proofs.reading.read_info.Goals as goal
 
 pub returns-in_err-info-clause-only : goal.returns-in_err-info-clause-only
@@ -11,12 +11,12 @@ returns-in_err-info-clause-only g c = λ i next found.
     let fails : Fails e (info_at (drop c.args.at c.args.text.now)) = subst (λ (t : List ℕ). Fails e (info_at t)) c.tail_of.ensures c.in_err-info.ensures in
     rw (p.1, p.2) (only_err e c.args.text.now c.args.at i next fails found)
 
-pub returns-in_err-info-clause-inverted : goal.returns-in_err-info-clause-inverted
-returns-in_err-info-clause-inverted g c =
+pub returns-in_err-info-clause-fault : goal.returns-in_err-info-clause-fault
+returns-in_err-info-clause-fault g c =
     let p = err_from_is_err_and c.from_residual.result c.from_residual.ensures.1 in
     let e = c.in_err-info.field-0.0 in
     let fails : Fails e (info_at (drop c.args.at c.args.text.now)) = subst (λ (t : List ℕ). Fails e (info_at t)) c.tail_of.ensures c.in_err-info.ensures in
-    rw (p.1, p.2) (λ is. inverted_err e (drop c.args.at c.args.text.now) fails is)
+    rw (p.1, p.2) (has_fault e (drop c.args.at c.args.text.now) fails)
 
 pub returns-in_err-info-clause-turned : goal.returns-in_err-info-clause-turned
 returns-in_err-info-clause-turned g c = λ s.
@@ -38,10 +38,3 @@ returns-clause-only g c = λ i next found.
 
 pub returns-clause-turned : goal.returns-clause-turned
 returns-clause-turned g c = λ s. absurd (turned_ok (drop c.args.at c.args.text.now) c.in_ok-info.info c.in_ok-info.rest.now (ap info_at (sym c.tail_of.ensures) ∙ c.in_ok-info.ensures) s)
-
-pub returns-in_err-info-clause-bad : goal.returns-in_err-info-clause-bad
-returns-in_err-info-clause-bad g c =
-    let p = err_from_is_err_and c.from_residual.result c.from_residual.ensures.1 in
-    let e = c.in_err-info.field-0.0 in
-    let fails : Fails e (info_at (drop c.args.at c.args.text.now)) = subst (λ (t : List ℕ). Fails e (info_at t)) c.tail_of.ensures c.in_err-info.ensures in
-    rw (p.1, p.2) (λ is. bad_err e (drop c.args.at c.args.text.now) fails is)

@@ -1,20 +1,22 @@
 use Rattle.std.proofs.Common.{inl, refl}
+use Rattle.dm_repo.specs.Folds.{IsStopped}
 use Rattle.dm_repo.specs.Weighing.{FitStops, RefusesBundle}
 use Rattle.dm_repo.specs.declared.refusal.Refusal.TheVariants.{DoesNotFit, Full}
 use Rattle.dm_repo.proofs.Steps.{of_place}
-use Rattle.dm_repo.proofs.Making.{new_root, front_stops}
+use Rattle.dm_repo.proofs.Making.{new_root}
+use Rattle.dm_repo.proofs.Depths.{front_is_full}
 use Rattle.dm_repo.proofs.fit.check_fit.Goals as goal
 
 pub returns-in-Err : goal.returns-in-Err
-returns-in-Err g c = λ repo b rest chooses.
+returns-in-Err g c = λ repo b rest ok chooses.
     let front = c.args.front.now in
     let r = new_root c.new-tree.result c.new-tree.ensures c.tree_is_lawful.ensures.lawful in
     rw c.full.ensures
-    (of_place (RefusesBundle repo b) (λ k. Full) (FitStops r.0 front) c.in-Err.stop tt (λ x q. inl (front, rest, c.args.new.now, chooses, λ t h. front_stops r.2 q h))
+    (of_place (RefusesBundle repo b) (λ k. Full) (FitStops IsStopped r.0 front) c.in-Err.stop tt (λ x q. inl (front_is_full repo b x ok chooses r.2 q))
     (c.in-Err.ensures r.0 r.1))
 
 pub returns-in-Ok-fit : goal.returns-in-Ok-fit
-returns-in-Ok-fit g c = λ repo b rest chooses.
+returns-in-Ok-fit g c = λ repo b rest ok chooses.
     let r = new_root c.new-tree.result c.new-tree.ensures c.tree_is_lawful.ensures.lawful in
     let base = c.in-Ok.ensures r.0 r.1 in
     let last = c.in-Ok-fit.ensures base.0 base.1 in
@@ -28,12 +30,12 @@ returns-in-Ok-fit g c = λ repo b rest chooses.
     }
 
 pub returns : goal.returns
-returns g c = λ repo b rest chooses.
+returns g c = λ repo b rest ok chooses.
     let front = c.args.front.now in
     let new = c.args.new.now in
     let r = new_root c.new-tree.result c.new-tree.ensures c.tree_is_lawful.ensures.lawful in
     let base = c.in-Ok.ensures r.0 r.1 in
     rw c.does_not_fit.ensures
-    (of_place (RefusesBundle repo b) DoesNotFit (FitStops base.0 new) c.in-Err-fit.stop tt
+    (of_place (RefusesBundle repo b) DoesNotFit (FitStops IsStopped base.0 new) c.in-Err-fit.stop tt
     (λ x q. (front, rest, new, chooses, (base.0, x, refl, record { start = r.0; is_root = r.2; runs = base.2 }, q)))
     (c.in-Err-fit.ensures base.0 base.1))

@@ -2,7 +2,6 @@ use Rattle.std.proofs.Common.{rules, ◌≡◌, true, false, refl}
 use Rattle.std.proofs.lemmas.List.{take_all}
 use Rattle.dm_prim.specs.InTurn.{done}
 use Rattle.dm_repo.specs.Folds.{PatchLeadsShallowly}
-use Rattle.dm_repo.proofs.Trees.{goes_all_one}
 use Rattle.dm_repo.proofs.Applying.{run_step, fit_stops}
 use Rattle.dm_repo.proofs.fit.fit.Goals as goal
 
@@ -20,7 +19,7 @@ loop-patch-preserved g c = λ s e.
     let yes : c.in_ok-apply_patch.field-0 ≡ true = search rules in
     let r = c.loop-patch.invariant s e in
     let t = rw yes at (c.in_ok-apply_patch.ensures r.0 r.1) in
-    (t.0, t.1, run_step (λ x. x.1) PatchLeadsShallowly goes_all_one c.args.list.now c.loop-patch.patch-index c.patch-item.result c.loop-patch-test.true c.patch-item.is r.2 t.2)
+    (t.0, t.1, run_step (λ x. x.1) PatchLeadsShallowly c.args.list.now c.loop-patch.patch-index c.patch-item.result c.loop-patch-test.true c.patch-item.is r.2 t.2)
 
 pub returns : goal.returns
 returns g c = λ s e.

@@ -1,5 +1,6 @@
 use Rattle.std.proofs.Common.{◌≡◌, ◌+◌, [], inl, inr, refl, ◌∙◌, length}
 use Rattle.std.proofs.lemmas.Bool.{false≢true}
+use Rattle.dm_repo.specs.Folds.{IsStopped}
 use Rattle.dm_repo.specs.Squares.{patches, placed}
 use Rattle.dm_repo.specs.Weighing.{FitStops, RefusesBundle, most_patches}
 use Rattle.dm_repo.specs.declared.refusal.Refusal.TheVariants.{DoesNotFit}
@@ -14,7 +15,7 @@ returns-in-Err g c = λ b chooses.
     let new = c.args.new.items in
     let m = c.in_ok-tree.ensures in
     rw c.does_not_fit.ensures
-    (of_place (RefusesBundle repo b) DoesNotFit (FitStops m.0 new) c.in-Err.stop tt
+    (of_place (RefusesBundle repo b) DoesNotFit (FitStops IsStopped m.0 new) c.in-Err.stop tt
     (λ x q. (placed repo, [], new, chooses, (m.0, x, refl, grows_whole repo m.2, q)))
     (rw c.deref.ensures.value at (c.in-Err.ensures m.0 m.1)))
 

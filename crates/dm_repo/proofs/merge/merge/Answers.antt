@@ -2,15 +2,14 @@ use Rattle.std.proofs.Common.{rules, ◌≡◌, ◌∙◌, ap, map, drop, length
 use Rattle.dm_repo.specs.Stops.{AtPlaces}
 use Rattle.dm_repo.specs.Merging.{MergeStops}
 use Rattle.dm_repo.specs.Squares.{PlacedMerges, undone}
-use Rattle.dm_repo.specs.Weighing.{IsFull, RefusesBundle}
+use Rattle.dm_repo.specs.Weighing.{RefusesBundle}
 use Rattle.dm_repo.specs.declared.refusal.Refusal.TheVariants.{Conflicts}
 use Rattle.dm_repo.proofs.Splits.{whole}
-use Rattle.dm_repo.proofs.Steps.{match_map, between_places, full_refuses, undone_twice}
+use Rattle.dm_repo.proofs.Steps.{between_places, undone_twice}
 use Rattle.dm_repo.proofs.merge.merge.Goals as goal
 
 pub returns-in-Ok : goal.returns-in-Ok
 returns-in-Ok g c = λ b fits.
-    let repo = c.args.repo.now.patches in
     let rest = c.args.rest.items in
     let new = c.args.new.items in
     let merged = c.merge_all.new.new in
@@ -19,9 +18,7 @@ returns-in-Ok g c = λ b fits.
     let e : c.as_mut_slice-2.result.now ≡ map undone rest = c.as_mut_slice-2.ensures.value ∙ kept ∙ c.undo_all.ensures ∙ ap (map undone) c.as_mut_slice.ensures.value in
     let f : map undone c.as_mut_slice-2.result.now ≡ rest = ap (map undone) e ∙ undone_twice rest in
     let rectangle = rw (f, c.as_mut_slice-3.ensures.value) at c.in-Ok.ensures in
-    match_map c.append.result (rw kept_new at c.append.ensures)
-    (λ m p. (record { rest = rest; new = new; new' = merged; fits = fits; merge = (map undone c.merge_all.new.rest, rectangle); is_merged = p.0; appends = p.1 }, p.2))
-    (λ why h. full_refuses repo b (IsFull repo merged) why (λ i. (rest, new, merged, fits, (map undone c.merge_all.new.rest, rectangle), i)) h)
+    (rw kept_new at c.append.ensures) b rest new fits (map undone c.merge_all.new.rest, rectangle)
 
 pub returns : goal.returns
 returns g c = λ b fits.

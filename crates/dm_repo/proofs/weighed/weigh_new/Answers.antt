@@ -29,11 +29,11 @@ returns-in_err-check_fit g c = λ b e found.
     let repo = c.args.repo.now.patches in
     let rest = c.in_ok-parted.parted.rest.items in
     let chosen = c.in_ok-chosen-2.ensures repo b c.in_ok-parted.parted.front.items rest e found (c.in_ok-parted.ensures b found) in
-    let p = err_from_is_err_and c.from_residual-in_err-check_fit.result c.from_residual-in_err-check_fit.ensures.1 in rw (p.1, p.2) (c.in_err-check_fit.ensures repo b rest (rw (c.deref-2.ensures.value, c.deref-3.ensures.value) chosen))
+    let p = err_from_is_err_and c.from_residual-in_err-check_fit.result c.from_residual-in_err-check_fit.ensures.1 in rw (p.1, p.2) (c.in_err-check_fit.ensures repo b rest c.lawful.ensures (rw (c.deref-2.ensures.value, c.deref-3.ensures.value) chosen))
 
 pub returns : goal.returns
 returns g c = λ b e found.
     let repo = c.args.repo.now.patches in
     let rest = c.in_ok-parted.parted.rest.items in
     let chosen = c.in_ok-chosen-2.ensures repo b c.in_ok-parted.parted.front.items rest e found (c.in_ok-parted.ensures b found) in
-    c.merge.ensures b (rw c.deref-3.ensures.value at (c.in_ok-check_fit.ensures repo b rest (rw (c.deref-2.ensures.value, c.deref-3.ensures.value) chosen)))
+    c.merge.ensures b (rw c.deref-3.ensures.value at (c.in_ok-check_fit.ensures repo b rest c.lawful.ensures (rw (c.deref-2.ensures.value, c.deref-3.ensures.value) chosen)))

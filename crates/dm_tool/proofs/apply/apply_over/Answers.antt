@@ -1,9 +1,30 @@
-use Rattle.std.proofs.Common.{List, ℕ, take, refl, subst}
+use Rattle.std.proofs.Common.{List, ℕ, take, inl, inr, refl, subst}
 use Rattle.std.proofs.lemmas.Result.{err_from_is_err_and}
 use Rattle.std.specs.Io.KnownBytes.{Appends}
 use Rattle.dm_scratch.specs.Taking.{Takes}
 use Rattle.dm_tool.specs.Printing.{status_of}
+use Rattle.dm_tool.proofs.AnswerLemmas.{base_is_not_read}
 use Rattle.dm_tool.proofs.apply.apply_over.Goals as goal
+
+pub returns-in_err-repo-clause-base_first : goal.returns-in_err-repo-clause-base_first
+returns-in_err-repo-clause-base_first g c =
+    let q = err_from_is_err_and c.from_residual.result c.from_residual.ensures.1 in
+    rw (q.1, q.2) (inl (base_is_not_read c.args.base (λ b. b.now) _ c.in_err-repo.ensures.err, refl))
+
+pub returns-in_err-bundle-clause-base_first : goal.returns-in_err-bundle-clause-base_first
+returns-in_err-bundle-clause-base_first g c =
+    let q = err_from_is_err_and c.from_residual-in_err-bundle.result c.from_residual-in_err-bundle.ensures.1 in
+    rw (q.1, q.2) (inr (c.in_ok-repo.repo.patches, c.in_ok-repo.ensures.ok))
+
+pub returns-in_err-text-clause-base_first : goal.returns-in_err-text-clause-base_first
+returns-in_err-text-clause-base_first g c =
+    let q = err_from_is_err_and c.from_residual-in_err-text.result c.from_residual-in_err-text.ensures.1 in
+    rw (q.1, q.2) (inr (c.in_ok-repo.repo.patches, c.in_ok-repo.ensures.ok))
+
+pub returns-in_err-write_text-clause-base_first : goal.returns-in_err-write_text-clause-base_first
+returns-in_err-write_text-clause-base_first g c =
+    let q = err_from_is_err_and c.from_residual-in_err-write_text.result c.from_residual-in_err-write_text.ensures.1 in
+    rw (q.1, q.2) (inr (c.in_ok-repo.repo.patches, c.in_ok-repo.ensures.ok))
 
 pub returns-in_err-write_text-clause-prefix : goal.returns-in_err-write_text-clause-prefix
 returns-in_err-write_text-clause-prefix g c =

@@ -7,7 +7,7 @@ pub loop-alloc-preserved : goal.loop-alloc-preserved
 loop-alloc-preserved g c =
     let text = c.args.text.now in
     let so = c.loop-alloc.invariant in
-    let pushed : c.push.new.self.items ≡ c.loop-alloc.infos.items ++ c.in_ok-info.info ∷ [] = rw c.if-is_err.ensures.negation at c.push.ensures.items in
+    let pushed : c.push.new.self.items ≡ c.loop-alloc.infos.items ++ c.in_ok-info.info ∷ [] = c.in_default.ensures.items in
     record {
       forward = omega (arith, so.forward, so.ahead, c.in_ok-info.ensures.forward);
       ahead = c.skip-here-in-loop-alloc.ensures.forward;

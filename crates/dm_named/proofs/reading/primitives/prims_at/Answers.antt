@@ -27,7 +27,7 @@ pub loop-word-preserved : goal.loop-word-preserved
 loop-word-preserved g c =
     let text = c.args.text.now in
     let ps : List P.Prim = prims_of c.loop-word.prims.items in
-    let items : c.push.new.self.items ≡ c.loop-word.prims.items ++ c.in_ok-prim.prim ∷ [] = rw c.if-is_err.ensures.negation at c.push.ensures.items in
+    let items : c.push.new.self.items ≡ c.loop-word.prims.items ++ c.in_ok-prim.prim ∷ [] = c.in_default-push.ensures.items in
     let pushed : prims_of c.push.new.self.items ≡ ps ++ prim_of c.in_ok-prim.prim ∷ [] = rw (items, map_push prim_of c.loop-word.prims.items c.in_ok-prim.prim) refl in
     record {
       forward = omega (arith, c.loop-word.invariant.forward, c.in-Some.ensures.forward, c.in_ok-prim.ensures.forward);

@@ -1,0 +1,65 @@
+-- What a run of a plan leaves.
+use Rattle.std.specs.Prelude.{◌≡◌, ◌<◌, ℕ, Bool, true, List, [], Option, Some, None, length, slice_get}
+use Rattle.std.specs.List.{All}
+use Rattle.dm_named.specs.Patches.{Patch}
+use Rattle.dm_scratch.specs.declared.verdict.Verdict.{Verdict}
+use Rattle.dm_scratch.specs.Taking.{IsAccepted}
+use Rattle.dm_mail.specs.declared.mail.Mail.{Mail}
+use Rattle.dm_mail.specs.Mails.{mails_of, is_closed, AllBelow}
+use Rattle.dm_mirror.specs.declared.mirror.Mirror.{Mirror}
+use Rattle.dm_mirror.specs.declared.outcome.Outcome.{Outcome}
+use Rattle.dm_mirror.specs.Deliveries.{all_mails}
+use Rattle.dm_mirror.specs.PlainFolds.{IsPlainFold}
+
+-- the mirror of this number
+abbrev pub IsAt : Outcome → ℕ → Mirror → Type 0
+IsAt o m mirror = slice_get o.mirrors.items m ≡ Some mirror
+
+-- the mails of a mirror, if there is one
+abbrev pub mirror_mails : Option Mirror → List Mail
+mirror_mails None = []
+mirror_mails (Some mirror) = mirror.mails.items
+
+-- the mails that the mirror of this number took
+abbrev pub mails_at : Outcome → ℕ → List Mail
+mails_at o m = mirror_mails (slice_get o.mirrors.items m)
+
+-- the poster of this number sends these texts
+abbrev pub SendsTexts : List (List (List ℕ)) → ℕ → List (List ℕ) → Type 0
+SendsTexts texts poster sent = slice_get texts poster ≡ Some sent
+
+-- what a mirror is after a run, of posters that send these texts and from this repository
+pub record IsServed (texts : List (List (List ℕ))) (start : List Patch) (mirror : Mirror) : Type 0 where
+  -- of each poster it took all bundles, each once and in the poster's order, then the mark, and nothing after it
+  pub delivered : (poster : ℕ) (sent : List (List ℕ)) → SendsTexts texts poster sent → mails_of poster mirror.mails.items ≡ all_mails poster sent
+  -- it took the mark of each poster
+  pub closed : (poster : ℕ) (sent : List (List ℕ)) → SendsTexts texts poster sent → is_closed (mails_of poster mirror.mails.items) ≡ true
+  -- it took no mail of anyone else
+  pub known : AllBelow (length texts) mirror.mails.items
+  -- each poster says that all its bundles and its mark were accepted
+  pub accepted : (poster : ℕ) (sent : List (List ℕ)) → SendsTexts texts poster sent → slice_get mirror.receipts.items poster ≡ Some (length sent, true)
+  -- its verdicts and its repository are those of taking the bundles one after the other, in the order in which it took them
+  pub folded : IsPlainFold start mirror.mails.items mirror.verdicts.items mirror.repo.patches
+
+-- what a run leaves: each mirror is served
+pub record IsRunOf (texts : List (List (List ℕ))) (starts : List (List Patch)) (o : Outcome) : Type 0 where
+  pub posters : o.posters ≡ length texts
+  pub mirrors : length o.mirrors.items ≡ length starts
+  pub each : (m : ℕ) (start : List Patch) (mirror : Mirror) → slice_get starts m ≡ Some start → IsAt o m mirror → IsServed texts start mirror
+
+-- a bundle was taken or brought nothing new; a mark has no verdict
+abbrev pub IsFine : Option Verdict → Type 0
+IsFine None = Unit {0}
+IsFine (Some verdict) = IsAccepted verdict
+
+-- each bundle that a mirror took was taken into its repository, or brought nothing new
+abbrev pub AllAccepted : List Mirror → Type 0
+AllAccepted mirrors = All (λ mirror. All IsFine mirror.verdicts.items) mirrors
+
+-- what a poster says that it sent to a mirror; nothing is said of a poster or a mirror that isn't there
+abbrev pub receipt_of : Option Mirror → ℕ → Option (ℕ × Bool)
+receipt_of None poster = None
+receipt_of (Some mirror) poster = slice_get mirror.receipts.items poster
+
+abbrev pub IsReceipt : Outcome → ℕ → ℕ → Option (ℕ × Bool) → Type 0
+IsReceipt o poster m receipt = receipt ≡ receipt_of (slice_get o.mirrors.items m) poster

@@ -1,0 +1,302 @@
+-- A text has at most one fault of a named patch.
+use Rattle.std.proofs.Common.{◌≡◌, ◌<◌, ℕ, List, ◌∷◌, length, refl, sym, ap, subst, ◌∙◌, arith, inl, inr}
+use Rattle.std.specs.Prelude.{◌≢◌, ◌⊎◌, [], codes}
+use Rattle.std.specs.Cmp.Lexicographic.{other_text}
+use Rattle.std.proofs.lemmas.List.{length-append}
+use Rattle.dm_info.proofs.SpellingLemmas.{one_info, stands_opens}
+use Rattle.dm_info.specs.PatchInfo.{PatchInfo}
+use Rattle.dm_info.specs.Spelling.{Stands, NoneStands, StandsInverted}
+use Rattle.dm_tree.specs.Paths.{Path}
+use Rattle.dm_prim.specs.Primitives.{Prim}
+use Rattle.dm_named.specs.Words.{skipped, WordAmong, Begins, NumberLine}
+use Rattle.dm_named.specs.Paths.{NextPath}
+use Rattle.dm_named.specs.Many.{Many}
+use Rattle.dm_named.specs.Patches.{WordAndPath, PrimText, NextPrim, NextInfo, Dependencies, prim_words, unsupported_words, RunEnds}
+use Rattle.dm_named.specs.Faults.{InfoFaultAt, PathFaultAt, NoChange, HunkFaultAt, PrimFaultAt, path, second, hunk, CountFaultAt, BraceFaultAt, RunFaultAt, DependsFaultAt, AfterPrims, PrimsFaultAt, BodyFaultAt, in_braces, in_run, InfosFaultAt, OpenFaultAt, DepsFaultAt, PatchFaultAt, info, deps, body}
+use Rattle.dm_named.specs.declared.fault.FaultKind.{FaultKind}
+use Rattle.dm_named.specs.declared.fault.FaultKind.TheVariants as K
+use Rattle.dm_named.proofs.WordLemmas.{one_word}
+use Rattle.dm_named.proofs.ManyLemmas.{meet}
+use Rattle.dm_named.proofs.OnePatch.{one_single, one_next, one_depends, prim_a_word}
+use Rattle.dm_named.proofs.NoPatch.{no_info, no_path, no_prim, prim_due, not_prim, run_no_prim, no_deps, no_more_infos, no_word_end, tail_same}
+
+-- the same fault at the same place
+abbrev pub Same : FaultKind → FaultKind → List ℕ → List ℕ → Type 0
+Same k l x y = (k ≡ l) × (x ≡ y)
+
+-- two that are one fault at one place
+pub both : {k l j : FaultKind} {x y z : List ℕ} → (k ≡ j) × (x ≡ z) → (l ≡ j) × (y ≡ z) → Same k l x y
+both a b = (a.0 ∙ sym b.0, a.1 ∙ sym b.1)
+
+-- ---- patch infos
+
+info_kind : (k : FaultKind) (text x : List ℕ) → k ≢ K.NoMemory → InfoFaultAt k text x → (x ≡ text) × (((k ≡ K.BadInfo) × NoneStands text) ⊎ ((k ≡ K.Inverted) × StandsInverted text))
+info_kind K.BadInfo text x m f = (f.0, inl (refl, f.1))
+info_kind K.Inverted text x m f = (f.0, inr (refl, f.1))
+info_kind K.NoMemory text x m f = absurd (m refl)
+info_kind k text x m f = absurd f
+
+pub one_info_fault : (k l : FaultKind) (text x y : List ℕ) → k ≢ K.NoMemory → l ≢ K.NoMemory → InfoFaultAt k text x → InfoFaultAt l text y → Same k l x y
+one_info_fault k l text x y m n f g =
+    let a = info_kind k text x m f in
+    let b = info_kind l text y n g in
+    elim a.1 [
+      | inl p ↦ elim b.1 [ inl q ↦ both (p.0, a.0) (q.0, b.0) | inr q ↦ absurd (p.1.none_inverted q.1) ]
+      | inr p ↦ elim b.1 [ inl q ↦ absurd (q.1.none_inverted p.1) | inr q ↦ both (p.0, a.0) (q.0, b.0) ]
+    ]
+
+-- ---- paths and hunks
+
+path_kind : (k : FaultKind) (text x : List ℕ) → k ≢ K.NoMemory → PathFaultAt k text x → (k ≡ K.BadPath) × (x ≡ skipped text)
+path_kind K.BadPath text x m f = (refl, f.0)
+path_kind K.NoMemory text x m f = absurd (m refl)
+path_kind k text x m f = absurd f
+
+one_path_fault : (k l : FaultKind) (text x y : List ℕ) → k ≢ K.NoMemory → l ≢ K.NoMemory → PathFaultAt k text x → PathFaultAt l text y → Same k l x y
+one_path_fault k l text x y m n f g = both (path_kind k text x m f) (path_kind l text y n g)
+
+-- no number stands after white space
+abbrev NoNumber : List ℕ → Type 0
+NoNumber text = (n : ℕ) (rest : List ℕ) → NumberLine (skipped text) n rest → ⊥
+
+hunk_kind : (k : FaultKind) (start text x : List ℕ) → k ≢ K.NoMemory → HunkFaultAt k start text x → ((k ≡ K.BadNumber) × (x ≡ skipped text) × NoNumber text) ⊎ ((k ≡ K.EmptyHunk) × (x ≡ start) × NoChange text)
+hunk_kind K.BadNumber start text x m f = inl (refl, f.0, subst (λ (t : List ℕ). (n : ℕ) (rest : List ℕ) → NumberLine t n rest → ⊥) f.0 f.1)
+hunk_kind K.EmptyHunk start text x m f = inr (refl, f.0, f.1)
+hunk_kind K.NoMemory start text x m f = absurd (m refl)
+hunk_kind k start text x m f = absurd f
+
+a_number : (text : List ℕ) → NoNumber text → NoChange text → ⊥
+a_number text none c = none c.number c.lines c.number_read
+
+one_hunk_fault : (k l : FaultKind) (start text x y : List ℕ) → k ≢ K.NoMemory → l ≢ K.NoMemory → HunkFaultAt k start text x → HunkFaultAt l start text y → Same k l x y
+one_hunk_fault k l start text x y m n f g =
+    elim (hunk_kind k start text x m f) [
+      | inl p ↦ elim (hunk_kind l start text y n g) [ inl q ↦ both (p.0, p.1) (q.0, q.1) | inr q ↦ absurd (a_number text p.2 q.2) ]
+      | inr p ↦ elim (hunk_kind l start text y n g) [ inl q ↦ absurd (a_number text q.2 p.2) | inr q ↦ both (p.0, p.1) (q.0, q.1) ]
+    ]
+
+-- ---- one primitive
+
+-- a path that stands after a primitive's word is not at fault
+path_stands : (k : FaultKind) (w text mid x : List ℕ) (p : Path) (stands : WordAmong prim_words text) → k ≢ K.NoMemory → PathFaultAt k stands.rest x → WordAndPath w text p mid → ⊥
+path_stands k w text mid x p stands m f s =
+    let one = one_word text w stands.word s.after stands.rest s.named stands.stands in
+    no_path k stands.rest x m f p mid (subst (λ (t : List ℕ). NextPath t p mid) one.1 s.path)
+
+-- no word is two words
+two_words : (text mid mid' : List ℕ) (p q : Path) → WordAndPath (codes "move") text p mid → WordAndPath (codes "hunk") text q mid' → ⊥
+two_words text mid mid' p q a b = other_text (codes "move") (codes "hunk") refl (one_word text (codes "move") (codes "hunk") a.after b.after a.named b.named).0
+
+one_prim_fault : (k l : FaultKind) (text x y : List ℕ) → k ≢ K.NoMemory → l ≢ K.NoMemory → PrimFaultAt k text x → PrimFaultAt l text y → Same k l x y
+one_prim_fault k l text x y m n (path a f) (path b g) =
+    let one = one_word text a.word b.word a.rest b.rest a.stands b.stands in
+    one_path_fault k l b.rest x y m n (subst (λ (t : List ℕ). PathFaultAt k t x) one.1 f) g
+one_prim_fault k l text x y m n (path a f) (second q mid t g) = absurd (path_stands k (codes "move") text mid x q a m f t)
+one_prim_fault k l text x y m n (path a f) (hunk q mid t g) = absurd (path_stands k (codes "hunk") text mid x q a m f t)
+one_prim_fault k l text x y m n (second p mid s f) (path b g) = absurd (path_stands l (codes "move") text mid y p b n g s)
+one_prim_fault k l text x y m n (second p mid s f) (second q mid' t g) =
+    let one = one_single (codes "move") text p q mid mid' s t in
+    one_path_fault k l mid' x y m n (subst (λ (u : List ℕ). PathFaultAt k u x) one.1 f) g
+one_prim_fault k l text x y m n (second p mid s f) (hunk q mid' t g) = absurd (two_words text mid mid' p q s t)
+one_prim_fault k l text x y m n (hunk p mid s f) (path b g) = absurd (path_stands l (codes "hunk") text mid y p b n g s)
+one_prim_fault k l text x y m n (hunk p mid s f) (second q mid' t g) = absurd (two_words text mid' mid q p t s)
+one_prim_fault k l text x y m n (hunk p mid s f) (hunk q mid' t g) =
+    let one = one_single (codes "hunk") text p q mid mid' s t in
+    one_hunk_fault k l text mid' x y m n (subst (λ (u : List ℕ). HunkFaultAt k text u x) one.1 f) g
+
+-- ---- after primitives
+
+-- what is wrong after so many primitives
+abbrev pub Wrongs : Type 1
+Wrongs = ℕ → List ℕ → List ℕ → Type 0
+
+-- it leaves no place for a further one, within the count
+abbrev NoFurther : Wrongs → List ℕ → Type 0
+NoFurther W x = (count : ℕ) (text : List ℕ) → count < 10000 → W count text x → (p : Prim) (r : List ℕ) → PrimText text p r → ⊥
+
+one_after : (W V : Wrongs) (text x y : List ℕ) (Goal : Type 0) → NoFurther W x → NoFurther V y → ((count : ℕ) (next : List ℕ) → W count next x → V count next y → Goal) → AfterPrims W text x → AfterPrims V text y → Goal
+one_after W V text x y Goal no_w no_v same a b =
+    elim (meet NextPrim one_next text a.prims b.prims a.mid b.mid a.read b.read) [
+      | inl e ↦ same (length b.prims) (skipped b.mid) (subst (λ (t : List ℕ). W (length b.prims) (skipped t) x) e.1 (subst (λ (ps : List Prim). W (length ps) (skipped a.mid) x) e.0 a.wrong)) b.wrong
+      | inr o ↦ elim o [
+        | inl g ↦ absurd (no_w (length a.prims) (skipped a.mid) (omega (arith, b.few, ap length g.longer, length-append a.prims (g.next ∷ g.more))) a.wrong g.next g.after g.stands)
+        | inr g ↦ absurd (no_v (length b.prims) (skipped b.mid) (omega (arith, a.few, ap length g.longer, length-append b.prims (g.next ∷ g.more))) b.wrong g.next g.after g.stands)
+      ]
+    ]
+
+count_kind : (k : FaultKind) (count : ℕ) (text x : List ℕ) → k ≢ K.NoMemory → CountFaultAt k count text x → (k ≡ K.TooMany) × (x ≡ text) × (count ≡ 10000) × WordAmong prim_words text
+count_kind K.TooMany count text x m f = (refl, f.0, f.1, f.2)
+count_kind K.NoMemory count text x m f = absurd (m refl)
+count_kind k count text x m f = absurd f
+
+-- one of the primitives is wrong, by their count or by itself
+abbrev Next : FaultKind → Wrongs
+Next k count next x = CountFaultAt k count next x ⊎ ((count < 10000) × PrimFaultAt k next x)
+
+next_no_further : (k : FaultKind) (x : List ℕ) → k ≢ K.NoMemory → NoFurther (Next k) x
+next_no_further k x m count text lt f p r s =
+    elim f [ inl a ↦ (let c = count_kind k count text x m a in omega (arith, lt, c.2)) | inr a ↦ no_prim k text x m a.1 p r s ]
+
+next_due : (k : FaultKind) (count : ℕ) (text x : List ℕ) → k ≢ K.NoMemory → Next k count text x → WordAmong prim_words text
+next_due k count text x m f = elim f [ inl a ↦ (count_kind k count text x m a).3 | inr a ↦ prim_due k text x a.1 ]
+
+one_next_fault : (k l : FaultKind) (x y : List ℕ) (count : ℕ) (text : List ℕ) → k ≢ K.NoMemory → l ≢ K.NoMemory → Next k count text x → Next l count text y → Same k l x y
+one_next_fault k l x y count text m n f g =
+    elim f [
+      | inl a ↦
+          let c = count_kind k count text x m a in
+          elim g [ inl b ↦ (let d = count_kind l count text y n b in both (c.0, c.1) (d.0, d.1)) | inr b ↦ absurd (let lt = b.0 in omega (arith, lt, c.2)) ]
+      | inr a ↦ elim g [
+        | inl b ↦ absurd (let d = count_kind l count text y n b in let lt = a.0 in omega (arith, lt, d.2))
+        | inr b ↦ one_prim_fault k l text x y m n a.1 b.1
+      ]
+    ]
+
+-- ---- bodies
+
+brace_kind : (k : FaultKind) (text x : List ℕ) → BraceFaultAt k text x → (x ≡ text)
+    × (((k ≡ K.Unclosed) × (text ≡ [])) ⊎ (((k ≡ K.Unsupported) × (WordAmong unsupported_words text ⊎ (Begins 123 text ⊎ Begins 40 text))) ⊎ ((k ≡ K.BadPatch) × (text ≢ []) × (Begins 123 text → ⊥) × RunEnds text)))
+brace_kind K.Unclosed text x f = (f.0, inl (refl, f.1))
+brace_kind K.Unsupported text x f = (f.0, inr (inl (refl, f.1)))
+brace_kind K.BadPatch text x f = (f.0, inr (inr (refl, f.1, f.3, f.4)))
+brace_kind k text x f = absurd f
+
+not_at_end : (b : ℕ) (text : List ℕ) → text ≡ [] → Begins b text → ⊥
+not_at_end b text e o = let f : [] ≡ b ∷ o.0 = sym e ∙ o.1 in cc
+
+refused_at_end : (text : List ℕ) → text ≡ [] → WordAmong unsupported_words text ⊎ (Begins 123 text ⊎ Begins 40 text) → ⊥
+refused_at_end text e r = elim r [ inl w ↦ no_word_end unsupported_words text refl e w | inr o ↦ elim o [ inl b ↦ not_at_end 123 text e b | inr b ↦ not_at_end 40 text e b ] ]
+
+refused_no_bad : (text : List ℕ) → (Begins 123 text → ⊥) → RunEnds text → WordAmong unsupported_words text ⊎ (Begins 123 text ⊎ Begins 40 text) → ⊥
+refused_no_bad text bare ends r = elim r [ inl w ↦ ends.others w | inr o ↦ elim o [ inl b ↦ bare b | inr b ↦ ends.paren b ] ]
+
+one_brace_fault : (k l : FaultKind) (text x y : List ℕ) → BraceFaultAt k text x → BraceFaultAt l text y → Same k l x y
+one_brace_fault k l text x y f g =
+    let a = brace_kind k text x f in
+    let b = brace_kind l text y g in
+    elim a.1 [
+      | inl p ↦ elim b.1 [ inl q ↦ both (p.0, a.0) (q.0, b.0) | inr o ↦ elim o [ inl q ↦ absurd (refused_at_end text p.1 q.1) | inr q ↦ absurd (q.1 p.1) ] ]
+      | inr o ↦ elim o [
+        | inl p ↦ elim b.1 [ inl q ↦ absurd (refused_at_end text q.1 p.1) | inr o ↦ elim o [ inl q ↦ both (p.0, a.0) (q.0, b.0) | inr q ↦ absurd (refused_no_bad text q.2 q.3 p.1) ] ]
+        | inr p ↦ elim b.1 [ inl q ↦ absurd (p.1 q.1) | inr o ↦ elim o [ inl q ↦ absurd (refused_no_bad text p.2 p.3 q.1) | inr q ↦ both (p.0, a.0) (q.0, b.0) ] ]
+      ]
+    ]
+
+run_kind : (k : FaultKind) (text x : List ℕ) → RunFaultAt k text x → (k ≡ K.Unsupported) × (x ≡ text)
+run_kind K.Unsupported text x f = (refl, f.0)
+run_kind k text x f = absurd f
+
+brace_no_further : (k : FaultKind) (x : List ℕ) → NoFurther (λ _. BraceFaultAt k) x
+brace_no_further k x count text lt f p r s = not_prim k text x f (prim_a_word text p r s)
+
+run_no_further : (k : FaultKind) (x : List ℕ) → NoFurther (λ _. RunFaultAt k) x
+run_no_further k x count text lt f p r s = run_no_prim k text x f (prim_a_word text p r s)
+
+one_in_braces : (k l : FaultKind) (text x y : List ℕ) → k ≢ K.NoMemory → l ≢ K.NoMemory → PrimsFaultAt k text x ⊎ AfterPrims (λ _. BraceFaultAt k) text x → PrimsFaultAt l text y ⊎ AfterPrims (λ _. BraceFaultAt l) text y → Same k l x y
+one_in_braces k l text x y m n f g =
+    elim f [
+      | inl a ↦ elim g [
+        | inl b ↦ one_after (Next k) (Next l) text x y (Same k l x y) (next_no_further k x m) (next_no_further l y n) (λ count next u v. one_next_fault k l x y count next m n u v) a b
+        | inr b ↦ one_after (Next k) (λ _. BraceFaultAt l) text x y (Same k l x y) (next_no_further k x m) (brace_no_further l y) (λ count next u v. absurd (not_prim l next y v (next_due k count next x m u))) a b
+      ]
+      | inr a ↦ elim g [
+        | inl b ↦ one_after (λ _. BraceFaultAt k) (Next l) text x y (Same k l x y) (brace_no_further k x) (next_no_further l y n) (λ count next u v. absurd (not_prim k next x u (next_due l count next y n v))) a b
+        | inr b ↦ one_after (λ _. BraceFaultAt k) (λ _. BraceFaultAt l) text x y (Same k l x y) (brace_no_further k x) (brace_no_further l y) (λ count next u v. one_brace_fault k l next x y u v) a b
+      ]
+    ]
+
+one_in_run : (k l : FaultKind) (text x y : List ℕ) → k ≢ K.NoMemory → l ≢ K.NoMemory → PrimsFaultAt k text x ⊎ AfterPrims (λ _. RunFaultAt k) text x → PrimsFaultAt l text y ⊎ AfterPrims (λ _. RunFaultAt l) text y → Same k l x y
+one_in_run k l text x y m n f g =
+    elim f [
+      | inl a ↦ elim g [
+        | inl b ↦ one_after (Next k) (Next l) text x y (Same k l x y) (next_no_further k x m) (next_no_further l y n) (λ count next u v. one_next_fault k l x y count next m n u v) a b
+        | inr b ↦ one_after (Next k) (λ _. RunFaultAt l) text x y (Same k l x y) (next_no_further k x m) (run_no_further l y) (λ count next u v. absurd (run_no_prim l next y v (next_due k count next x m u))) a b
+      ]
+      | inr a ↦ elim g [
+        | inl b ↦ one_after (λ _. RunFaultAt k) (Next l) text x y (Same k l x y) (run_no_further k x) (next_no_further l y n) (λ count next u v. absurd (run_no_prim k next x u (next_due l count next y n v))) a b
+        | inr b ↦ one_after (λ _. RunFaultAt k) (λ _. RunFaultAt l) text x y (Same k l x y) (run_no_further k x) (run_no_further l y) (λ count next u v. both (run_kind k next x u) (run_kind l next y v)) a b
+      ]
+    ]
+
+one_body_fault : (k l : FaultKind) (text x y : List ℕ) → k ≢ K.NoMemory → l ≢ K.NoMemory → BodyFaultAt k text x → BodyFaultAt l text y → Same k l x y
+one_body_fault k l text x y m n (in_braces inside opens f) (in_braces inside' opens' g) =
+    let same = tail_same 123 (skipped text) inside inside' opens opens' in
+    one_in_braces k l inside' x y m n (subst (λ (t : List ℕ). PrimsFaultAt k t x ⊎ AfterPrims (λ _. BraceFaultAt k) t x) same f) g
+one_body_fault k l text x y m n (in_braces inside opens f) (in_run bare g) = absurd (bare (inside, opens))
+one_body_fault k l text x y m n (in_run bare f) (in_braces inside opens g) = absurd (bare (inside, opens))
+one_body_fault k l text x y m n (in_run bare f) (in_run bare' g) = one_in_run k l text x y m n f g
+
+-- ---- dependencies
+
+depends_kind : (k : FaultKind) (text x : List ℕ) → DependsFaultAt k text x → (k ≡ K.BadDepends) × (x ≡ text)
+depends_kind K.BadDepends text x f = (refl, f.0)
+depends_kind k text x f = absurd f
+
+pub one_info_next : (text : List ℕ) (i j : PatchInfo) (r s : List ℕ) → NextInfo text i r → NextInfo text j s → (i ≡ j) × (r ≡ s)
+one_info_next text i j r s a b = one_info (skipped text) i j r s a b
+
+-- what is wrong after patch infos leaves no place for a further one
+abbrev NoInfo : List ℕ → Type 0
+NoInfo mid = (i : PatchInfo) (r : List ℕ) → NextInfo mid i r → ⊥
+
+-- two that leave none stand at one place
+one_end : (text : List ℕ) (is js : List PatchInfo) (r s : List ℕ) → Many NextInfo text is r → Many NextInfo text js s → NoInfo r → NoInfo s → r ≡ s
+one_end text is js r s a b no_r no_s =
+    elim (meet NextInfo one_info_next text is js r s a b) [ inl e ↦ e.1 | inr o ↦ elim o [ inl g ↦ absurd (no_r g.next g.after g.stands) | inr g ↦ absurd (no_s g.next g.after g.stands) ] ]
+
+infos_end : (k : FaultKind) (text x : List ℕ) → k ≢ K.NoMemory → (f : InfosFaultAt k text x) → NoInfo f.mid
+infos_end k text x m f i r s = no_info k (skipped f.mid) x m f.wrong i r s
+
+open_end : (k : FaultKind) (text x : List ℕ) → (f : OpenFaultAt k text x) → NoInfo f.mid
+open_end k text x f i r s = no_more_infos k (skipped f.mid) x f.wrong (stands_opens (skipped f.mid) i r s)
+
+infos_or_open : (k l : FaultKind) (text x y : List ℕ) → k ≢ K.NoMemory → InfosFaultAt k text x → OpenFaultAt l text y → ⊥
+infos_or_open k l text x y m f g =
+    let same = one_end text f.infos g.infos f.mid g.mid f.read g.read (infos_end k text x m f) (open_end l text y g) in
+    no_more_infos l (skipped g.mid) y g.wrong (subst (λ (t : List ℕ). Begins 91 (skipped t)) same f.opens)
+
+one_in_angles : (k l : FaultKind) (text x y : List ℕ) → k ≢ K.NoMemory → l ≢ K.NoMemory → InfosFaultAt k text x ⊎ OpenFaultAt k text x → InfosFaultAt l text y ⊎ OpenFaultAt l text y → Same k l x y
+one_in_angles k l text x y m n f g =
+    elim f [
+      | inl a ↦ elim g [
+        | inl b ↦
+            let same = one_end text a.infos b.infos a.mid b.mid a.read b.read (infos_end k text x m a) (infos_end l text y n b) in
+            one_info_fault k l (skipped b.mid) x y m n (subst (λ (t : List ℕ). InfoFaultAt k (skipped t) x) same a.wrong) b.wrong
+        | inr b ↦ absurd (infos_or_open k l text x y m a b)
+      ]
+      | inr a ↦ elim g [
+        | inl b ↦ absurd (infos_or_open l k text y x n b a)
+        | inr b ↦
+            let same = one_end text a.infos b.infos a.mid b.mid a.read b.read (open_end k text x a) (open_end l text y b) in
+            both (depends_kind k (skipped b.mid) x (subst (λ (t : List ℕ). DependsFaultAt k (skipped t) x) same a.wrong)) (depends_kind l (skipped b.mid) y b.wrong)
+      ]
+    ]
+
+one_deps_fault : (k l : FaultKind) (text x y : List ℕ) → k ≢ K.NoMemory → l ≢ K.NoMemory → DepsFaultAt k text x → DepsFaultAt l text y → Same k l x y
+one_deps_fault k l text x y m n f g =
+    let same = tail_same 60 (skipped text) f.inside g.inside f.opens g.opens in
+    one_in_angles k l g.inside x y m n (subst (λ (t : List ℕ). InfosFaultAt k t x ⊎ OpenFaultAt k t x) same f.wrong) g.wrong
+
+-- ---- named patches
+
+-- a fault of the dependencies, where they stand
+deps_or_body : (k : FaultKind) (text x : List ℕ) (i j : PatchInfo) (after after' start : List ℕ) (ds : List PatchInfo) → k ≢ K.NoMemory → Stands text i after → DepsFaultAt k after x → Stands text j after' → Dependencies after' ds start → ⊥
+deps_or_body k text x i j after after' start ds m s f t d =
+    let one = one_info text i j after after' s t in
+    no_deps k after' x m (subst (λ (u : List ℕ). DepsFaultAt k u x) one.1 f) ds start d
+
+pub one_patch_fault : (k l : FaultKind) (text x y : List ℕ) → k ≢ K.NoMemory → l ≢ K.NoMemory → PatchFaultAt k text x → PatchFaultAt l text y → Same k l x y
+one_patch_fault k l text x y m n (info f) (info g) = one_info_fault k l text x y m n f g
+one_patch_fault k l text x y m n (info f) (deps j after t g) = absurd (no_info k text x m f j after t)
+one_patch_fault k l text x y m n (info f) (body j es after start t e g) = absurd (no_info k text x m f j after t)
+one_patch_fault k l text x y m n (deps i after s f) (info g) = absurd (no_info l text y n g i after s)
+one_patch_fault k l text x y m n (deps i after s f) (deps j after' t g) =
+    let one = one_info text i j after after' s t in
+    one_deps_fault k l after' x y m n (subst (λ (u : List ℕ). DepsFaultAt k u x) one.1 f) g
+one_patch_fault k l text x y m n (deps i after s f) (body j es after' start t e g) = absurd (deps_or_body k text x i j after after' start es m s f t e)
+one_patch_fault k l text x y m n (body i ds after start s d f) (info g) = absurd (no_info l text y n g i after s)
+one_patch_fault k l text x y m n (body i ds after start s d f) (deps j after' t g) = absurd (deps_or_body l text y j i after' after start ds n t g s d)
+one_patch_fault k l text x y m n (body i ds after start s d f) (body j es after' start' t e g) =
+    let one = one_info text i j after after' s t in
+    let two = one_depends after' ds es start start' (subst (λ (u : List ℕ). Dependencies u ds start) one.1 d) e in
+    one_body_fault k l start' x y m n (subst (λ (u : List ℕ). BodyFaultAt k u x) two.1 f) g

@@ -1,0 +1,33 @@
+-- What `dm run` answers.
+use Rattle.std.specs.Prelude.{◌≡◌, ◌⊎◌, ℕ, suc, List, [], ◌∷◌, ◌++◌, codes}
+use Rattle.std.specs.Fmt.{decimal}
+use Rattle.dm_named.specs.Patches.{Patch}
+use Rattle.dm_scratch.specs.Printing.{line_of}
+use Rattle.dm_mirror.specs.declared.outcome.Outcome.{Outcome}
+use Rattle.dm_mirror.specs.Plans.{AreStarts}
+use Rattle.dm_mirror.specs.Runs.{AllAccepted, IsRunOf}
+use Rattle.dm_mirror.specs.Report.{IsReport}
+
+-- the line of a poster: its number and its name
+abbrev pub poster_line : ℕ → List ℕ → List ℕ
+poster_line number name = line_of (codes "poster " ++ (decimal number ++ 32 ∷ name))
+
+-- a line for each poster, numbered from n on
+abbrev pub posters_text : ℕ → List (List ℕ) → List ℕ
+posters_text n [] = []
+posters_text n (name ∷ names) = poster_line n name ++ posters_text (suc n) names
+
+-- the exit status: 0 where each mirror took every bundle or had its patches already, else 1
+abbrev pub IsStatusOf : Outcome → ℕ → Type 0
+IsStatusOf o status = (AllAccepted o.mirrors.items × (status ≡ 0)) ⊎ ((AllAccepted o.mirrors.items → ⊥) × (status ≡ 1))
+
+-- a run of posters of these names, which send these texts, to mirrors of these bases is answered by these bytes and this exit status
+pub record RunsTo (names : List (List ℕ)) (texts : List (List (List ℕ))) (bases : List (List ℕ)) (out : List ℕ) (status : ℕ) : Type 0 where
+  pub starts : List (List Patch)
+  pub are_starts : AreStarts bases starts
+  pub outcome : Outcome
+  pub is_run : IsRunOf texts starts outcome
+  pub report : List ℕ
+  pub is_report : IsReport outcome report
+  pub bytes : out ≡ posters_text 0 names ++ report
+  pub exit : IsStatusOf outcome status

@@ -1,0 +1,129 @@
+//! The words of `dm run`, and what they start.
+use crate::files::{WordFault, read_file};
+use crate::running::run_over;
+use clap::ArgMatches;
+use indexmap::IndexMap;
+use memchr::memchr;
+use std::alloc::{AllocError, Global};
+use std::io;
+use std::rt::Runtime;
+use std::sync::Wait;
+use std::thread::Threads;
+
+/// The most bases that are handed in, one more than any plan takes.
+const MOST_BASES: u32 = 9;
+
+/// Posters in the order in which they were first named, each with the names of its files.
+type Posters<'a> = IndexMap<&'a str, Vec<&'a str>>;
+
+/// The poster and the file of a word `POSTER=FILE`. The file may be empty, the poster not.
+fn split_word(word: &str) -> Option<(&str, &str)> {
+    let at = memchr(b'=', word.as_bytes())?;
+    if at == 0 {
+        return None;
+    }
+    Some((word.get(..at)?, word.get(at + 1..)?))
+}
+
+/// The posters that these words name.
+fn posters_of<'a>(alloc: Global, words: &[&'a str]) -> Result<Posters<'a>, WordFault<'a>> {
+    let mut posters = IndexMap::new(alloc);
+    for word in words {
+        let Some((poster, file)) = split_word(word) else {
+            return Err(WordFault::BadPosterWord(word));
+        };
+        let files = posters.entry(poster)?.or_insert(Vec::new(alloc));
+        if !file.is_empty() {
+            files.push(file)?;
+        }
+    }
+    Ok(posters)
+}
+
+/// The bytes of each of these files.
+fn read_files<'a, R: Runtime + AllocGlobal>(
+    rt: &R,
+    files: &[&'a str],
+) -> Result<Vec<Vec<u8>>, WordFault<'a>> {
+    let mut texts = Vec::new(rt.alloc());
+    for file in files {
+        texts.push(read_file(rt, file)?)?;
+    }
+    Ok(texts)
+}
+
+/// Each poster with the bytes of its files.
+fn read_posters<'a, R: Runtime + AllocGlobal>(
+    rt: &R,
+    posters: &Posters<'a>,
+) -> Result<Vec<(&'a str, Vec<Vec<u8>>)>, WordFault<'a>> {
+    let mut read = Vec::new(rt.alloc());
+    for (poster, files) in posters.iter() {
+        read.push((*poster, read_files(rt, files)?))?;
+    }
+    Ok(read)
+}
+
+/// Each of these texts, borrowed.
+fn slices_of<'t>(alloc: Global, texts: &'t [Vec<u8>]) -> Result<Vec<&'t [u8]>, AllocError> {
+    let mut slices = Vec::with_capacity(alloc, texts.len())?;
+    for text in texts {
+        slices.push(text.as_slice())?;
+    }
+    Ok(slices)
+}
+
+/// Each poster with its texts, borrowed.
+fn lists_of<'n, 't>(
+    alloc: Global,
+    posters: &'t [(&'n str, Vec<Vec<u8>>)],
+) -> Result<Vec<(&'n str, Vec<&'t [u8]>)>, AllocError> {
+    let mut lists = Vec::with_capacity(alloc, posters.len())?;
+    for poster in posters {
+        lists.push((poster.0, slices_of(alloc, &poster.1)?))?;
+    }
+    Ok(lists)
+}
+
+/// Each poster with its texts, as a run takes them.
+fn named_lists<'n, 'l, 't>(
+    alloc: Global,
+    lists: &'l [(&'n str, Vec<&'t [u8]>)],
+) -> Result<Vec<(&'n str, &'l [&'t [u8]])>, AllocError> {
+    let mut named = Vec::with_capacity(alloc, lists.len())?;
+    for list in lists {
+        named.push((list.0, list.1.as_slice()))?;
+    }
+    Ok(named)
+}
+
+/// The same base for each mirror.
+fn bases_of<'t>(alloc: Global, base: &'t [u8], mirrors: u32) -> Result<Vec<&'t [u8]>, AllocError> {
+    let mut bases = Vec::new(alloc);
+    for _ in 0..mirrors.min(MOST_BASES) {
+        bases.push(base)?;
+    }
+    Ok(bases)
+}
+
+/// Runs the plan that the words name: the base is read first, then the files in the order of their posters. Answers the
+/// exit status.
+pub fn run_plan<'a, R: Runtime + AllocGlobal + Threads + Wait + Sync>(
+    rt: &R,
+    words: &ArgMatches<'a>,
+) -> Result<u8, WordFault<'a>> {
+    let alloc = rt.alloc();
+    let posters = posters_of(alloc, words.get_strs("posters").unwrap_or(&[]))?;
+    let base = match words.get_str("base") {
+        Some(name) => read_file(rt, name)?,
+        None => Vec::new(alloc),
+    };
+    let mirrors = words.get_one::<u32>("mirrors").unwrap_or(0);
+    let bound = words.get_one::<u32>("bound").unwrap_or(0);
+    let texts = read_posters(rt, &posters)?;
+    let lists = lists_of(alloc, &texts)?;
+    let named = named_lists(alloc, &lists)?;
+    let bases = bases_of(alloc, &base, mirrors)?;
+    let mut writer = io::writer(rt);
+    Ok(run_over(rt, alloc, &named, &bases, bound as usize, &mut writer)?)
+}

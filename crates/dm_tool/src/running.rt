@@ -1,0 +1,122 @@
+//! The command `dm run`.
+ghost use Rattle.std.specs.Prelude.{◌≡◌, ◌≢◌, ◌++◌, ℕ, List, map, take, IfOk, IfErr, OnOk};
+ghost use Rattle.std.specs.Io.KnownBytes.{Appends, Keeps};
+ghost use Rattle.dm_scratch.specs.declared.verdict.Verdict.{Verdict};
+ghost use Rattle.dm_mirror.specs.declared.plan.PlanFault.{PlanFault};
+ghost use Rattle.dm_mirror.specs.Plans.{IsFirstFault};
+ghost use Rattle.dm_mirror.specs.Report.{IsReport};
+ghost use Rattle.dm_tool.specs.Running.{IsStatusOf, RunsTo, poster_line, posters_text};
+
+use crate::fault::ToolFault;
+use crate::streams::write_text;
+use dm_mirror::{Open, Outcome, Plan, report_text, run};
+use std::alloc::{AllocError, Global};
+use std::io::Write;
+use std::sync::Wait;
+use std::thread::Threads;
+
+/// The texts of each poster.
+fn texts_of<'a>(
+    alloc: Global,
+    posters: &[(&'a str, &'a [&'a [u8]])],
+) -> Result<Vec<&'a [&'a [u8]]>, AllocError>
+    ensures { IfOk result (λ all. map (λ texts. map (λ text. text.now) texts.now) all.items ≡ map (λ p. map (λ text. text.now) p.1.now) posters.now) }
+{
+    let mut all = Vec::with_capacity(alloc, posters.len())?;
+    for poster in posters {
+        all.push(poster.1)?;
+    }
+    Ok(all)
+}
+
+/// The line of a poster.
+fn push_poster(number: usize, name: &str, out: &mut Vec<u8>) -> Result<(), AllocError>
+    ensures { OnOk result (out.new.items ≡ out.old.items ++ poster_line number name.now) }
+{
+    let line = format!(in *out.allocator(); "poster {number} {name}\n")?;
+    out.extend_from_slice(line.as_bytes())?;
+    Ok(())
+}
+
+/// A line for each poster.
+fn push_posters(posters: &[(&str, &[&[u8]])], out: &mut Vec<u8>) -> Result<(), AllocError>
+    ensures { OnOk result (out.new.items ≡ out.old.items ++ posters_text 0 (map (λ p. p.0.now) posters.now)) }
+{
+    for number in 0..posters.len() {
+        push_poster(number, posters[number].0, out)?;
+    }
+    Ok(())
+}
+
+/// What is printed of a run: a line for each poster, and the report.
+fn run_text(
+    alloc: Global,
+    posters: &[(&str, &[&[u8]])],
+    outcome: &Outcome,
+) -> Result<Vec<u8>, AllocError>
+    ensures { IfOk result (λ text. (report : List ℕ) × IsReport outcome.now report × (text.items ≡ posters_text 0 (map (λ p. p.0.now) posters.now) ++ report)) }
+{
+    let mut text = Vec::new(alloc);
+    push_posters(posters, &mut text)?;
+    let report = report_text(alloc, outcome)?;
+    text.extend_from_slice(&report)?;
+    Ok(text)
+}
+
+/// The exit status of a run: 0 where each mirror took every bundle or had its patches already, else 1.
+fn status_of(outcome: &Outcome) -> u8
+    ensures { IsStatusOf outcome.now result }
+{
+    if outcome.all_accepted() { 0 } else { 1 }
+}
+
+/// What a run prints, and its exit status.
+fn answer_of<R: Threads + Wait + Sync>(
+    rt: &R,
+    alloc: Global,
+    posters: &[(&str, &[&[u8]])],
+    bases: &[&[u8]],
+    bound: usize,
+) -> Result<(Vec<u8>, u8), ToolFault>
+    ensures ok { IfOk result (λ x. RunsTo (map (λ p. p.0.now) posters.now) (map (λ p. map (λ text. text.now) p.1.now) posters.now) (map (λ base. base.now) bases.now) x.0.items x.1) }
+    ensures bad_plan { IfErr result (λ e. (fault : PlanFault) → (e ≡ ToolFault.BadPlan fault) → IsFirstFault (map (λ p. map (λ text. text.now) p.1.now) posters.now) (map (λ base. base.now) bases.now) bound fault) }
+    ensures unwritten { IfErr result (λ e. e ≢ ToolFault.Write) }
+    ensures unread { IfErr result (λ e. e ≢ ToolFault.Read) }
+    ensures no_base { IfErr result (λ e. (v : Verdict) → e ≢ ToolFault.BadBase v) }
+{
+    let texts = texts_of(alloc, posters)?;
+    let plan = Plan::build(alloc, &texts, bases, bound)?;
+    let outcome = run(rt, alloc, plan, &Open)?;
+    let text = run_text(alloc, posters, &outcome)?;
+    Ok((text, status_of(&outcome)))
+}
+
+/// Runs a plan of posters, each with its name and the texts of its bundles, and of mirrors, each with the text of its base,
+/// where an empty text is an empty repository. Writes a line for each poster and then the report. Answers the exit status:
+/// 0 where each mirror took every bundle or had its patches already, else 1.
+///
+/// Errors: [`ToolFault::BadPlan`] where there is no such plan; [`ToolFault::NoThread`]; [`ToolFault::NoMemory`];
+/// [`ToolFault::Write`]. Only after the last has anything been written, which is a prefix of the output.
+pub fn run_over<R: Threads + Wait + Sync, W: Write>(
+    rt: &R,
+    alloc: Global,
+    posters: &[(&str, &[&[u8]])],
+    bases: &[&[u8]],
+    bound: usize,
+    writer: &mut W,
+) -> Result<u8, ToolFault>
+    ensures ok { IfOk result (λ status. (out : List ℕ) ×
+        RunsTo (map (λ p. p.0.now) posters.now) (map (λ p. map (λ text. text.now) p.1.now) posters.now) (map (λ base. base.now) bases.now) out status ×
+        Appends (W.contents writer.old) (W.contents writer.new) out) }
+    ensures bad_plan { IfErr result (λ e. (fault : PlanFault) → (e ≡ ToolFault.BadPlan fault) → IsFirstFault (map (λ p. map (λ text. text.now) p.1.now) posters.now) (map (λ base. base.now) bases.now) bound fault) }
+    ensures silent { IfErr result (λ e. (e ≢ ToolFault.Write) → Keeps (W.contents writer.old) (W.contents writer.new)) }
+    ensures prefix { IfErr result (λ e. (e ≡ ToolFault.Write) → (out : List ℕ) × (status : ℕ) × (count : ℕ) ×
+        RunsTo (map (λ p. p.0.now) posters.now) (map (λ p. map (λ text. text.now) p.1.now) posters.now) (map (λ base. base.now) bases.now) out status ×
+        Appends (W.contents writer.old) (W.contents writer.new) (take count out)) }
+    ensures unread { IfErr result (λ e. e ≢ ToolFault.Read) }
+    ensures no_base { IfErr result (λ e. (v : Verdict) → e ≢ ToolFault.BadBase v) }
+{
+    let (out, status) = answer_of(rt, alloc, posters, bases, bound)?;
+    write_text(&out, writer)?;
+    Ok(status)
+}
