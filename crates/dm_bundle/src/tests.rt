@@ -1,6 +1,6 @@
 use super::*;
 use bumpalo::Bump;
-use dm_named::{Named, read_named};
+use dm_named::{FaultKind, Named, read_named};
 use std::alloc::Allocator;
 use std::process::Abort;
 use std::test::Fail;
@@ -301,5 +301,25 @@ fn doubles(rt: HostRuntime) -> Result<(), Fail> {
             Err(Doubled) => assert_eq!(rt; answer, "doubled", "{what}"),
         }
     }
+    Ok(())
+}
+
+#[test]
+fn two_faults_take_no_memory(rt: HostRuntime) -> Result<(), Fail> {
+    let alloc = rt.alloc();
+    let arena = Bump::new(alloc);
+    let large = vec![in alloc; b'x'; MOST_BYTES + 1]?;
+    for (text, kind) in [
+        (b"".as_slice(), FaultKind::NoNewPatches),
+        (b"New patches\n", FaultKind::NoNewPatches),
+        (large.as_slice(), FaultKind::TooLarge),
+    ] {
+        let fault = read_bundle(&arena, text).err();
+        assert!(rt; fault.is_some_and(|fault| fault.kind == kind), "{kind}");
+        assert_eq!(rt; arena.allocated_bytes(), 0, "{kind}");
+    }
+    let text = text_of(alloc, "%N(a)adddir ./d|%C")?;
+    assert!(rt; read_bundle(&arena, &text).is_ok(), "a bundle");
+    assert!(rt; arena.allocated_bytes() > 0, "a bundle takes memory");
     Ok(())
 }

@@ -305,3 +305,27 @@ fn copies_between_allocators(rt: HostRuntime) -> Result<(), Fail> {
     copies(&rt, rt.alloc(), &bump)?;
     copies(&rt, &bump, rt.alloc())
 }
+
+#[test]
+fn refused_parts_take_no_memory(rt: HostRuntime) -> Result<(), Fail> {
+    let bump = Bump::new(rt.alloc());
+    for (name, author, date, line, fault) in [
+        ("x\n", "p", "d", "l", InfoFault::BadName),
+        ("x", "a*b", "d", "l", InfoFault::BadAuthor),
+        ("x", "p", "x]", "l", InfoFault::BadDate),
+        ("x", "p", "d", "\n", InfoFault::BadLog),
+    ] {
+        let made = Info::new(
+            &bump,
+            name.as_bytes(),
+            author.as_bytes(),
+            date.as_bytes(),
+            &[b"l".as_slice(), line.as_bytes()],
+        );
+        assert_eq!(rt; made.err(), Some(fault));
+        assert_eq!(rt; bump.allocated_bytes(), 0, "{fault}");
+    }
+    let made = Info::new(&bump, b"x", b"p", b"d", &[]);
+    assert!(rt; made.is_ok() && bump.allocated_bytes() > 0, "good parts");
+    Ok(())
+}

@@ -115,6 +115,9 @@ nothing past addfile a gives addfile a before nothing because the first list is 
 addfile a past nothing gives nothing before addfile a because the second list is empty
 hunk f 1 0 1 then hunk f 2 0 1 past hunk f 7 1 1 gives hunk f 5 1 1 before hunk f 1 0 1 then hunk f 2 0 1 because each of the first moves it up a line
 move a b past hunk b 1 0 1 then hunk b 3 0 1 gives hunk a 1 0 1 then hunk a 3 0 1 before move a b because each of the second goes back
+hunk f 1 0 1 then hunk f 2 0 1 then hunk f 3 0 1 past hunk f 7 1 1 then adddir k gives hunk f 4 1 1 then adddir k before hunk f 1 0 1 then hunk f 2 0 1 then hunk f 3 0 1 because each of three moves it up a line
+move a b then addfile h then adddir d past hunk b 1 0 1 gives hunk a 1 0 1 before move a b then addfile h then adddir d because the first of three has moved its file
+addfile g then addfile h then adddir d past rmfile h gives nothing because the second of three has added its file
 move d/f g then addfile h past move d e then adddir k gives move d e then adddir k before move e/f g then addfile h because two pass two
 ";
 
@@ -330,6 +333,11 @@ fn hunks_need_a_line_and_a_change<A: Allocator + Copy>(
         hunk(alloc, "f", 0, 0, 1)?.err(),
         Some(HunkFault::BadLine),
         "line 0"
+    );
+    assert_eq!(rt;
+        hunk(alloc, "f", 0, 0, 0)?.err(),
+        Some(HunkFault::BadLine),
+        "line 0, no lines"
     );
     assert_eq!(rt;
         hunk(alloc, "f", 1, 0, 0)?.err(),

@@ -53,7 +53,7 @@ fn merge_all<A: Allocator + Copy>(
 }
 
 /// Whether a repository of so many patches is too full for so many more.
-fn is_too_many(held: usize, more: usize) -> bool
+pub(crate) fn is_too_many(held: usize, more: usize) -> bool
     ensures { IsTrue result ↔ (most_patches < held + more) }
 {
     if held > MOST_PATCHES {

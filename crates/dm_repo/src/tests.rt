@@ -1,4 +1,5 @@
 use super::*;
+use crate::merge::is_too_many;
 use bumpalo::Bump;
 use dm_bundle::{Bundle, read_bundle, write_bundle};
 use dm_named::write_path;
@@ -275,4 +276,17 @@ fn one_bundle_step_by_step(rt: HostRuntime) -> Result<(), Fail> {
         );
     }
     Ok(())
+}
+
+#[test]
+fn a_repository_holds_at_most_100_000_patches(rt: HostRuntime) {
+    for (held, more, is_full) in [
+        (0, 100_000, false),
+        (99_999, 1, false),
+        (99_999, 2, true),
+        (100_000, 1, true),
+        (0, 100_001, true),
+    ] {
+        assert_eq!(rt; is_too_many(held, more), is_full, "{more} after {held}");
+    }
 }

@@ -174,3 +174,55 @@ fn a_verdict_is_printed(rt: HostRuntime) -> Result<(), Fail> {
     }
     Ok(())
 }
+
+/// Patches without primitives, whose names are so many numbers from the first on; the context is the number before.
+fn numbered(alloc: Global, first: u32, count: u32) -> Result<Vec<u8>, Fail> {
+    let mut text = Vec::from_slice(alloc, b"New patches:\n\n")?;
+    for name in first..first.wrapping_add(count) {
+        let patch = format!(in alloc; "[{name}\np**20240101000000] {{\n}}\n")?;
+        text.extend_from_slice(patch.as_bytes())?;
+    }
+    text.extend_from_slice(b"\nContext:\n\n")?;
+    if first > 0 {
+        let last = first.wrapping_sub(1);
+        let info = format!(in alloc; "[{last}\np**20240101000000] \n")?;
+        text.extend_from_slice(info.as_bytes())?;
+    }
+    Ok(text)
+}
+
+#[test]
+fn more_than_a_bundle_is_held(rt: HostRuntime) -> Result<(), Fail> {
+    let alloc = rt.alloc();
+    let mut arena = Bump::new(alloc);
+    let mut repo = Repo::new(alloc);
+    for (first, count) in [(0, 1000), (1000, 1000), (2000, 1)] {
+        let text = numbered(alloc, first, count)?;
+        assert_eq!(rt;
+            take(&mut repo, &mut arena, &text),
+            Verdict::Taken(count as usize),
+            "from {first} on"
+        );
+    }
+    assert_eq!(rt; repo.len(), 2001, "all are held");
+    Ok(())
+}
+
+#[test]
+fn the_arena_is_reset_at_each_taking(rt: HostRuntime) -> Result<(), Fail> {
+    let alloc = rt.alloc();
+    let mut arena = Bump::new(alloc);
+    let mut repo = Repo::new(alloc);
+    let mut used = 0;
+    for count in 0..404u32 {
+        let text = if count == 0 { TWO } else { COMMUTES };
+        take(&mut repo, &mut arena, text);
+        if count == 3 {
+            used = arena.allocated_bytes();
+        }
+    }
+    assert_eq!(rt; repo.len(), 3, "all are held");
+    assert!(rt; used > 0, "a taking is in the arena");
+    assert_eq!(rt; arena.allocated_bytes(), used, "as after 4 takings");
+    Ok(())
+}

@@ -2,7 +2,7 @@
 
 use crate::{Entry, Kind, LineFault, Lines, Path, PathFault, Tree, TreeFault};
 use bumpalo::Bump;
-use std::alloc::Allocator;
+use std::alloc::{Allocator, Global};
 use std::process::Abort;
 use std::test::Fail;
 
@@ -156,15 +156,20 @@ fn number(n: u128) -> [u8; 2] {
     [digit(n / 10), digit(n)]
 }
 
-/// What names with a slash between them make.
-fn made<A: Allocator + Copy>(alloc: A, text: &str) -> Result<Result<Path<A>, PathFault>, Fail> {
+/// Names with a slash between them, one by one.
+fn names_of<A: Allocator>(alloc: A, text: &str) -> Result<Vec<&[u8], A>, Fail> {
     let mut names = Vec::new(alloc);
     if !text.is_empty() {
         for name in text.as_bytes().split(|byte| *byte == b'/') {
             names.push(name)?;
         }
     }
-    Ok(Path::from_parts(alloc, &names))
+    Ok(names)
+}
+
+/// What names with a slash between them make.
+fn made<A: Allocator + Copy>(alloc: A, text: &str) -> Result<Result<Path<A>, PathFault>, Fail> {
+    Ok(Path::from_parts(alloc, &names_of(alloc, text)?))
 }
 
 /// A path.
@@ -247,10 +252,10 @@ fn signed<A: Allocator + Copy>(alloc: A, texts: &str, sign: &[u8]) -> Result<Lin
 }
 
 /// Edits a file; the rest of the row is a line, and old and new lines.
-fn edit<A: Allocator + Copy>(
-    alloc: A,
+fn edit<A: Allocator + Copy, B: Allocator + Copy>(
+    alloc: B,
     tree: &mut Tree<A>,
-    path: &Path<A>,
+    path: &Path<B>,
     rest: &str,
 ) -> Result<Result<(), TreeFault>, Fail> {
     let (line, texts) = rest.split_once(" ").ok_or("lines")?;
@@ -264,10 +269,10 @@ fn edit<A: Allocator + Copy>(
 }
 
 /// Adds each directory of a path.
-fn add_dirs<A: Allocator + Copy>(
-    alloc: A,
+fn add_dirs<A: Allocator + Copy, B: Allocator + Copy>(
+    alloc: B,
     tree: &mut Tree<A>,
-    path: &Path<A>,
+    path: &Path<B>,
 ) -> Result<Result<(), TreeFault>, Fail> {
     let mut names = Vec::new(alloc);
     for i in 0..path.len() {
@@ -280,8 +285,8 @@ fn add_dirs<A: Allocator + Copy>(
 }
 
 /// What the tree answers to a change.
-fn change<A: Allocator + Copy>(
-    alloc: A,
+fn change<A: Allocator + Copy, B: Allocator + Copy>(
+    alloc: B,
     tree: &mut Tree<A>,
     word: &str,
     names: &str,
@@ -442,4 +447,65 @@ fn over_the_heap(rt: HostRuntime) -> Result<(), Fail> {
 fn over_an_arena(rt: HostRuntime) -> Result<(), Fail> {
     let arena = Bump::new(rt.alloc());
     all(&rt, &arena, rt.alloc())
+}
+
+/// What an arena has taken, and what is left of the block that it is filling: equal where nothing was allocated.
+fn use_of(arena: &Bump) -> (usize, usize) {
+    (arena.allocated_bytes(), arena.chunk_capacity())
+}
+
+/// Each row of a part of the table of trees that refuses a change; answers how many there are.
+fn refused_changes(rt: &impl Abort, alloc: Global, part: &str) -> Result<u32, Fail> {
+    let arena = Bump::new(alloc);
+    let mut tree = Tree::new(&arena);
+    let mut count = 0u32;
+    for line in part.lines() {
+        let row = line.split_once(": ").unwrap_or(("", "")).1;
+        let (row, wanted) = row.split_once(" => ").unwrap_or(("", ""));
+        let (word, names) = row.split_once(" ").unwrap_or((row, ""));
+        if names.is_empty() || word == "list" || word == "size" {
+            continue;
+        }
+        let before = use_of(&arena);
+        if change(alloc, &mut tree, word, names)?.is_err() {
+            assert_eq!(rt; use_of(&arena), before, "{wanted}: {row}");
+            count = count.wrapping_add(1);
+        }
+    }
+    Ok(count)
+}
+
+/// Each row of the table of paths that refuses names; answers how many there are.
+fn refused_names(rt: &impl Abort, alloc: Global) -> Result<u32, Fail> {
+    let arena = Bump::new(alloc);
+    let mut count = 0u32;
+    for line in PATHS.lines() {
+        let (_, row) = line.split_once(": path ").unwrap_or(("", "a => Ok"));
+        let (names, wanted) = row.split_once(" => ").ok_or("an answer")?;
+        if wanted != "Ok" {
+            let made = Path::from_parts(&arena, &names_of(alloc, names)?);
+            assert!(rt; made.is_err(), "{wanted}");
+            assert_eq!(rt; use_of(&arena), (0, 0), "{wanted}");
+            count = count.wrapping_add(1);
+        }
+    }
+    Ok(count)
+}
+
+#[test]
+fn refusals_take_no_memory(rt: HostRuntime) -> Result<(), Fail> {
+    let alloc = rt.alloc();
+    let mut count = 0u32;
+    for part in TREES.split("\n\n") {
+        count = count.wrapping_add(refused_changes(&rt, alloc, part)?);
+    }
+    assert_eq!(rt; count, 22, "the changes that are refused");
+    assert_eq!(rt; refused_names(&rt, alloc)?, 6, "the names that are refused");
+    let arena = Bump::new(alloc);
+    let mut lines = Lines::new(&arena);
+    assert!(rt; lines.push(b"x\ny").is_err(), "a newline");
+    assert_eq!(rt; use_of(&arena), (0, 0), "nothing was taken");
+    assert!(rt; lines.push(b"x").is_ok(), "a line");
+    assert!(rt; use_of(&arena) != (0, 0), "a line takes memory");
+    Ok(())
 }
