@@ -1,12 +1,11 @@
 -- Mails that a mirror took, of posters that have ended.
-use Rattle.std.proofs.Common.{◌≡◌, ℕ, zero, suc, ◌+◌, ◌<◌, ◌≤◌, Bool, true, List, [], ◌∷◌, ◌++◌, Option, Some, None, slice_get, map, length, refl, sym, ap, ◌∙◌, subst, arith}
+use Rattle.std.proofs.Common.{◌≡◌, ℕ, zero, suc, ◌+◌, ◌<◌, Bool, true, List, [], ◌∷◌, ◌++◌, Option, Some, slice_get, map, length, refl, sym, ap, ◌∙◌, subst, arith}
 use Rattle.dm_named.specs.Patches.{Patch}
 use Rattle.dm_scratch.specs.declared.verdict.Verdict.{Verdict}
 use mathlib.Core.List.{IsPrefix}
 use Rattle.dm_mail.specs.declared.mail.Mail.{Mail}
 use Rattle.dm_mail.specs.Mails.{bundle, mark, mails_of, is_closed, count_bundles, numbered_mails, AllBelow}
-use Rattle.dm_mail.specs.Ends.{mails_of_two}
-use Rattle.dm_mail.specs.Laws.{AllTakenIsAllSent, total}
+use Rattle.dm_mail.specs.Laws.{AllTakenIsAllSent}
 use Rattle.dm_mail.proofs.MailLemmas.{mails_of-append}
 use Rattle.dm_mirror.specs.declared.mirror.Mirror.{Mirror}
 use Rattle.dm_mirror.specs.declared.mirror.Copies.{Copies}

@@ -1,9 +1,9 @@
 -- Mails that are taken, and one more.
-use Rattle.std.proofs.Common.{◌≡◌, ℕ, List, [], ◌∷◌, ◌++◌, Option, Some, None, refl, sym, subst, ap, ◌∙◌, append_assoc, append-nil}
+use Rattle.std.proofs.Common.{◌≡◌, ℕ, List, [], ◌∷◌, ◌++◌, Option, Some, None, refl, sym, ap, ◌∙◌, append_assoc, append-nil}
 use Rattle.std.specs.List.{flat_map}
 use Rattle.dm_named.specs.Patches.{Patch}
 use Rattle.dm_scratch.specs.declared.verdict.Verdict.{Verdict}
-use Rattle.dm_scratch.specs.Taking.{Takes, TakesEach}
+use Rattle.dm_scratch.specs.Taking.{TakesEach}
 use Rattle.dm_scratch.proofs.EachLemmas.{each_more}
 use Rattle.dm_mail.specs.declared.mail.Mail.{Mail}
 use Rattle.dm_mail.specs.declared.mail.Body.{Body}

@@ -1,8 +1,7 @@
 -- The mails of a poster that has sent its first texts.
 use Rattle.std.proofs.Common.{◌≡◌, ℕ, suc, ◌+◌, List, [], ◌∷◌, ◌++◌, length, map, refl, sym, ap, ◌∙◌, arith, append-nil, append_assoc, length-append}
 use Rattle.dm_mail.specs.declared.mail.Mail.{Mail}
-use Rattle.dm_mail.specs.declared.mail.Body.{Body}
-use Rattle.dm_mail.specs.Mails.{mail, bundle, mark, next_mail, numbered_mails, poster_mails}
+use Rattle.dm_mail.specs.Mails.{bundle, mark, next_mail, numbered_mails, poster_mails}
 use Rattle.dm_mail.proofs.MailLemmas.{next_body, length-numbered_mails}
 use Rattle.dm_mirror.specs.Deliveries.{all_mails}
 

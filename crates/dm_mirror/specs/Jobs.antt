@@ -1,13 +1,28 @@
--- What the threads hand back for their jobs.
-use Rattle.std.specs.Prelude.{◌≡◌, ℕ, length}
+-- What the threads of a run are given, and what they hand back.
+use Rattle.std.specs.Prelude.{◌≡◌, ◌+◌, ℕ, length}
 use Rattle.dm_mail.specs.Mails.{mails_of, AllBelow}
-use Rattle.dm_mail.specs.Ends.{EndsAs, SameInlet, outlet_poster, sent_mails, inlet_posters, taken_of}
+use Rattle.dm_mail.specs.declared.ends.Outlet.{Outlet}
+use Rattle.dm_mail.specs.declared.ends.Inlet.{Inlet}
+use Rattle.dm_mail.specs.Ends.{EndsAs, SameInlet, outlet_of, outlet_id, outlet_poster, sent_mails, inlet_id, inlet_posters, taken_of}
+use Rattle.dm_mirror.specs.declared.plan.Plan.{Plan}
 use Rattle.dm_mirror.specs.declared.jobs.PostJob.{PostJob}
 use Rattle.dm_mirror.specs.declared.jobs.Posted.{Posted}
 use Rattle.dm_mirror.specs.declared.jobs.TakeJob.{TakeJob}
 use Rattle.dm_mirror.specs.declared.jobs.Kept.{Kept}
 use Rattle.dm_mirror.specs.Deliveries.{all_mails, texts_of}
 use Rattle.dm_mirror.specs.PlainFolds.{IsPlainFold}
+
+-- how many mails a mirror takes in all: the bundles and the mark of each poster
+abbrev pub plan_mails : Plan → ℕ
+plan_mails plan = length plan.first_poster.items + length plan.second_poster.items + 2
+
+-- the ends of one mirror's mail: the outlets of the first and of the second poster, and the inlet
+pub record AreEnds (first second : Outlet) (inlet : Inlet) : Type 0 where
+  pub first_id : outlet_id first ≡ outlet_of (inlet_id inlet) 0
+  pub second_id : outlet_id second ≡ outlet_of (inlet_id inlet) 1
+  pub first_poster : outlet_poster first ≡ 0
+  pub second_poster : outlet_poster second ≡ 1
+  pub posters : inlet_posters inlet ≡ 2
 
 -- all bundles and then the mark were sent to both mirrors
 pub record DoesPost (job : PostJob) (done : Posted) : Type 0 where

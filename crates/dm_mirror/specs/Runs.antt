@@ -1,5 +1,5 @@
 -- What a run of a plan leaves.
-use Rattle.std.specs.Prelude.{◌≡◌, ◌<◌, ℕ, Bool, true, List, [], Option, Some, None, length, slice_get}
+use Rattle.std.specs.Prelude.{◌≡◌, ℕ, Bool, true, List, [], Option, Some, None, length, slice_get}
 use Rattle.std.specs.List.{All}
 use Rattle.dm_named.specs.Patches.{Patch}
 use Rattle.dm_scratch.specs.declared.verdict.Verdict.{Verdict}

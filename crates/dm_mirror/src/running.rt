@@ -2,7 +2,8 @@
 ghost use Rattle.std.specs.Prelude.{◌≡◌, ◌+◌, ◌<◌, ◌≤◌, ◌∷◌, ℕ, [], length, IfOk, vec_capacity};
 ghost use Rattle.dm_mail.specs.declared.opening.MailFault.{MailFault};
 ghost use Rattle.dm_mail.specs.Mails.{mails_of, is_closed, count_bundles, AllBelow};
-ghost use Rattle.dm_mail.specs.Ends.{outlet_of, outlet_id, outlet_poster, outlet_mails, inlet_id, inlet_posters, sent_id, sent_poster, sent_mails, taken_of};
+ghost use Rattle.dm_mail.specs.Ends.{outlet_of, outlet_mails, inlet_id, sent_id, sent_poster, sent_mails, taken_of};
+ghost use Rattle.dm_mirror.specs.Jobs.{plan_mails, AreEnds};
 ghost use Rattle.dm_mirror.specs.Plans.{plan_texts, plan_starts};
 ghost use Rattle.dm_mirror.specs.Runs.{IsRunOf};
 
@@ -37,9 +38,9 @@ fn open_two<R: Wait>(
     bound: usize,
 ) -> Result<(Outlet, Outlet, Inlet), RunFault>
     requires { (0 < bound) × (bound ≤ 64) }
-    ensures first { IfOk result (λ r. (outlet_id r.0 ≡ outlet_of (inlet_id r.2) 0) × (outlet_poster r.0 ≡ 0) × (outlet_mails r.0 ≡ [])) }
-    ensures second { IfOk result (λ r. (outlet_id r.1 ≡ outlet_of (inlet_id r.2) 1) × (outlet_poster r.1 ≡ 1) × (outlet_mails r.1 ≡ [])) }
-    ensures inlet { IfOk result (λ r. ((p : ℕ) → taken_of r.2 p ≡ []) × (inlet_posters r.2 ≡ 2)) }
+    ensures ends { IfOk result (λ r. AreEnds r.0 r.1 r.2) }
+    ensures unsent { IfOk result (λ r. (outlet_mails r.0 ≡ []) × (outlet_mails r.1 ≡ [])) }
+    ensures untaken { IfOk result (λ r. (p : ℕ) → taken_of r.2 p ≡ []) }
 {
     let (mut outlets, inlet) = match open(rt, alloc, POSTERS, bound) {
         Ok(ends) => ends,
@@ -49,6 +50,53 @@ fn open_two<R: Wait>(
         unreachable!()
     };
     Ok((first, second, inlet))
+}
+
+/// The jobs of both posters and of both mirrors, over mail that was opened for them, and the room for the outcome.
+fn jobs_of<R: Wait>(
+    rt: &R,
+    alloc: Global,
+    plan: Plan,
+) -> Result<((PostJob, PostJob), (TakeJob, TakeJob), Vec<Mirror>), RunFault>
+    ensures texts { IfOk result (λ r. (r.0.0.texts ≡ plan.first_poster) × (r.0.1.texts ≡ plan.second_poster)) }
+    ensures mirrors { IfOk result (λ r. (r.1.0.mirror ≡ plan.first_mirror) × (r.1.1.mirror ≡ plan.second_mirror)) }
+    ensures expected { IfOk result (λ r. (r.1.0.expected ≡ plan_mails plan) × (r.1.1.expected ≡ plan_mails plan)) }
+    ensures first_mail { IfOk result (λ r. AreEnds r.0.0.first r.0.1.first r.1.0.inlet) }
+    ensures second_mail { IfOk result (λ r. AreEnds r.0.0.second r.0.1.second r.1.1.inlet) }
+    ensures room { IfOk result (λ r. r.2 ≡ plan.outcome) }
+{
+    let Plan {
+        first_poster,
+        second_poster,
+        first_mirror,
+        second_mirror,
+        outcome,
+        bound,
+    } = plan;
+    let expected = first_poster.len() + second_poster.len() + POSTERS;
+    let (one_left, two_left, left) = open_two(rt, alloc, bound)?;
+    let (one_right, two_right, right) = open_two(rt, alloc, bound)?;
+    let one = PostJob {
+        first: one_left,
+        second: one_right,
+        texts: first_poster,
+    };
+    let two = PostJob {
+        first: two_left,
+        second: two_right,
+        texts: second_poster,
+    };
+    let left = TakeJob {
+        inlet: left,
+        mirror: first_mirror,
+        expected,
+    };
+    let right = TakeJob {
+        inlet: right,
+        mirror: second_mirror,
+        expected,
+    };
+    Ok(((one, two), (left, right), outcome))
 }
 
 /// A mirror that has taken all that both posters sent, once they have ended: with what they say.
@@ -92,38 +140,8 @@ pub fn run<R: Threads + Wait + Sync, G: Gate + Sync>(
 ) -> Result<Outcome, RunFault>
     ensures { IfOk result (IsRunOf (plan_texts plan) (plan_starts plan)) }
 {
-    let Plan {
-        first_poster,
-        second_poster,
-        first_mirror,
-        second_mirror,
-        outcome: mut mirrors,
-        bound,
-    } = plan;
-    let expected = first_poster.len() + second_poster.len() + POSTERS;
-    let (one_left, two_left, left) = open_two(rt, alloc, bound)?;
-    let (one_right, two_right, right) = open_two(rt, alloc, bound)?;
-    let one = PostJob {
-        first: one_left,
-        second: one_right,
-        texts: first_poster,
-    };
-    let two = PostJob {
-        first: two_left,
-        second: two_right,
-        texts: second_poster,
-    };
-    let left = TakeJob {
-        inlet: left,
-        mirror: first_mirror,
-        expected,
-    };
-    let right = TakeJob {
-        inlet: right,
-        mirror: second_mirror,
-        expected,
-    };
-    let ((one, two), (left, right)) = in_threads(rt, alloc, gate, (one, two), (left, right))?;
+    let (posters, takers, mut mirrors) = jobs_of(rt, alloc, plan)?;
+    let ((one, two), (left, right)) = in_threads(rt, alloc, gate, posters, takers)?;
     mirrors.push_reserved(settled(rt, one.first, two.first, left));
     mirrors.push_reserved(settled(rt, one.second, two.second, right));
     Ok(Outcome {

@@ -1,7 +1,7 @@
 ghost use Rattle.std.specs.Prelude.{◌<◌, length};
 
 use super::*;
-use dm_mail::{Body, MOST_BUNDLES};
+use dm_mail::MOST_BUNDLES;
 use dm_named::{FaultKind, ReadFault};
 use dm_repo::Refusal;
 use dm_scratch::Verdict;
@@ -312,4 +312,22 @@ fn a_base_of_each_mirror(rt: HostRuntime) -> Result<(), Fail> {
         "mirror 0\nclosed 0 yes\nclosed 1 yes\npatches 1\ndir ./d\nmirror 1\nclosed 0 yes\nclosed 1 yes\npatches 1\ndir ./e\nsent 0 0 0 yes\nsent 0 1 0 yes\nsent 1 0 0 yes\nsent 1 1 0 yes\n";
     assert!(rt; text.as_slice() == expected.as_bytes());
     Ok(())
+}
+
+#[test]
+fn a_report_is_written_as_far_as_there_is_room(rt: HostRuntime) {
+    let text = b"mirror 0\npatches 0\n";
+    for room in 0..20usize {
+        let mut buffer = [0u8; 20];
+        let mut rest = &mut buffer[..room];
+        let found = write_report(text, &mut rest);
+        assert!(rt; rest.is_empty(), "all room is used: {room}");
+        assert!(rt; buffer.get(..room) == text.get(..room), "a prefix: {room}");
+        let expected = if room < 19 {
+            Err(WriteFault::Device)
+        } else {
+            Ok(())
+        };
+        assert_eq!(rt; found, expected, "the answer: {room}");
+    }
 }

@@ -112,31 +112,23 @@ pub(crate) fn in_threads<R: Threads + Wait + Sync, G: Gate + Sync>(
         {
             let (one, two) = posters;
             let (left, right) = mirrors;
-            let Ok(one) = scope.spawn_with(
+            let one = scope.spawn_with(
                 WillPost(Snapshot::of(&one)),
                 move || post_once_open(rt, line, one),
-            ) else {
-                line.call_off(rt);
-                return Err(RunFault::NoThread);
-            };
-            let Ok(two) = scope.spawn_with(
+            );
+            let two = scope.spawn_with(
                 WillPost(Snapshot::of(&two)),
                 move || post_once_open(rt, line, two),
-            ) else {
-                line.call_off(rt);
-                return Err(RunFault::NoThread);
-            };
-            let Ok(left) = scope.spawn_with(
+            );
+            let left = scope.spawn_with(
                 WillTake(Snapshot::of(&left)),
                 move || take_once_open(rt, alloc, line, gate, 0, left),
-            ) else {
-                line.call_off(rt);
-                return Err(RunFault::NoThread);
-            };
-            let Ok(right) = scope.spawn_with(
+            );
+            let right = scope.spawn_with(
                 WillTake(Snapshot::of(&right)),
                 move || take_once_open(rt, alloc, line, gate, 1, right),
-            ) else {
+            );
+            let (Ok(one), Ok(two), Ok(left), Ok(right)) = (one, two, left, right) else {
                 line.call_off(rt);
                 return Err(RunFault::NoThread);
             };

@@ -5,7 +5,7 @@ use crate::fault::ToolFault;
 use crate::files::{WordFault, read_file};
 use crate::plan_words::run_plan;
 use clap::error::ErrorKind;
-use clap::{Arg, ArgAction, ArgMatches, Command, value_parser};
+use clap::{Arg, ArgAction, ArgMatches, Command, Error, value_parser};
 use std::alloc::{AllocError, Global};
 use std::rt::Runtime;
 use std::sync::Wait;
@@ -18,64 +18,84 @@ const NO_ANSWER: u8 = 2;
 /// What `dm --version` prints after the program's name.
 const VERSION: &str = "0.1.0";
 
-/// The commands and their words.
-fn program<'a>(alloc: Global) -> Result<Command<'a>, AllocError> {
-    let base = Arg::new(alloc, "base")
+/// A word that names the file of a base.
+fn base<'a>(alloc: Global, help: &'a str) -> Arg<'a> {
+    Arg::new(alloc, "base")
         .long("base")
         .value_name("FILE")
-        .help("Take the bundle of FILE first");
-    let bundle = Arg::new(alloc, "bundle")
+        .help(help)
+}
+
+/// The word that asks for a bundle.
+fn bundle<'a>(alloc: Global) -> Arg<'a> {
+    Arg::new(alloc, "bundle")
         .long("bundle")
         .action(ArgAction::SetTrue)
-        .help("Print the repository as a bundle in place of the listing");
-    let apply = Command::new(alloc, "apply")
-        .about(
-            "Take the patch bundle on standard input; print the verdict and the listing of the tree",
-        )
-        .arg(base)?
-        .arg(bundle)?;
-    let check = Command::new(alloc, "check").about(
-        "Read the patch bundle on standard input; print its canonical text, or what is wrong with it",
-    );
-    let mirrors = Arg::new(alloc, "mirrors")
-        .long("mirrors")
-        .value_name("M")
+        .help("Print the repository as a bundle in place of the listing")
+}
+
+/// A word that takes a number, which has to be there.
+fn number<'a>(alloc: Global, name: &'a str, value: &'a str, help: &'a str) -> Arg<'a> {
+    Arg::new(alloc, name)
+        .long(name)
+        .value_name(value)
         .value_parser(value_parser!(u32))
         .required(true)
-        .help("How many mirrors there are; two");
-    let bound = Arg::new(alloc, "bound")
-        .long("bound")
-        .value_name("B")
-        .value_parser(value_parser!(u32))
-        .required(true)
-        .help("How many mails of a poster may wait at a mirror, 1 to 64");
-    let start = Arg::new(alloc, "base")
-        .long("base")
-        .value_name("FILE")
-        .help("Let each mirror take the bundle of FILE first");
-    let posters = Arg::new(alloc, "posters")
+        .help(help)
+}
+
+/// The words of posters with their files.
+fn posters<'a>(alloc: Global) -> Arg<'a> {
+    Arg::new(alloc, "posters")
         .value_name("POSTER=FILE")
         .action(ArgAction::Append)
         .help(
             "A poster, and the next bundle that it sends; POSTER= alone names one that sends none",
-        );
-    let run = Command::new(alloc, "run")
+        )
+}
+
+/// The words of `dm apply`.
+fn apply_words<'a>(alloc: Global) -> Result<Command<'a>, AllocError> {
+    Command::new(alloc, "apply")
+        .about(
+            "Take the patch bundle on standard input; print the verdict and the listing of the tree",
+        )
+        .arg(base(alloc, "Take the bundle of FILE first"))?
+        .arg(bundle(alloc))
+}
+
+/// The words of `dm check`.
+fn check_words<'a>(alloc: Global) -> Command<'a> {
+    Command::new(alloc, "check").about(
+        "Read the patch bundle on standard input; print its canonical text, or what is wrong with it",
+    )
+}
+
+/// The words of `dm run`.
+fn run_words<'a>(alloc: Global) -> Result<Command<'a>, AllocError> {
+    let waiting = "How many mails of a poster may wait at a mirror, 1 to 64";
+    let start = "Let each mirror take the bundle of FILE first";
+    Command::new(alloc, "run")
         .about(
             "Let posters send bundles to mirrors, all at once; print what each mirror took, and its tree",
         )
-        .arg(mirrors)?
-        .arg(bound)?
-        .arg(start)?
-        .arg(posters)?;
+        .arg(number(alloc, "mirrors", "M", "How many mirrors there are; two"))?
+        .arg(number(alloc, "bound", "B", waiting))?
+        .arg(base(alloc, start))?
+        .arg(posters(alloc))
+}
+
+/// The commands and their words.
+fn program<'a>(alloc: Global) -> Result<Command<'a>, AllocError> {
     Command::new(alloc, "dm")
         .bin_name("dm")?
         .version(VERSION)
         .about("Reads Darcs patch bundles and takes them into repositories")
         .subcommand_required(true)
         .arg_required_else_help(true)
-        .subcommand(apply)?
-        .subcommand(check)?
-        .subcommand(run)
+        .subcommand(apply_words(alloc)?)?
+        .subcommand(check_words(alloc))?
+        .subcommand(run_words(alloc)?)
 }
 
 /// Prints why there is no answer. Where that fails too, the exit status alone tells it.
@@ -104,16 +124,20 @@ fn apply<'a, R: Runtime + AllocGlobal>(
     rt: &R,
     words: &ArgMatches<'a>,
 ) -> Result<u8, WordFault<'a>> {
+    let base = match words.get_str("base") {
+        Some(name) => Some(read_file(rt, name)?),
+        None => None,
+    };
     let as_bundle = words.get_flag("bundle");
     let mut reader = rt.reader();
     let mut writer = io::writer(rt);
-    let status = match words.get_str("base") {
-        None => apply_over(rt.alloc(), None, as_bundle, &mut reader, &mut writer)?,
-        Some(name) => {
-            let base = read_file(rt, name)?;
-            apply_over(rt.alloc(), Some(&base), as_bundle, &mut reader, &mut writer)?
-        }
-    };
+    let status = apply_over(
+        rt.alloc(),
+        base.as_deref(),
+        as_bundle,
+        &mut reader,
+        &mut writer,
+    )?;
     Ok(status)
 }
 
@@ -125,28 +149,39 @@ fn out_of_memory(kind: ErrorKind) -> Option<ToolFault> {
     }
 }
 
+/// Prints why the words start no command, or the help that they ask for, and answers the exit status.
+fn explain<R: Runtime + AllocGlobal>(rt: &R, error: &Error) -> u8 {
+    if let Some(fault) = out_of_memory(error.kind()) {
+        return tell(rt, WordFault::Tool(fault));
+    }
+    if error.print(rt).is_err() && !error.use_stderr() {
+        return tell(rt, WordFault::Tool(ToolFault::Write));
+    }
+    if error.use_stderr() { NO_ANSWER } else { 0 }
+}
+
+/// Runs the command that was named, and answers the exit status.
+fn start<'a, R: Runtime + AllocGlobal + Threads + Wait + Sync>(
+    rt: &R,
+    matches: &ArgMatches<'a>,
+) -> u8 {
+    match matches.subcommand() {
+        Some(("apply", words)) => status_of(rt, apply(rt, words)),
+        Some(("check", _)) => status_of(rt, check(rt)),
+        Some(("run", words)) => status_of(rt, run_plan(rt, words)),
+        _ => NO_ANSWER,
+    }
+}
+
 /// Runs the command that these words name, and answers the exit status.
-fn run_words<R: Runtime + AllocGlobal + Threads + Wait + Sync>(rt: &R, words: &[String]) -> u8 {
+fn run_command<R: Runtime + AllocGlobal + Threads + Wait + Sync>(rt: &R, words: &[String]) -> u8 {
     let program = match program(rt.alloc()) {
         Ok(program) => program,
         Err(fault) => return tell(rt, WordFault::from(fault)),
     };
     match program.try_get_matches_from(words) {
-        Ok(matches) => match matches.subcommand() {
-            Some(("apply", words)) => status_of(rt, apply(rt, words)),
-            Some(("check", _)) => status_of(rt, check(rt)),
-            Some(("run", words)) => status_of(rt, run_plan(rt, words)),
-            _ => NO_ANSWER,
-        },
-        Err(error) => {
-            if let Some(fault) = out_of_memory(error.kind()) {
-                return tell(rt, WordFault::Tool(fault));
-            }
-            if error.print(rt).is_err() && !error.use_stderr() {
-                return tell(rt, WordFault::Tool(ToolFault::Write));
-            }
-            if error.use_stderr() { NO_ANSWER } else { 0 }
-        }
+        Ok(matches) => start(rt, &matches),
+        Err(error) => explain(rt, &error),
     }
 }
 
@@ -159,7 +194,7 @@ pub fn run<R: Runtime + AllocGlobal + Threads + Wait + Sync>(rt: &R) -> u8 {
     match args.collect(rt.alloc()) {
         Ok(words) => {
             let words: Vec<String> = words;
-            run_words(rt, &words)
+            run_command(rt, &words)
         }
         Err(fault) => tell(rt, WordFault::from(fault)),
     }

@@ -1,4 +1,5 @@
 //! The words of `dm run`, and what they start.
+use crate::fault::ToolFault;
 use crate::files::{WordFault, read_file};
 use crate::running::run_over;
 use clap::ArgMatches;
@@ -106,24 +107,43 @@ fn bases_of<'t>(alloc: Global, base: &'t [u8], mirrors: u32) -> Result<Vec<&'t [
     Ok(bases)
 }
 
+/// Runs the plan of these posters, each with its texts, and of so many mirrors of this base.
+fn run_texts<'a, R: Runtime + AllocGlobal + Threads + Wait + Sync>(
+    rt: &R,
+    posters: &[(&'a str, Vec<Vec<u8>>)],
+    base: &[u8],
+    mirrors: u32,
+    bound: u32,
+) -> Result<u8, ToolFault> {
+    let alloc = rt.alloc();
+    let lists = lists_of(alloc, posters)?;
+    let named = named_lists(alloc, &lists)?;
+    let bases = bases_of(alloc, base, mirrors)?;
+    let mut writer = io::writer(rt);
+    run_over(rt, alloc, &named, &bases, bound as usize, &mut writer)
+}
+
+/// The bytes of the base that the words name, or an empty text.
+fn read_base<'a, R: Runtime + AllocGlobal>(
+    rt: &R,
+    words: &ArgMatches<'a>,
+) -> Result<Vec<u8>, WordFault<'a>> {
+    match words.get_str("base") {
+        Some(name) => read_file(rt, name),
+        None => Ok(Vec::new(rt.alloc())),
+    }
+}
+
 /// Runs the plan that the words name: the base is read first, then the files in the order of their posters. Answers the
 /// exit status.
 pub fn run_plan<'a, R: Runtime + AllocGlobal + Threads + Wait + Sync>(
     rt: &R,
     words: &ArgMatches<'a>,
 ) -> Result<u8, WordFault<'a>> {
-    let alloc = rt.alloc();
-    let posters = posters_of(alloc, words.get_strs("posters").unwrap_or(&[]))?;
-    let base = match words.get_str("base") {
-        Some(name) => read_file(rt, name)?,
-        None => Vec::new(alloc),
-    };
+    let posters = posters_of(rt.alloc(), words.get_strs("posters").unwrap_or(&[]))?;
+    let base = read_base(rt, words)?;
+    let texts = read_posters(rt, &posters)?;
     let mirrors = words.get_one::<u32>("mirrors").unwrap_or(0);
     let bound = words.get_one::<u32>("bound").unwrap_or(0);
-    let texts = read_posters(rt, &posters)?;
-    let lists = lists_of(alloc, &texts)?;
-    let named = named_lists(alloc, &lists)?;
-    let bases = bases_of(alloc, &base, mirrors)?;
-    let mut writer = io::writer(rt);
-    Ok(run_over(rt, alloc, &named, &bases, bound as usize, &mut writer)?)
+    Ok(run_texts(rt, &texts, &base, mirrors, bound)?)
 }
