@@ -102,7 +102,7 @@ fn push_repo(repo: &Repo<Global>, out: &mut Vec<u8>) -> Result<(), AllocError>
         (out.new.items ≡ out.old.items ++ (line_of (codes "patches " ++ decimal (length repo.now.patches)) ++ listing_text tree))) }
 {
     push_count(repo.len(), out)?;
-    push_listing(&repo.tree_copy(*out.allocator())?, out)?;
+    push_listing(repo.tree(), out)?;
     Ok(())
 }
 

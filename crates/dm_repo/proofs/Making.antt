@@ -1,8 +1,8 @@
 -- The tree of a repository, patch by patch.
-use Rattle.std.proofs.Common.{◌≡◌, ℕ, zero, suc, ◌+◌, ◌<◌, ◌≤◌, List, [], ◌∷◌, ◌++◌, length, take, drop, get_or, refl, ap, ◌∙◌, arith}
+use Rattle.std.proofs.Common.{◌≡◌, ℕ, zero, suc, ◌<◌, ◌≤◌, List, [], ◌∷◌, ◌++◌, refl, ap, ◌∙◌, arith}
 use Rattle.std.specs.FinMap as map
 use Rattle.std.specs.FinMap.{get-insert, get-empty}
-use Rattle.std.proofs.lemmas.List.{take_more, map-append}
+use Rattle.std.proofs.lemmas.List.{map-append}
 use Rattle.dm_tree.specs.Trees as trees
 use Rattle.dm_tree.specs.Trees.{Dir, IsLawful, path_cmp}
 use Rattle.dm_tree.proofs.Trees.{path_total}
@@ -11,11 +11,10 @@ use Rattle.dm_prim.specs.InTurn.{InTurn, done, step}
 use Rattle.dm_named.specs.Patches.{Patch}
 use Rattle.dm_repo.specs.Squares.{Placed, patches}
 use Rattle.dm_repo.specs.Weighing.{FitStops}
-use Rattle.dm_repo.specs.Folds.{IsRoot, PatchLeadsShallowly, IsStopped, PatchStops, ShallowFold}
-use Rattle.dm_repo.specs.Repositories.{IsMapOf, IsTreeOf, IsRepo}
+use Rattle.dm_repo.specs.Folds.{IsRoot, PatchLeadsShallowly, IsStopped, ShallowFold}
+use Rattle.dm_repo.specs.Repositories.{IsMapOf, IsTreeOf}
 use Rattle.dm_repo.proofs.Staircases.{runs_on, runs_part}
 use Rattle.dm_repo.proofs.Trees.{root_one, runs_one, goes_all_one, fold_one, grows_fold}
-use Rattle.dm_repo.proofs.RowSteps.{around}
 use Rattle.dm_repo.proofs.Applying.{patch_stops_all}
 
 -- a new tree is the root alone
@@ -48,16 +47,3 @@ pub not_below : (a b : ℕ) → (a < b → ⊥) → b ≤ a
 not_below a zero n = omega arith
 not_below zero (suc b) n = absurd (n (omega arith))
 not_below (suc a) (suc b) n = let l = not_below a b (λ h. n (omega (arith, h))) in omega (arith, l)
-
--- one more patch
-pub makes_more : (xs : List Patch) (k : ℕ) (x : Patch) {s t : LawfulMap} → k < length xs → x ≡ get_or xs k x → ShallowFold (take k xs) s → PatchLeadsShallowly x s t → ShallowFold (take (k + 1) xs) t
-makes_more xs k x l e g h = record { start = g.start; is_root = g.is_root; runs = rw (take_more xs k x l, ← e) (runs_on g.runs (step h done)) }
-
--- a patch of a repository always leads on
-pub always_goes : (xs : List Patch) (k : ℕ) (x : Patch) {s : LawfulMap} → k < length xs → x ≡ get_or xs k x → IsRepo xs → ShallowFold (take k xs) s → PatchStops IsStopped x s → ⊥
-always_goes xs k x {s} l e r g h =
-    let same : r.folds.start ≡ g.start = root_one r.folds.start g.start r.folds.is_root g.is_root in
-    go (runs_part (take k xs) (rw (around xs k x l e, same) at r.folds.runs))
-  where
-    go : (v : LawfulMap) × InTurn PatchLeadsShallowly (take k xs) g.start v × InTurn PatchLeadsShallowly (x ∷ drop (k + 1) xs) v r.tree → ⊥
-    go (v, q, step {u = w} i j) = let f : v ≡ s = runs_one goes_all_one q g.runs in patch_stops_all h (rw f at i)

@@ -16,6 +16,13 @@ pub record Repository : Type 0 where
   -- how many more can be appended before memory is needed
   pub room : ℕ
 
+-- what is about to be appended to a repository
+pub record Prepared : Type 0 where
+  -- oldest first
+  pub patches : List Patch
+  -- the repository's tree after them
+  pub tree : trees.Tree
+
 -- a patch of this name is held; its name is its patch info
 abbrev pub Holds : List Patch → PatchInfo → Type 0
 Holds repo i = Contains (infos_of repo) i
@@ -39,3 +46,8 @@ IsMapOf tree t = t.map ≡ map.get tree
 -- the patches make the tree
 abbrev pub IsTreeOf : List Patch → trees.Tree → Type 0
 IsTreeOf repo tree = (t : LawfulMap) × IsMapOf tree t × ShallowFold repo t
+
+-- the patches are a repository, and the tree that is kept is the one that they make
+pub record KeepsTree (repo : List Patch) (tree : trees.Tree) : Type 0 where
+  pub good : IsRepo repo
+  pub makes : IsTreeOf repo tree

@@ -4,7 +4,7 @@ use Rattle.dm_named.specs.Patches.{Patch}
 use Rattle.dm_bundle.specs.Bundles.{Contents}
 use Rattle.dm_repo.specs.declared.weighed.Weighed.{Weighed}
 use Rattle.dm_repo.specs.declared.weighed.Weighed.TheVariants.{NothingNew, Merged}
-use Rattle.dm_repo.specs.Repositories.{IsRepo, IsTreeOf}
+use Rattle.dm_repo.specs.Repositories.{IsTreeOf, KeepsTree}
 use Rattle.dm_repo.specs.Marking.{AreMarked}
 use Rattle.dm_repo.specs.Weighing.{HasPrerequisites, IsNothingNew, IsMergeOf}
 
@@ -18,7 +18,7 @@ abbrev pub Weighs : {Z : Type 0} → List Patch → Contents → Weighed Z → T
 Weighs repo b NothingNew = IsNothingNew repo b
 Weighs repo b (Merged m) = IsMergeOf repo b m.patches.items × IsTreeOf (repo ++ m.patches.items) m.tree
 
--- with the merged patches the repository is one again
+-- with the merged patches the repository is one again, and the tree after them is the one to keep
 abbrev pub LeavesRepo : {Z : Type 0} → List Patch → Weighed Z → Type 0
 LeavesRepo repo NothingNew = Unit {0}
-LeavesRepo repo (Merged m) = IsRepo (repo ++ m.patches.items)
+LeavesRepo repo (Merged m) = KeepsTree (repo ++ m.patches.items) m.tree

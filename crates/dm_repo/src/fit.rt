@@ -47,7 +47,7 @@ fn apply_prim<A: Allocator, B: Allocator + Copy>(
 }
 
 /// Applies the primitives of a patch in turn, and answers whether all lead shallowly.
-pub(crate) fn apply_patch<A: Allocator, B: Allocator + Copy>(
+fn apply_patch<A: Allocator, B: Allocator + Copy>(
     patch: &Named<A>,
     tree: &mut Tree<B>,
 ) -> Result<bool, AllocError>

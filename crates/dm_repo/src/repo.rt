@@ -1,9 +1,8 @@
-//! A repository: its patches, oldest first.
+//! A repository: its patches, oldest first, and the tree that they make.
 ghost use Rattle.std.specs.Prelude.{◌≡◌, ◌↔◌, ◌<◌, ◌≤◌, [], ◌++◌, length, IfOk, IsTrue, slice_get, Some, MatchOption};
 ghost use Rattle.dm_bundle.specs.Patches.{infos_of};
-ghost use Rattle.dm_repo.specs.Repositories.{Holds, IsRepo, IsTreeOf};
+ghost use Rattle.dm_repo.specs.Repositories.{Holds, IsRepo, IsTreeOf, KeepsTree};
 
-use crate::fit::apply_patch;
 use crate::weighed::Merged;
 use dm_bundle::Bundle;
 use dm_info::Info;
@@ -13,51 +12,47 @@ use dm_tree::laws::tree_is_lawful;
 use std::alloc::{AllocError, Allocator};
 use std::marker::Model;
 
-/// Named patches in the order in which they were taken.
+/// Named patches in the order in which they were taken, and the tree that they make.
 ///
 /// Their names are distinct, each explicit dependency stands earlier, and they apply in turn from the
 /// root alone, where no primitive makes a path of more than 32 names.
 #[derive(Drop)]
 pub struct Repo<A: Allocator> {
     patches: Vec<Named<A>, A>,
+    tree: Tree<A>,
 }
 
 impl<A: Allocator> Model for Repo<A> {
     ghost use Rattle.std.specs.Prelude.{◌-◌, vec_len, vec_capacity};
-    ghost use Rattle.dm_repo.specs.Repositories.{Repository, IsRepo};
+    ghost use Rattle.dm_repo.specs.Repositories.{Repository, KeepsTree};
 
     ghost Value = { Repository };
 
     ghost view = { λ r. record { patches = r.patches.items; room = vec_capacity r.patches - vec_len r.patches } };
 
-    ghost invariant = { λ r. IsRepo r.patches.items };
+    ghost invariant = { λ r. KeepsTree r.patches.items r.tree };
 }
 
-/// Copies of patches that are about to be appended.
+/// Copies of patches that are about to be appended, and of the tree after them.
 #[derive(Drop)]
 pub struct Ready<A: Allocator> {
     patches: Vec<Named<A>, A>,
+    tree: Tree<A>,
 }
 
 impl<A: Allocator> Model for Ready<A> {
-    ghost use Rattle.std.specs.Prelude.{List};
-    ghost use Rattle.dm_named.specs.Patches.{Patch};
+    ghost use Rattle.std.specs.Coded.{codes};
+    ghost use Rattle.dm_tree.specs.Trees.{tree_code};
+    ghost use Rattle.dm_repo.specs.Repositories.{Prepared};
 
-    ghost Value = { List Patch };
+    ghost Value = { Prepared };
 
-    ghost view = { λ r. r.patches.items };
+    ghost coded = { Prim.hlevel (codes, tree_code) };
+
+    ghost view = { λ r. record { patches = r.patches.items; tree = r.tree } };
 }
 
 impl<A: Allocator> Repo<A> {
-    /// The repository without patches; takes no memory.
-    pub fn new(alloc: A) -> Repo<A>
-        ensures { result.patches ≡ [] }
-    {
-        Repo {
-            patches: Vec::new(alloc),
-        }
-    }
-
     /// How many patches it holds.
     pub fn len(&self) -> usize
         ensures value { result ≡ length self.now.patches }
@@ -96,18 +91,19 @@ impl<A: Allocator> Repo<A> {
         self.patches.as_slice()
     }
 
-    /// The tree that the patches make, folded anew from the root alone.
+    /// The tree that the patches make, borrowed without a copy.
+    pub fn tree(&self) -> &Tree<A>
+        ensures { IsTreeOf self.now.patches result.now }
+    {
+        &self.tree
+    }
+
+    /// A copy of the tree that the patches make.
     pub fn tree_copy<B: Allocator + Copy>(&self, alloc: B) -> Result<Tree<B>, AllocError>
         ensures { IfOk result (IsTreeOf self.now.patches) }
     {
-        let mut tree = Tree::new(alloc);
-        tree_is_lawful(&tree);
-        for patch in self.patches() {
-            if !apply_patch(patch, &mut tree)? {
-                unreachable!();
-            }
-        }
-        Ok(tree)
+        let copy = self.tree().copy_into(alloc)?;
+        Ok(copy)
     }
 
     /// The bundle of all patches with an empty context.
@@ -132,36 +128,52 @@ impl<A: Allocator> Repo<A> {
         None
     }
 
-    /// Appends what was prepared, and answers how many patches that is; takes no memory.
+    /// Appends what was prepared, and answers how many patches that is; takes no memory. The tree after them takes the
+    /// place of the one that is kept.
     ///
     /// `ready` is that of the last `prepare` on this repository, which is unchanged since.
     pub fn commit(&mut self, ready: Ready<A>) -> usize
-        requires room { length ready ≤ self.old.room }
-        requires applies { IsRepo (self.old.patches ++ ready) }
-        ensures patches { self.new.patches ≡ self.old.patches ++ ready }
-        ensures count { result ≡ length ready }
+        requires room { length ready.patches ≤ self.old.room }
+        requires applies { KeepsTree (self.old.patches ++ ready.patches) ready.tree }
+        ensures patches { self.new.patches ≡ self.old.patches ++ ready.patches }
+        ensures count { result ≡ length ready.patches }
     {
         let mut more = ready.patches;
         let count = more.len();
         // There is room, so this can't fail.
         let _ = self.patches.append(&mut more);
+        self.tree = ready.tree;
         count
     }
 }
 
 impl<A: Allocator + Copy> Repo<A> {
-    /// Makes the room for the merged patches, and copies them. The repository reads as before.
+    /// The repository without patches; takes no memory.
+    pub fn new(alloc: A) -> Repo<A>
+        ensures { result.patches ≡ [] }
+    {
+        let tree = Tree::new(alloc);
+        tree_is_lawful(&tree);
+        Repo {
+            patches: Vec::new(alloc),
+            tree,
+        }
+    }
+
+    /// Makes the room for the merged patches, and copies them and the tree after them. The repository reads as before.
     ///
     /// `merged` was weighed against this repository as it stands.
     pub fn prepare<B: Allocator>(&mut self, merged: &Merged<B>) -> Result<Ready<A>, AllocError>
         ensures same { self.new.patches ≡ self.old.patches }
-        ensures ready { IfOk result (λ ready. ready ≡ merged.now.patches.items) }
-        ensures room { IfOk result (λ ready. length ready ≤ self.new.room) }
+        ensures ready { IfOk result (λ ready. ready.patches ≡ merged.now.patches.items) }
+        ensures tree { IfOk result (λ ready. ready.tree ≡ merged.now.tree) }
+        ensures room { IfOk result (λ ready. length ready.patches ≤ self.new.room) }
     {
         let alloc = *self.patches.allocator();
         let patches = copy_patches(alloc, &merged.patches)?;
+        let tree = merged.tree.copy_into(alloc)?;
         self.patches.reserve(patches.len())?;
-        Ok(Ready { patches })
+        Ok(Ready { patches, tree })
     }
 }
 

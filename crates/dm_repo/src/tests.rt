@@ -3,7 +3,8 @@ use crate::merge::is_too_many;
 use bumpalo::Bump;
 use dm_bundle::{Bundle, read_bundle, write_bundle};
 use dm_named::write_path;
-use dm_tree::Kind;
+use dm_prim::apply_all;
+use dm_tree::{Entry, Kind, Tree};
 use std::alloc::{Allocator, Global};
 use std::process::Abort;
 use std::test::Fail;
@@ -84,6 +85,52 @@ fn taken<A: Allocator + Copy, B: Allocator + Copy>(
     Ok(line)
 }
 
+/// What a tree has: the path of each entry, and each line of a file after a bar.
+fn text_of_tree<A: Allocator, B: Allocator + Copy>(
+    alloc: B,
+    tree: &Tree<A>,
+) -> Result<Vec<u8, B>, Fail> {
+    let mut text = Vec::new(alloc);
+    for listed in &tree.listing(alloc)? {
+        if !text.is_empty() {
+            text.push(b' ')?;
+        }
+        write_path(&listed.path, &mut text)?;
+        if let Some(Entry::File(file)) = tree.entry(&listed.path) {
+            for i in 0..file.count() {
+                text.push(b'|')?;
+                text.extend_from_slice(file.line(i))?;
+            }
+        }
+    }
+    Ok(text)
+}
+
+/// The tree that is kept has what its copy has, and what the patches make anew of the root alone: what it has.
+fn kept<A: Allocator, B: Allocator + Copy>(
+    rt: &impl Abort,
+    alloc: B,
+    repo: &Repo<A>,
+    what: &str,
+) -> Result<Vec<u8, B>, Fail> {
+    let text = text_of_tree(alloc, repo.tree())?;
+    let copy = text_of_tree(alloc, &repo.tree_copy(alloc)?)?;
+    assert_eq!(rt;
+        text.as_slice(),
+        copy.as_slice(),
+        "{what}: a copy of the tree"
+    );
+    let mut anew = Tree::new(alloc);
+    for patch in repo.patches() {
+        if apply_all(patch.prims(), &mut anew).is_err() {
+            return Err("a patch that doesn't apply".into());
+        }
+    }
+    let anew = text_of_tree(alloc, &anew)?;
+    assert_eq!(rt; text.as_slice(), anew.as_slice(), "{what}: the tree anew");
+    Ok(text)
+}
+
 /// What a row shows, the base, the bundle that is taken after it, what is printed of it, and the repository, where it isn't as before.
 const TAKEN: &str =
     r"a change of other lines is shifted: %N%F(m)hunk ./f 1|+x|+y|%C => %N(n)hunk ./f 5|-5|+five|%C(a)| => taken 1 => %N%F(m)hunk ./f 1|+x|+y|(n)hunk ./f 7|-5|+five|%C
@@ -132,6 +179,7 @@ fn answers<A: Allocator + Copy, B: Allocator + Copy>(
             wanted.as_slice(),
             "{what}: the repository"
         );
+        let _ = kept(rt, trial, &repo, what)?;
     }
     Ok(())
 }
@@ -142,6 +190,38 @@ fn bundles_taken_and_refused(rt: HostRuntime) -> Result<(), Fail> {
     answers(&rt, rt.alloc(), rt.alloc())?;
     answers(&rt, &arena, &arena)?;
     answers(&rt, rt.alloc(), &arena)
+}
+
+/// What a row shows, a bundle that is taken after those of the rows above, what is printed of it, and the tree after it.
+const IN_TURN: &str = r"nothing is held: %N%F%C => taken 1 => ./f|1|2|3|4|5|
+all that is held is common: %N(m)hunk ./f 1|+x|%C(a)| => taken 1 => ./f|x|1|2|3|4|5|
+merged with what is held: %N(n)hunk ./f 5|-5|+five|%C(a)| => taken 1 => ./f|x|1|2|3|4|five|
+a conflict: %N(o)hunk ./f 1|-1|+one|%C(a)| => refused conflicts 0 1 => ./f|x|1|2|3|4|five|
+all common once more: %N(d)adddir ./d|%C(a)|(m)|(n)| => taken 1 => ./d ./f|x|1|2|3|4|five|
+a move: %N(e)move ./f ./d/g|%C(a)|(d)| => taken 1 => ./d ./d/g|x|1|2|3|4|five|
+what doesn't fit: %N(o)rmdir ./d|%C(a)| => refused does-not-fit 0 => ./d ./d/g|x|1|2|3|4|five|
+nothing new: %N(d)adddir ./d|%C(a)| => nothing new => ./d ./d/g|x|1|2|3|4|five|
+";
+
+#[test]
+fn bundles_taken_in_turn(rt: HostRuntime) -> Result<(), Fail> {
+    let alloc = rt.alloc();
+    let arena = Bump::new(alloc);
+    let mut repo = Repo::new(alloc);
+    assert!(rt;
+        kept(&rt, alloc, &repo, "no patch")?.is_empty(),
+        "the tree of no patch"
+    );
+    for line in IN_TURN.lines() {
+        let (what, row) = line.split_once(": ").ok_or("what the row shows")?;
+        let (text, row) = row.split_once(" => ").ok_or("a bundle")?;
+        let (answer, tree) = row.split_once(" => ").ok_or("a tree")?;
+        let line = taken(&rt, &arena, &mut repo, bundle_of(&arena, text)?)?;
+        assert_eq!(rt; line.as_str(), answer, "{what}");
+        let after = kept(&rt, alloc, &repo, what)?;
+        assert_eq!(rt; after.as_slice(), tree.as_bytes(), "{what}: the tree");
+    }
+    Ok(())
 }
 
 /// The bundle of a patch that adds so many directories, each in the one before, and the directories x and y, and of more.
@@ -260,8 +340,20 @@ fn one_bundle_step_by_step(rt: HostRuntime) -> Result<(), Fail> {
     };
     let ready = repo.prepare(&merged)?;
     assert_eq!(rt; repo.len(), 2, "prepared, and as before");
+    let before = kept(&rt, alloc, &repo, "prepared")?;
+    assert_eq!(rt;
+        before.as_slice(),
+        b"./f|x|y|1|2|3|4|5|".as_slice(),
+        "prepared, and the tree as before"
+    );
     assert_eq!(rt; repo.commit(ready), 1, "one patch appended");
     assert_eq!(rt; repo.len(), 3, "three patches");
+    let after = kept(&rt, alloc, &repo, "committed")?;
+    assert_eq!(rt;
+        after.as_slice(),
+        b"./f|x|y|1|2|3|4|five|".as_slice(),
+        "the tree that was prepared"
+    );
     let found = places(alloc, &repo, "%N(n)adddir ./n|(z)adddir ./z|%C")?;
     assert_eq!(rt;
         found.as_slice(),

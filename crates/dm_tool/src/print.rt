@@ -24,6 +24,6 @@ pub fn answer_text(
         text.extend_from_slice(&bundle)?;
         return Ok(text);
     }
-    push_listing(&repo.tree_copy(alloc)?, &mut text)?;
+    push_listing(repo.tree(), &mut text)?;
     Ok(text)
 }

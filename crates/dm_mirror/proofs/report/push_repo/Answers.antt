@@ -8,9 +8,9 @@ use Rattle.dm_mirror.proofs.report.push_repo.Goals as goal
 pub returns : goal.returns
 returns c =
     let out = c.args.out.now.items in
-    let tree = c.in_ok-tree_copy.field-0 in
+    let tree = c.tree.result.now in
     let line = c.in_ok-push_count.ensures ∙ ap (λ (n : ℕ). out ++ line_of (codes "patches " ++ decimal n)) c.len.ensures.value in (
       tree,
-      c.in_ok-tree_copy.ensures,
-      both_printed out c.push_count.new.out.items c.push_listing-2.new.out.items (line_of (codes "patches " ++ decimal (length c.args.repo.now.patches))) (listing_text tree) line c.in_ok-push_listing.ensures,
+      c.tree.ensures,
+      both_printed out c.push_count.new.out.items c.push_listing.new.out.items (line_of (codes "patches " ++ decimal (length c.args.repo.now.patches))) (listing_text tree) line c.in_ok-push_listing.ensures,
     )

@@ -14,5 +14,5 @@ returns g c =
     record {
       weighed = merged;
       refusal = tt;
-      leaves_repo = merge_is_repo c.args.repo.now.patches c.args.bundle.now c.in_ok-merged.merged.patches.items c.lawful.ensures c.names_are_distinct.ensures merged.0;
+      leaves_repo = record { good = merge_is_repo c.args.repo.now.patches c.args.bundle.now c.in_ok-merged.merged.patches.items c.lawful.ensures c.names_are_distinct.ensures merged.0; makes = merged.1 };
     }
