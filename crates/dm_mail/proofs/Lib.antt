@@ -1,4 +1,5 @@
 pub mod MailLemmas
-pub mod WorldLemmas
-pub mod RingWorlds
 pub mod Totals
+pub mod WorldLemmas
+pub mod RuleLemmas
+pub mod EndLemmas

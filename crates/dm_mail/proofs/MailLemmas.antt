@@ -1,10 +1,9 @@
 -- Lists of mails that grow by one, and the mails of bodies.
-use Rattle.std.proofs.Common.{◌≡◌, ℕ, suc, ◌+◌, Bool, true, false, true≢false, ◌||◌, cond, eqb, List, [], ◌∷◌, ◌++◌, length, refl, sym, ap, ◌∙◌, arith, append-nil, length-append}
+use Rattle.std.proofs.Common.{◌≡◌, ℕ, suc, ◌+◌, Bool, true, false, true≢false, ◌||◌, cond, eqb, List, [], ◌∷◌, ◌++◌, length, refl, sym, ap, ◌∙◌, arith, append-nil}
 use Rattle.std.proofs.lemmas.Bool.{false≢true}
-use mathlib.Core.List.{IsPrefix}
 use Rattle.dm_mail.specs.declared.mail.Mail.{Mail}
 use Rattle.dm_mail.specs.declared.mail.Body.{Body}
-use Rattle.dm_mail.specs.Mails.{mail, next_mail, mails_of, is_mark, is_closed, count_bundles, IsNumberedFrom, IsMarkLast, front_of, numbered_mails, poster_mails}
+use Rattle.dm_mail.specs.Mails.{mail, next_mail, mails_of, is_mark, is_closed, count_bundles, count_marks, IsNumberedFrom, IsMarkLast, numbered_mails, poster_mails}
 
 mails_of-append_at : (b : Bool) (m : Mail) (a c d : List Mail) → a ≡ c ++ d → cond b (m ∷ a) a ≡ cond b (m ∷ c) c ++ d
 mails_of-append_at true m a c d e = ap (λ l. m ∷ l) e
@@ -55,6 +54,17 @@ pub count_bundles-mark : (ms : List Mail) (m : Mail) → is_mark m.body ≡ true
 count_bundles-mark [] m e = ap (λ b. cond b 0 1) e
 count_bundles-mark (x ∷ ms) m e = ap (λ k. cond (is_mark x.body) k (suc k)) (count_bundles-mark ms m e)
 
+one_more_at : (b : Bool) (n : ℕ) → cond b (suc n) n ≡ n + cond b 1 0
+one_more_at true n = omega arith
+one_more_at false n = omega arith
+
+-- a mark more is one more
+pub count_marks-append : (ms : List Mail) (m : Mail) → count_marks (ms ++ m ∷ []) ≡ count_marks ms + cond (is_mark m.body) 1 0
+count_marks-append [] m = one_more_at (is_mark m.body) 0
+count_marks-append (x ∷ ms) m =
+    let rest = count_marks-append ms m in
+    one_more_at (is_mark x.body) (count_marks (ms ++ m ∷ [])) ∙ (ap (λ k. k + cond (is_mark x.body) 1 0) rest ∙ (let o = one_more_at (is_mark x.body) (count_marks ms) in omega arith))
+
 pub length-numbered_mails : (p n : ℕ) (bs : List Body) → length (numbered_mails p n bs) ≡ length bs
 length-numbered_mails p n [] = refl
 length-numbered_mails p n (b ∷ bs) = ap suc (length-numbered_mails p (suc n) bs)
@@ -71,54 +81,7 @@ next_body p xs ys b e =
     let k : 0 + length xs ≡ length (poster_mails p xs) = let l = length-numbered_mails p 0 xs in omega arith in
     ap (poster_mails p) e ∙ (numbered_mails-append p 0 xs (b ∷ []) ∙ ap (λ n. poster_mails p xs ++ mail p n b ∷ []) k)
 
--- what a body more makes of a mark
-pub closed_by : (p : ℕ) (xs ys : List Body) (b : Body) (c d : Bool) → ys ≡ xs ++ b ∷ [] → is_closed (poster_mails p xs) ≡ c → is_mark b ≡ d → is_closed (poster_mails p ys) ≡ c || d
-closed_by p xs ys b c d e was is =
-    ap is_closed (next_body p xs ys b e) ∙ (is_closed-append (poster_mails p xs) (next_mail p (poster_mails p xs) b) ∙ (λ i. was i || is i))
-
--- a body more makes one mail more
-pub longer_by : (p n : ℕ) (xs ys : List Body) (b : Body) → ys ≡ xs ++ b ∷ [] → length (poster_mails p xs) ≡ n → length (poster_mails p ys) ≡ n + 1
-longer_by p n xs ys b e was = ap length (next_body p xs ys b e) ∙ omega (arith, length-append (poster_mails p xs) (next_mail p (poster_mails p xs) b ∷ []))
-
--- a mark more leaves the count of bundles
-pub counted_by : (p n : ℕ) (xs ys : List Body) (b : Body) → ys ≡ xs ++ b ∷ [] → is_closed (poster_mails p xs) ≡ false → is_mark b ≡ true →
-    length (poster_mails p xs) ≡ n → count_bundles (poster_mails p ys) ≡ n
-counted_by p n xs ys b e unclosed is was =
-    ap count_bundles (next_body p xs ys b e) ∙ (count_bundles-mark (poster_mails p xs) (next_mail p (poster_mails p xs) b) is ∙
-    (all_bundles (poster_mails p xs) unclosed ∙ was))
-
--- the mails of the first bodies are the first mails
-pub prefix_by : (p q : ℕ) (xs ys all new : List Body) → q ≡ p → xs ++ ys ≡ new → new ≡ all → IsPrefix (poster_mails p xs) (poster_mails q all)
-prefix_by p q xs ys all new same e f =
-    (numbered_mails p (0 + length xs) ys, sym (numbered_mails-append p 0 xs ys) ∙ (λ i. poster_mails (sym same i) ((e ∙ f) i)))
-
 -- a list that grows by one mail, or stays
 pub grown : (b : Bool) (m : Mail) (ms : List Mail) → ms ++ cond b (m ∷ []) [] ≡ cond b (ms ++ m ∷ []) ms
 grown true m ms = refl
 grown false m ms = append-nil ms
-
-pub front_of-append : (xs : List Mail) (y : Mail) (ys : List Mail) → front_of (xs ++ y ∷ ys) ≡ xs ++ front_of (y ∷ ys)
-front_of-append [] y ys = refl
-front_of-append (x ∷ []) y ys = refl
-front_of-append (x ∷ z ∷ xs) y ys = ap (λ l. x ∷ l) (front_of-append (z ∷ xs) y ys)
-
-or_left : (b c d : Bool) → (b || d) ≡ false → (d ≡ false → c ≡ false) → (b || c) ≡ false
-or_left true c d e f = e
-or_left false c d e f = f e
-
-pub unclosed_left : (xs ys : List Mail) → is_closed (xs ++ ys) ≡ false → is_closed xs ≡ false
-unclosed_left [] ys e = refl
-unclosed_left (x ∷ xs) ys e = or_left (is_mark x.body) (is_closed xs) (is_closed (xs ++ ys)) e (unclosed_left xs ys)
-
--- what has no mark has none before its last mail
-pub front_unclosed : (ms : List Mail) → is_closed ms ≡ false → is_closed (front_of ms) ≡ false
-front_unclosed [] e = refl
-front_unclosed (m ∷ []) e = refl
-front_unclosed (m ∷ n ∷ ms) e = or_left (is_mark m.body) (is_closed (front_of (n ∷ ms))) (is_closed (n ∷ ms)) e (front_unclosed (n ∷ ms))
-
--- what is sent after no mark leaves none before the last mail
-pub front_by : (p : ℕ) (xs ys : List Body) (b : Body) → ys ≡ xs ++ b ∷ [] → is_closed (poster_mails p xs) ≡ false → is_closed (front_of (poster_mails p ys)) ≡ false
-front_by p xs ys b e unclosed =
-    let sent : List Mail = poster_mails p xs in
-    let next : Mail = next_mail p sent b in
-    ap (λ l. is_closed (front_of l)) (next_body p xs ys b e) ∙ (ap is_closed (front_of-append sent next [] ∙ append-nil sent) ∙ unclosed)

@@ -73,7 +73,7 @@ all_taken n ms sent below each count p l =
     let short = total_each n (λ q. length (mails_of q ms)) (λ q. length (sent q)) (λ q k. prefix_length (mails_of q ms) (sent q) (each q k)) (omega arith) p l in
     prefix_whole (mails_of p ms) (sent p) (each p l) short
 
-nothing_after : (xs ys : List Mail) → xs ++ ys ≡ [] → ys ≡ []
+pub nothing_after : (xs ys : List Mail) → xs ++ ys ≡ [] → ys ≡ []
 nothing_after [] ys e = e
 nothing_after (x ∷ xs) ys e = absurd (cc e)
 
@@ -81,7 +81,7 @@ last_at : (b : Bool) (m : Mail) (xs ys : List Mail) → is_mark m.body ≡ b →
 last_at true m xs ys is closed here rest = nothing_after xs ys (here is)
 last_at false m xs ys is closed here rest = rest closed
 
-after_mark : (xs ys : List Mail) → IsMarkLast (xs ++ ys) → is_closed xs ≡ true → ys ≡ []
+pub after_mark : (xs ys : List Mail) → IsMarkLast (xs ++ ys) → is_closed xs ≡ true → ys ≡ []
 after_mark [] ys last closed = absurd (true≢false (sym closed))
 after_mark (m ∷ xs) ys last closed = last_at (is_mark m.body) m xs ys refl closed last.0 (after_mark xs ys last.1)
 

@@ -1,80 +1,72 @@
 -- What the ends of a mirror's mail show: of which mail they are, what a poster sent, and what was taken from each poster.
-use Rattle.std.specs.Prelude.{◌≡◌, ℕ, suc, ◌<◌, true, false, List, [], ◌∷◌, ◌++◌, length, ◌==◌, if◌then◌else◌}
-use denote.RawPtr.{Ptr}
-use Rattle.std.specs.declared.alloc.Global.{Global}
-use Rattle.rtrb.specs.Shared.{Names}
-use Rattle.rtrb.specs.Ring.{sent, received, consumer_capacity}
+use Rattle.std.specs.Prelude.{◌≡◌, ℕ, suc, ◌<◌, true, false, List, [], ◌∷◌, ◌++◌, length}
+use Rattle.crossbeam_channel.specs.Claims.{Pass, view}
+use Rattle.crossbeam_channel.specs.declared.flavors.array.Key.{Key}
+use Rattle.atomic_table.specs.Seated.{TableId}
+use Rattle.atomic_table.specs.declared.badge.Badge.{Badge}
 use Rattle.dm_mail.specs.declared.mail.Mail.{Mail}
 use Rattle.dm_mail.specs.declared.mail.Body.{Body}
+use Rattle.dm_mail.specs.declared.view.View.{View}
 use Rattle.dm_mail.specs.declared.ends.Outlet.{Outlet}
 use Rattle.dm_mail.specs.declared.ends.Sent.{Sent}
-use Rattle.dm_mail.specs.declared.ends.Source.{Source}
 use Rattle.dm_mail.specs.declared.ends.Inlet.{Inlet}
-use Rattle.dm_mail.specs.Mails.{mails_of, poster_mails, next_mail, is_closed}
+use Rattle.dm_mail.specs.Mails.{mails_of, next_mail, is_closed}
 
--- which outlet it is
-abbrev pub OutletId : Type 0
-OutletId = Ptr × Ptr × Names × Global
-
--- which mirror's mail it is
+-- which mirror's mail it is: the channel's
 abbrev pub MailId : Type 0
-MailId = OutletId × OutletId
+MailId = TableId × Badge (Key Mail)
+
+-- which outlet it is: of which mail, and whose
+abbrev pub OutletId : Type 0
+OutletId = MailId × ℕ
 
 -- the outlet of a poster in a mirror's mail
 abbrev pub outlet_of : MailId → ℕ → OutletId
-outlet_of id poster = if poster == 0 then id.0 else id.1
+outlet_of id poster = (id, poster)
 
--- which outlet this is
-abbrev pub outlet_id : Outlet → OutletId
-outlet_id o = (o.producer.end.words, o.producer.end.slots, o.producer.end.names, o.producer.end.heap)
-
--- which outlet this was
-abbrev pub sent_id : Sent → OutletId
-sent_id s = (s.producer.end.words, s.producer.end.slots, s.producer.end.names, s.producer.end.heap)
-
--- whose mails come here: of which outlet
-abbrev pub source_id : Source → OutletId
-source_id s = (s.consumer.end.words, s.consumer.end.slots, s.consumer.end.names, s.consumer.end.heap)
+-- of which mail a pass is
+abbrev pub pass_id : Pass Mail View → MailId
+pass_id pass = (pass.table_id, pass.me.0.of)
 
 -- which mirror's mail is taken here
 abbrev pub inlet_id : Inlet → MailId
-inlet_id i = (source_id i.first, source_id i.second)
+inlet_id i = pass_id i.pass
 
 -- whose outlet this is
 abbrev pub outlet_poster : Outlet → ℕ
-outlet_poster o = o.poster
+outlet_poster o = (view o.pass).poster
 
 -- whose outlet this was
 abbrev pub sent_poster : Sent → ℕ
-sent_poster s = s.poster
+sent_poster s = (view s.pass).poster
+
+-- which outlet this is
+abbrev pub outlet_id : Outlet → OutletId
+outlet_id o = outlet_of (pass_id o.pass) (outlet_poster o)
+
+-- which outlet this was
+abbrev pub sent_id : Sent → OutletId
+sent_id s = outlet_of (pass_id s.pass) (sent_poster s)
 
 -- how many posters there are
 abbrev pub inlet_posters : Inlet → ℕ
-inlet_posters i = 2
+inlet_posters i = (view i.pass).posters
 
--- how many mails of a poster may wait
+-- how many mails may wait
 abbrev pub inlet_bound : Inlet → ℕ
-inlet_bound i = consumer_capacity i.first.consumer
+inlet_bound i = (view i.pass).bound
 
 -- what the poster has sent
 abbrev pub outlet_mails : Outlet → List Mail
-outlet_mails o = poster_mails o.poster (sent o.producer)
+outlet_mails o = (view o.pass).sent
 
 -- what the poster sent
 abbrev pub sent_mails : Sent → List Mail
-sent_mails s = poster_mails s.poster (sent s.producer)
-
--- what was taken out of one ring
-abbrev pub source_mails : Source → List Mail
-source_mails s = poster_mails s.poster (received s.consumer)
-
--- the mails of the first or of the second poster
-abbrev pub mails_of_two : ℕ → List Mail → List Mail → List Mail
-mails_of_two poster first second = if poster == 0 then first else if poster == 1 then second else []
+sent_mails s = (view s.pass).sent
 
 -- what was taken from a poster
 abbrev pub taken_of : Inlet → ℕ → List Mail
-taken_of i poster = mails_of_two poster (source_mails i.first) (source_mails i.second)
+taken_of i poster = mails_of poster (view i.pass).taken
 
 -- the poster's next mail
 abbrev pub next_mail_of : Outlet → Body → Mail
@@ -88,10 +80,6 @@ SameOutlet a b = (outlet_id b ≡ outlet_id a) × (outlet_poster b ≡ outlet_po
 abbrev pub EndsAs : Outlet → Sent → Type 0
 EndsAs a b = (sent_id b ≡ outlet_id a) × (sent_poster b ≡ outlet_poster a)
 
--- one source, before and after
-abbrev pub SameSource : Source → Source → Type 0
-SameSource a b = (source_id b ≡ source_id a) × (b.poster ≡ a.poster) × (consumer_capacity b.consumer ≡ consumer_capacity a.consumer)
-
 -- one inlet, before and after
 abbrev pub SameInlet : Inlet → Inlet → Type 0
 SameInlet a b = (inlet_id b ≡ inlet_id a) × (inlet_posters b ≡ inlet_posters a) × (inlet_bound b ≡ inlet_bound a)
@@ -103,12 +91,6 @@ SameTaken a b = (poster : ℕ) → taken_of b poster ≡ taken_of a poster
 -- this mail was taken
 abbrev pub TakesMail : Inlet → Mail → Inlet → Type 0
 TakesMail a m b = (poster : ℕ) → taken_of b poster ≡ taken_of a poster ++ mails_of poster (m ∷ [])
-
--- the next mail of the ring's poster, which has not closed
-pub record IsNext (s : Source) (m : Mail) : Type 0 where
-  pub poster : m.poster ≡ s.poster
-  pub number : m.number ≡ length (source_mails s)
-  pub unclosed : is_closed (source_mails s) ≡ false
 
 -- the next mail of one of the posters, which has not closed
 pub record IsNextOf (i : Inlet) (m : Mail) : Type 0 where

@@ -5,7 +5,7 @@ use Rattle.dm_mail.specs.declared.opening.MailFault.TheVariants.{BadPosters, Bad
 use Rattle.dm_mail.specs.declared.outlet.Why.{Why}
 use Rattle.dm_mail.specs.declared.outlet.Why.TheVariants.{Limit, Gone}
 
--- a mirror's mail has two posters, and 1 to 64 of a poster's mails may wait
+-- a mirror's mail has two posters, and 1 to 64 mails may wait
 abbrev pub IsOpenable : ℕ → ℕ → Type 0
 IsOpenable posters bound = (posters ≡ 2) × (0 < bound) × (bound ≤ 64)
 

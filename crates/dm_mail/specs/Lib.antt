@@ -1,5 +1,6 @@
 pub mod Mails
 pub mod World
+pub mod Rule
 pub mod Faults
 pub mod Ends
 pub mod Laws

@@ -40,6 +40,11 @@ abbrev pub count_bundles : List Mail → ℕ
 count_bundles [] = 0
 count_bundles (m ∷ ms) = if is_mark m.body then count_bundles ms else suc (count_bundles ms)
 
+-- how many marks there are
+abbrev pub count_marks : List Mail → ℕ
+count_marks [] = 0
+count_marks (m ∷ ms) = if is_mark m.body then suc (count_marks ms) else count_marks ms
+
 -- the mails have the numbers from n on
 abbrev pub IsNumberedFrom : ℕ → List Mail → Type 0
 IsNumberedFrom n [] = Unit {0}
@@ -53,12 +58,6 @@ IsNumbered ms = IsNumberedFrom 0 ms
 abbrev pub IsMarkLast : List Mail → Type 0
 IsMarkLast [] = Unit {0}
 IsMarkLast (m ∷ ms) = (is_mark m.body ≡ true → ms ≡ []) × IsMarkLast ms
-
--- the mails but the last
-abbrev pub front_of : List Mail → List Mail
-front_of [] = []
-front_of (m ∷ []) = []
-front_of (m ∷ n ∷ ms) = m ∷ front_of (n ∷ ms)
 
 -- each mail is of a poster below n
 abbrev pub AllBelow : ℕ → List Mail → Type 0

@@ -1,58 +1,54 @@
-//! The ends of a mirror's mail. A ring holds the bodies of one poster's mails: the poster is the ring's, and a mail's
-//! number is its place in the ring.
-ghost use Rattle.std.specs.Prelude.{◌≡◌, ◌<◌, ◌≤◌, false, length};
-ghost use Rattle.rtrb.specs.Ring.{sent, received, consumer_capacity};
-ghost use Rattle.dm_mail.specs.Mails.{poster_mails, front_of, is_closed, count_bundles};
+//! The ends of a mirror's mail. Each holds the pass that says what its thread sent or took.
+ghost use Rattle.std.specs.Prelude.{◌≡◌, ◌≤◌, true, false, length};
+ghost use Rattle.crossbeam_channel.specs.Claims.{view, IsSeatAt};
+ghost use Rattle.crossbeam_channel.specs.Ends.{sends_on, receives_on, ruled_capacity};
+ghost use Rattle.dm_mail.specs.Mails.{is_closed, count_bundles, count_marks};
 
-use crate::mail::Body;
-use rtrb::{Consumer, Producer};
+use crate::mail::Mail;
+use crate::rule::InOrder;
+use crate::view::View;
+use crossbeam_channel::{Pass, RuledReceiver, RuledSender};
 
 /// A poster's end of a mirror's mail, as long as it may send.
 #[derive(Drop)]
 pub struct Outlet {
-    pub(crate) producer: Producer<Body>,
+    pub(crate) sender: RuledSender<Mail, View, InOrder>,
+    pub(crate) pass: Pass<Mail, View>,
     pub(crate) poster: usize,
     pub(crate) count: usize,
-    ghost known: { poster < 2 },
-    ghost counted: { length (poster_mails poster (sent producer)) ≡ count },
+    ghost seated: { IsSeatAt (sends_on sender) pass },
+    ghost told: { (view pass).is_told ≡ true },
+    ghost bound: { ruled_capacity (sends_on sender) ≡ (view pass).bound },
+    ghost is_poster: { (view pass).is_poster ≡ true },
+    ghost named: { (view pass).poster ≡ poster },
+    ghost counted: { length (view pass).sent ≡ count },
     ghost few: { count ≤ 1000 },
-    ghost unclosed: { is_closed (poster_mails poster (sent producer)) ≡ false },
+    ghost unclosed: { is_closed (view pass).sent ≡ false },
 }
 
-/// A poster's end that has ended: what it sent.
+/// A poster's end that has ended: what it sent. The mirror's outlets aren't all gone as long as this is there.
 #[derive(Drop)]
 pub struct Sent {
-    pub(crate) producer: Producer<Body>,
-    pub(crate) poster: usize,
+    pub(crate) sender: RuledSender<Mail, View, InOrder>,
+    pub(crate) pass: Pass<Mail, View>,
     pub(crate) count: usize,
     pub(crate) closed: bool,
-    ghost known: { poster < 2 },
-    ghost counted: { count_bundles (poster_mails poster (sent producer)) ≡ count },
-    ghost marked: { is_closed (poster_mails poster (sent producer)) ≡ closed },
-    ghost few: { count ≤ 1000 },
-    ghost mark_last: { is_closed (front_of (poster_mails poster (sent producer))) ≡ false },
-}
-
-// The mirror's end of one poster's ring.
-#[derive(Drop)]
-pub(crate) struct Source {
-    pub(crate) consumer: Consumer<Body>,
-    pub(crate) poster: usize,
-    pub(crate) count: usize,
-    pub(crate) closed: bool,
-    ghost counted: { length (poster_mails poster (received consumer)) ≡ count },
-    ghost marked: { is_closed (poster_mails poster (received consumer)) ≡ closed },
-    ghost roomy: { 0 < consumer_capacity consumer },
+    ghost seated: { IsSeatAt (sends_on sender) pass },
+    ghost is_poster: { (view pass).is_poster ≡ true },
+    ghost counted: { count_bundles (view pass).sent ≡ count },
+    ghost marked: { is_closed (view pass).sent ≡ closed },
 }
 
 /// The mirror's end of its mail.
 #[derive(Drop)]
 pub struct Inlet {
-    pub(crate) first: Source,
-    pub(crate) second: Source,
-    // Which source is asked first, so that no poster waits while another goes on sending.
-    pub(crate) second_is_next: bool,
-    ghost first_is: { first.poster ≡ 0 },
-    ghost second_is: { second.poster ≡ 1 },
-    ghost bounds: { consumer_capacity second.consumer ≡ consumer_capacity first.consumer },
+    pub(crate) receiver: RuledReceiver<Mail, View, InOrder>,
+    pub(crate) pass: Pass<Mail, View>,
+    pub(crate) posters: usize,
+    pub(crate) marks: usize,
+    ghost seated: { IsSeatAt (receives_on receiver) pass },
+    ghost told: { (view pass).is_told ≡ true },
+    ghost is_mirror: { (view pass).is_mirror ≡ true },
+    ghost known: { (view pass).posters ≡ posters },
+    ghost counted: { count_marks (view pass).taken ≡ marks },
 }

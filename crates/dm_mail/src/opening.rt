@@ -1,19 +1,23 @@
 //! How a mirror's mail begins.
 ghost use Rattle.std.specs.Prelude.{◌≡◌, ◌<◌, ◌≤◌, [], ℕ, length, IfOk, OnOk, IfErr};
-ghost use Rattle.rtrb.specs.Ring.{IsPair, producer_capacity, consumer_capacity};
+ghost use Rattle.dm_mail.specs.declared.opening.MailFault.{MailFault};
 ghost use Rattle.dm_mail.specs.declared.opening.MailFault.TheVariants.{NoMemory};
 ghost use Rattle.dm_mail.specs.Faults.{IsOpenable, IsFirstFault};
-ghost use Rattle.dm_mail.specs.Ends.{inlet_posters, taken_of, outlet_mails, source_mails, outlet_id, source_id, AreNewOutlets, inlet_bound};
+ghost use Rattle.dm_mail.specs.Ends.{inlet_posters, taken_of, AreNewOutlets, inlet_bound};
 
-use crate::ends::{Inlet, Outlet, Source};
-use rtrb::RingBuffer;
+use crate::ends::{Inlet, Outlet};
+use crate::mail::Mail;
+use crate::rule::{Bound, ForPoster, InOrder};
+use crate::view::View;
+use crossbeam_channel::bounded_with;
 use std::alloc::{AllocError, Global};
+use std::marker::Brand;
 use std::sync::Wait;
 
 /// How many posters a mirror's mail has.
 pub const POSTERS: usize = 2;
 
-/// The most mails of a poster that may wait.
+/// The most mails that may wait.
 pub const MOST_WAITING: usize = 64;
 
 /// Why no mail was opened, in the order in which it is reported. The first two take no memory.
@@ -35,8 +39,8 @@ impl From<AllocError> for MailFault {
     }
 }
 
-/// Opens the mail of one mirror: an outlet for each poster, in order, and the inlet. At most `bound` mails of a poster
-/// wait. All memory that the ends need is taken here.
+/// Opens the mail of one mirror: an outlet for each poster, in order, and the inlet. At most `bound` mails wait. All
+/// memory that the ends need is taken here.
 pub fn open<R: Wait>(
     rt: &R,
     alloc: Global,
@@ -55,39 +59,38 @@ pub fn open<R: Wait>(
     if bound == 0 || bound > MOST_WAITING {
         return Err(MailFault::BadBound);
     }
-    let mut outlets = Vec::new(alloc);
-    outlets.reserve(POSTERS)?;
-    let (first_outlet, first) = ring(alloc, 0, bound)?;
-    let (second_outlet, second) = ring(alloc, 1, bound)?;
-    outlets.push_reserved(first_outlet);
-    outlets.push_reserved(second_outlet);
-    let inlet = Inlet {
-        first,
-        second,
-        second_is_next: false,
-    };
-    Ok((outlets, inlet))
+    Ok(open_within::<Brand>(alloc, posters, bound)?)
 }
 
-/// Both ends of a poster's ring.
-fn ring(alloc: Global, poster: usize, bound: usize) -> Result<(Outlet, Source), AllocError>
-    requires { (poster < 2) × (0 < bound) }
-    ensures ends { IfOk result (λ r. outlet_id r.0 ≡ source_id r.1) }
-    ensures poster { IfOk result (λ r. (r.0.poster ≡ poster) × (r.1.poster ≡ poster)) }
-    ensures fresh { IfOk result (λ r. (outlet_mails r.0 ≡ []) × (source_mails r.1 ≡ [])) }
-    ensures bound { IfOk result (λ r. consumer_capacity r.1.consumer ≡ bound) }
+/// The same for any number of posters, and within a bound that has a name, by which the rule of the channel knows it.
+fn open_within<B: Bound>(
+    alloc: Global,
+    posters: usize,
+    bound: usize,
+) -> Result<(Vec<Outlet>, Inlet), AllocError>
+    requires { (0 < posters) × (0 < bound) × (bound ≡ B.bound) }
+    ensures outlets { IfOk result (λ r. (length r.0.items ≡ posters) × AreNewOutlets r.1 0 r.0.items) }
+    ensures inlet { IfOk result (λ r. (inlet_posters r.1 ≡ posters) × ((p : ℕ) → taken_of r.1 p ≡ [])) }
+    ensures bound { IfOk result (λ r. inlet_bound r.1 ≡ bound) }
 {
-    let (producer, consumer) = RingBuffer::new(alloc, bound)?;
-    let outlet = Outlet {
-        producer,
-        poster,
-        count: 0,
+    let mut outlets = Vec::new(alloc);
+    outlets.reserve(posters)?;
+    let (sender, receiver, mut pass) = bounded_with::<Mail, View, InOrder, Global>(alloc, bound)?;
+    for poster in 0..posters {
+        let sender = sender.try_clone()?;
+        let own_pass = sender.another::<ForPoster<B>>(&mut pass);
+        outlets.push_reserved(Outlet {
+            sender,
+            pass: own_pass,
+            poster,
+            count: 0,
+        });
+    }
+    let inlet = Inlet {
+        receiver,
+        pass,
+        posters,
+        marks: 0,
     };
-    let source = Source {
-        consumer,
-        poster,
-        count: 0,
-        closed: false,
-    };
-    Ok((outlet, source))
+    Ok((outlets, inlet))
 }

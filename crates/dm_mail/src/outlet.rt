@@ -1,15 +1,13 @@
 //! What a poster does with its end.
 ghost use Rattle.std.specs.Prelude.{◌≡◌, ◌∷◌, ◌++◌, [], ◌<◌, length, List, ℕ, MatchResult, OnOk, OnErr, IfErr};
-ghost use Rattle.rtrb.specs.Ring.{sent, SameProducer};
 ghost use Rattle.dm_mail.specs.Mails.{bundle, mark};
 ghost use Rattle.dm_mail.specs.Faults.{IsReason};
 ghost use Rattle.dm_mail.specs.Ends.{outlet_mails, sent_mails, next_mail_of, SameOutlet, EndsAs};
 
 use crate::ends::{Outlet, Sent};
-use crate::mail::{Body, Text};
-use rtrb::{Producer, PushError};
+use crate::mail::{Body, Mail, Text};
+use crate::rule::Accepted;
 use std::sync::Wait;
-use std::thread;
 
 /// The most bundles that a poster sends to a mirror.
 pub const MOST_BUNDLES: usize = 1000;
@@ -31,7 +29,8 @@ pub struct Unsent {
 }
 
 impl Outlet {
-    /// Sends a bundle, and waits as long as there is no room. Of an inlet that is gone no contract speaks.
+    /// Sends a bundle, and waits as long as there is no room. Where the inlet is gone, of which no contract speaks, the
+    /// text comes back.
     pub fn send<R: Wait>(&mut self, rt: &R, text: Vec<u8>) -> Result<(), Unsent>
         ensures same { SameOutlet self.old self.new }
         ensures sent { OnOk result (outlet_mails self.new ≡ outlet_mails self.old ++ next_mail_of self.old (bundle text.items) ∷ []) }
@@ -46,13 +45,18 @@ impl Outlet {
                 why: Why::Limit,
             });
         }
-        match push(rt, &mut self.producer, Body::Bundle(Text::new(text))) {
+        let mail = Mail {
+            poster: self.poster,
+            number: self.count,
+            body: Body::Bundle(Text::new(text)),
+        };
+        match self.sender.send_as::<Accepted, R>(rt, &mut self.pass, mail) {
             Ok(()) => {
                 self.count += 1;
                 Ok(())
             }
-            Err(body) => Err(Unsent {
-                text: text_of(body),
+            Err(error) => Err(Unsent {
+                text: text_of(error.into_inner()),
                 why: Why::Gone,
             }),
         }
@@ -67,26 +71,29 @@ impl Outlet {
             (λ outlet. outlet_mails outlet ≡ outlet_mails self) }
     {
         let Outlet {
-            mut producer,
+            sender,
+            mut pass,
             poster,
             count,
         } = self;
-        match push(rt, &mut producer, Body::Close) {
-            Ok(()) => {
-                return Ok(Sent {
-                    producer,
-                    poster,
-                    count,
-                    closed: true,
-                });
-            }
-            Err(_) => {
-                return Err(Outlet {
-                    producer,
-                    poster,
-                    count,
-                });
-            }
+        let mail = Mail {
+            poster,
+            number: count,
+            body: Body::Close,
+        };
+        match sender.send_as::<Accepted, R>(rt, &mut pass, mail) {
+            Ok(()) => Ok(Sent {
+                sender,
+                pass,
+                count,
+                closed: true,
+            }),
+            Err(_) => Err(Outlet {
+                sender,
+                pass,
+                poster,
+                count,
+            }),
         }
     }
 
@@ -96,45 +103,26 @@ impl Outlet {
         ensures mails { sent_mails result ≡ outlet_mails self }
     {
         let Outlet {
-            producer,
-            poster,
+            sender,
+            pass,
             count,
+            ..
         } = self;
         Sent {
-            producer,
-            poster,
+            sender,
+            pass,
             count,
             closed: false,
         }
     }
 }
 
-/// Pushes a body, and waits where the ring is full. It comes back where the inlet is gone.
-fn push<R: Wait>(rt: &R, producer: &mut Producer<Body>, body: Body) -> Result<(), Body>
-    ensures ring { SameProducer producer.old producer.new }
-    ensures pushed { OnOk result (sent producer.new ≡ sent producer.old ++ body ∷ []) }
-    ensures back { IfErr result (λ back. (back ≡ body) × (sent producer.new ≡ sent producer.old)) }
+/// The text of a mail that carries a bundle.
+fn text_of(mail: Mail) -> Vec<u8>
+    requires { (text : List ℕ) × (mail.body ≡ bundle text) }
+    ensures { mail.body ≡ bundle result.items }
 {
-    let mut body = body;
-    for _ in rt.forever() {
-        if producer.is_abandoned() {
-            return Err(body);
-        }
-        match producer.push(body) {
-            Ok(()) => return Ok(()),
-            Err(PushError::Full(back)) => body = back,
-        }
-        thread::yield_now();
-    }
-    unreachable!()
-}
-
-/// The text of a bundle.
-fn text_of(body: Body) -> Vec<u8>
-    requires { (text : List ℕ) × (body ≡ bundle text) }
-    ensures { body ≡ bundle result.items }
-{
-    match body {
+    match mail.body {
         Body::Bundle(text) => text.into_bytes(),
         Body::Close => unreachable!(),
     }

@@ -60,7 +60,7 @@ fn opens_for_two_posters_and_a_bound(rt: HostRuntime) -> Result<(), Fail> {
 
 #[test]
 fn takes_what_two_posters_send(rt: HostRuntime) -> Result<(), Fail> {
-    let Ok((mut first, mut second, mut inlet)) = open_two(&rt, rt.alloc(), 64) else {
+    let Ok((mut first, mut second, mut inlet)) = open_two(&rt, rt.alloc(), 4) else {
         return Err("no mail".into());
     };
     assert!(rt; first.send(&rt, text_of(rt.alloc(), b"x")?).is_ok());
@@ -145,5 +145,37 @@ fn an_inlet_that_is_gone_takes_nothing(rt: HostRuntime) -> Result<(), Fail> {
     let sent = first.leave();
     assert!(rt; sent.count() == 0 && !sent.closed(), "what was sent");
     drop(second);
+    Ok(())
+}
+
+#[test]
+fn outlets_that_are_all_dropped_cut_the_mail(rt: HostRuntime) -> Result<(), Fail> {
+    let Ok((mut first, second, mut inlet)) = open_two(&rt, rt.alloc(), 4) else {
+        return Err("no mail".into());
+    };
+    assert!(rt; first.send(&rt, text_of(rt.alloc(), b"x")?).is_ok());
+    drop(first.leave());
+    drop(second.leave());
+    assert!(rt;
+        is_mail(&inlet.take(&rt), 0, 0, Some(b"x")),
+        "what was sent before"
+    );
+    assert!(rt; inlet.take(&rt).is_err(), "after the outlets");
+    Ok(())
+}
+
+#[test]
+fn outlets_that_are_all_settled_cut_the_mail(rt: HostRuntime) -> Result<(), Fail> {
+    let Ok((mut first, second, mut inlet)) = open_two(&rt, rt.alloc(), 4) else {
+        return Err("no mail".into());
+    };
+    assert!(rt; first.send(&rt, text_of(rt.alloc(), b"x")?).is_ok());
+    settle(&rt, first.leave(), &mut inlet);
+    settle(&rt, second.leave(), &mut inlet);
+    assert!(rt;
+        is_mail(&inlet.take(&rt), 0, 0, Some(b"x")),
+        "what was sent before"
+    );
+    assert!(rt; inlet.take(&rt).is_err(), "after the outlets");
     Ok(())
 }

@@ -106,8 +106,8 @@ fn plan_of(
 
 impl Plan {
     /// A plan for these posters, each with the texts of its bundles, and these mirrors, each with the text of its base; an
-    /// empty text is an empty repository. Between a poster and a mirror at most `bound` mails wait. The bases are taken
-    /// here, all texts are copied, and all memory for the record of the run is taken, so that a run never grows it.
+    /// empty text is an empty repository. At most `bound` mails wait for a mirror. The bases are taken here, all
+    /// texts are copied, and all memory for the record of the run is taken, so that a run never grows it.
     ///
     /// Errors: see [`PlanFault`]. A base that was refused for memory is [`PlanFault::NoMemory`].
     pub fn build(

@@ -246,7 +246,7 @@ fn one_mirror_ends_before_the_other_begins(rt: HostRuntime) -> Result<(), Fail> 
     };
     let first: [&[u8]; 2] = [ADDS_D, ADDS_F];
     let second = [ADDS_E];
-    let outcome = outcome_of(&rt, rt.alloc(), &[&first, &second], b"", 3, &gate)?;
+    let outcome = outcome_of(&rt, rt.alloc(), &[&first, &second], b"", 5, &gate)?;
     assert_eq!(rt;
         gate.missed.load(Ordering::SeqCst),
         0,

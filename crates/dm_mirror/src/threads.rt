@@ -13,7 +13,7 @@ use std::alloc::{AllocError, Global};
 use std::snapshot::Snapshot;
 use std::sync::Wait;
 use std::thread;
-use std::thread::{Promise, Threads};
+use std::thread::{Promise, PromisedHandle, Scope, Threads};
 
 /// Why a plan wasn't run. No mail was sent.
 #[derive(Clone, Copy, PartialEq, Eq, Debug)]
@@ -91,6 +91,45 @@ fn take_once_open<R: Wait, G: Gate>(
     Some(take_mails(rt, &mut arena, gate, number, inlet, mirror, expected))
 }
 
+/// Starts a poster's thread.
+fn start_poster<'s, 'e, R: Threads + Wait + Sync>(
+    scope: &'s Scope<'s, &'e ()>,
+    rt: &'e R,
+    line: &'e StartLine,
+    job: PostJob,
+) -> Result<PromisedHandle<Option<Posted>, WillPost>, RunFault>
+    ensures { IfOk result (λ handle. handle.promise.0.value ≡ job) }
+{
+    match scope.spawn_with(
+        WillPost(Snapshot::of(&job)),
+        move || post_once_open(rt, line, job),
+    ) {
+        Ok(handle) => Ok(handle),
+        Err(_) => Err(RunFault::NoThread),
+    }
+}
+
+/// Starts the thread of a mirror with this number.
+fn start_mirror<'s, 'e, R: Threads + Wait + Sync, G: Gate + Sync>(
+    scope: &'s Scope<'s, &'e ()>,
+    rt: &'e R,
+    alloc: Global,
+    line: &'e StartLine,
+    gate: &'e G,
+    number: usize,
+    job: TakeJob,
+) -> Result<PromisedHandle<Option<Kept>, WillTake>, RunFault>
+    ensures { IfOk result (λ handle. handle.promise.0.value ≡ job) }
+{
+    match scope.spawn_with(
+        WillTake(Snapshot::of(&job)),
+        move || take_once_open(rt, alloc, line, gate, number, job),
+    ) {
+        Ok(handle) => Ok(handle),
+        Err(_) => Err(RunFault::NoThread),
+    }
+}
+
 /// Starts the threads, lets them go once all are there, and joins them.
 pub(crate) fn in_threads<R: Threads + Wait + Sync, G: Gate + Sync>(
     rt: &R,
@@ -110,24 +149,10 @@ pub(crate) fn in_threads<R: Threads + Wait + Sync, G: Gate + Sync>(
         |scope| -> Result<((Posted, Posted), (Kept, Kept)), RunFault>
             ensures { IfOk result (λ r. (DoesPost posters.0 r.0.0 × DoesPost posters.1 r.0.1) × (DoesTake mirrors.0 r.1.0 × DoesTake mirrors.1 r.1.1)) }
         {
-            let (one, two) = posters;
-            let (left, right) = mirrors;
-            let one = scope.spawn_with(
-                WillPost(Snapshot::of(&one)),
-                move || post_once_open(rt, line, one),
-            );
-            let two = scope.spawn_with(
-                WillPost(Snapshot::of(&two)),
-                move || post_once_open(rt, line, two),
-            );
-            let left = scope.spawn_with(
-                WillTake(Snapshot::of(&left)),
-                move || take_once_open(rt, alloc, line, gate, 0, left),
-            );
-            let right = scope.spawn_with(
-                WillTake(Snapshot::of(&right)),
-                move || take_once_open(rt, alloc, line, gate, 1, right),
-            );
+            let one = start_poster(scope, rt, line, posters.0);
+            let two = start_poster(scope, rt, line, posters.1);
+            let left = start_mirror(scope, rt, alloc, line, gate, 0, mirrors.0);
+            let right = start_mirror(scope, rt, alloc, line, gate, 1, mirrors.1);
             let (Ok(one), Ok(two), Ok(left), Ok(right)) = (one, two, left, right) else {
                 line.call_off(rt);
                 return Err(RunFault::NoThread);

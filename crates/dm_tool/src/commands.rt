@@ -73,7 +73,7 @@ fn check_words<'a>(alloc: Global) -> Command<'a> {
 
 /// The words of `dm run`.
 fn run_words<'a>(alloc: Global) -> Result<Command<'a>, AllocError> {
-    let waiting = "How many mails of a poster may wait at a mirror, 1 to 64";
+    let waiting = "How many mails may wait at a mirror, 1 to 64";
     let start = "Let each mirror take the bundle of FILE first";
     Command::new(alloc, "run")
         .about(

@@ -43,8 +43,8 @@ returns g c =
     (served ts us c.args.plan.first_mirror.repo.patches c.settled.result _ _ c.settled.ensures.first c.settled.ensures.second
     ((rw jobs.texts.0 at done.posters.0.first) ∙ ap (λ k. all_mails k ts) jobs.first_mail.first_poster)
     ((rw jobs.texts.1 at done.posters.1.first) ∙ ap (λ k. all_mails k us) jobs.first_mail.second_poster)
-    (rw left.0 done.mirrors.0.below) c.settled.ensures.receipts (rw (left.0, left.1, left.2) (rw jobs.mirrors.0 at done.mirrors.0.fold)))
+    (rw left.0 (rw jobs.first_mail.posters at done.mirrors.0.below)) c.settled.ensures.receipts (rw (left.0, left.1, left.2) (rw jobs.mirrors.0 at done.mirrors.0.fold)))
     (served ts us c.args.plan.second_mirror.repo.patches c.settled-2.result _ _ c.settled-2.ensures.first c.settled-2.ensures.second
     ((rw jobs.texts.0 at done.posters.0.second) ∙ ap (λ k. all_mails k ts) jobs.second_mail.first_poster)
     ((rw jobs.texts.1 at done.posters.1.second) ∙ ap (λ k. all_mails k us) jobs.second_mail.second_poster)
-    (rw right.0 done.mirrors.1.below) c.settled-2.ensures.receipts (rw (right.0, right.1, right.2) (rw jobs.mirrors.1 at done.mirrors.1.fold)))
+    (rw right.0 (rw jobs.second_mail.posters at done.mirrors.1.below)) c.settled-2.ensures.receipts (rw (right.0, right.1, right.2) (rw jobs.mirrors.1 at done.mirrors.1.fold)))

@@ -1,5 +1,3 @@
-use Rattle.std.proofs.Common.{ap, ◌∙◌}
-use Rattle.std.proofs.lemmas.List.{take_all}
 use Rattle.dm_tool.proofs.RunLemmas.{posters_step}
 use Rattle.dm_tool.proofs.running.push_posters.Goals as goal
 

@@ -1,16 +1,17 @@
-use Rattle.std.proofs.Common.{refl, ap, ◌∙◌, ◌++◌, ◌∷◌, []}
-use Rattle.dm_mail.specs.Mails.{bundle}
-use Rattle.dm_mail.specs.Ends.{outlet_mails, next_mail_of}
-use Rattle.dm_mail.proofs.MailLemmas.{longer_by, closed_by, next_body}
+use Rattle.std.proofs.Common.{arith, sym, refl, ◌≡◌, length}
+use Rattle.crossbeam_channel.specs.Claims.{view}
+use Rattle.dm_mail.specs.Mails.{mail, bundle}
+use Rattle.dm_mail.proofs.EndLemmas.{accepted_closed}
+use Rattle.dm_mail.proofs.RuleLemmas.{posts}
 use Rattle.dm_mail.proofs.ends.Outlet.send.Goals as goal
 
-pub invariant_of-self-clause-counted : goal.invariant_of-self-clause-counted
-invariant_of-self-clause-counted g c = longer_by _ _ _ _ (bundle c.new.result) c.in-Ok.ensures.pushed c.args.self.now.counted
+pub send_as-requires-clause-rule : goal.send_as-requires-clause-rule
+send_as-requires-clause-rule g c =
+    let o = c.args.self.now in
+    let counted : length (view o.pass).sent ≡ o.count = o.counted in
+    (posts _ _ _ c.new.result _ o.bound o.told o.is_poster o.unclosed (omega arith) (λ i. mail (sym o.named i) (sym o.counted i) (bundle c.new.result)), λ _ _ _ _. tt)
 
 pub invariant_of-self-clause-unclosed : goal.invariant_of-self-clause-unclosed
-invariant_of-self-clause-unclosed g c = closed_by _ _ _ (bundle c.new.result) _ _ c.in-Ok.ensures.pushed c.args.self.now.unclosed refl
-
-pub returns-in-Ok-clause-sent : goal.returns-in-Ok-clause-sent
-returns-in-Ok-clause-sent g c =
+invariant_of-self-clause-unclosed g c =
     let o = c.args.self.now in
-    next_body o.poster _ _ _ c.in-Ok.ensures.pushed ∙ ap (λ text. outlet_mails o ++ next_mail_of o (bundle text) ∷ []) c.new.ensures
+    accepted_closed (view o.pass) _ (mail o.poster o.count (bundle c.new.result)) _ _ c.in-Ok.ensures.rule o.unclosed refl
