@@ -10,3 +10,4 @@ pub mod LawProofs
 pub mod TableLemmas
 pub mod ListLemmas
 pub mod ApplyLemmas
+pub mod TouchLemmas

@@ -7,3 +7,4 @@ pub mod Laws
 pub mod Hunks
 pub mod Prims
 pub mod Applying
+pub mod Touch

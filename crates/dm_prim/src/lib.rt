@@ -19,6 +19,7 @@ mod places;
 mod primitive;
 #[cfg(test)]
 mod tests;
+mod touched;
 
 pub use effect::{apply, apply_all};
 pub use hunk::{Hunk, HunkFault};
@@ -26,3 +27,4 @@ pub use inverse::{invert, invert_all};
 pub use list::{commute_lists, commute_lists_owned};
 pub use pair::commute;
 pub use primitive::Primitive as Prim;
+pub use touched::{Touched, apart, touch};

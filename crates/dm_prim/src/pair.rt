@@ -99,7 +99,8 @@ fn commute_hunks<A: Allocator>(
     ))
 }
 
-fn are_apart<A: Allocator, B: Allocator>(a: &Path<A>, b: &Path<B>) -> bool
+/// Whether neither path is, or is inside, the other.
+pub(crate) fn are_apart<A: Allocator, B: Allocator>(a: &Path<A>, b: &Path<B>) -> bool
     ensures { IsTrue result ↔ Apart a.now b.now }
 {
     if a.is_under(b) {

@@ -65,6 +65,22 @@ impl<A: Allocator> Primitive<A> {
         }
     }
 
+    /// The path that it moves to, where it is a move.
+    pub(crate) fn target(&self) -> Option<&Path<A>>
+        ensures { MatchOption result
+            (IsWork (prim_of self.now))
+            (λ to. prim_of self.now ≡ primitives.Move (path_of (prim_of self.now)) to.now) }
+    {
+        match self {
+            Primitive::AddFile(_) => None,
+            Primitive::RmFile(_) => None,
+            Primitive::AddDir(_) => None,
+            Primitive::RmDir(_) => None,
+            Primitive::Move(_, to) => Some(to),
+            Primitive::Hunk(_) => None,
+        }
+    }
+
     /// Reads its parts, and so tells that it is good. Takes no memory.
     pub fn tells_good(&self)
         ensures { IsGoodPrim (prim_of self.now) }

@@ -10,6 +10,8 @@ use std::alloc::{AllocError, Allocator};
 use std::process::Abort;
 use std::test::Fail;
 
+mod touch;
+
 const HUNKS: &str = "
 hunk f 1 0 2 then hunk f 7 1 1 gives hunk f 5 1 1 then hunk f 1 0 2 because lines stand between, the first above
 hunk f 1 0 1 then hunk f 3 1 1 gives hunk f 2 1 1 then hunk f 1 0 1 because one line stands between

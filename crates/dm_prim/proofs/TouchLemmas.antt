@@ -1,0 +1,159 @@
+-- Lists that touch nothing in common commute, and stay as they are.
+use Rattle.std.proofs.Common.{◌≡◌, ◌++◌, ◌↔◌, Bool, IsTrue, List, [], ◌∷◌, flat_map, get_or, sym, ap, subst, inl, inr, append_assoc, append-nil, arith, ◌∙◌, true, refl}
+use Rattle.std.specs.List.{All, Contains}
+use Rattle.std.proofs.lemmas.List.Elements.{Contains-get_or, Contains-append_left, Contains-append_right, Contains-append_cases, Contains-push, Contains-push_cases}
+use Rattle.std.proofs.lemmas.Grind.{flat_map-append}
+use Rattle.dm_tree.specs.Paths.{Path, Apart}
+use Rattle.dm_tree.proofs.Paths.{forward-other, apart_sym}
+use Rattle.dm_prim.specs.Primitives.{Work, Prim, At, Move}
+use Rattle.dm_prim.specs.Rectangles.{CellRow, none, next, empty, row}
+use Rattle.dm_prim.specs.Table.{TableRow, two_works, work_move, move_work, two_moves, WorkThenMove, MoveThenMove}
+use Rattle.dm_prim.specs.Commuting.{IsGoodPrim, Commutes, ListsCommute}
+use Rattle.dm_prim.specs.Prims.{path_of, IsWork}
+use Rattle.dm_prim.specs.Touch.{paths_of, IsTouched, MovesOutside, TouchedPaths, Touches, IsApartFrom, AreApart, PassUnchanged}
+use Rattle.dm_prim.proofs.Squares.{not_inside, same_under}
+
+module _ {X : Type 0} (P : X → Type 0) where
+  pub holds_of : (xs : List X) {x : X} → All P xs → Contains xs x → P x
+  holds_of xs {x} h c = subst P c.2 (h c.0 x c.1)
+
+  pub holds_of_all : (xs : List X) → ((x : X) → Contains xs x → P x) → All P xs
+  holds_of_all xs h k d l = h (get_or xs k d) (Contains-get_or xs k d l)
+
+  pub all_with : (xs : List X) (x : X) → All P (xs ++ x ∷ []) ↔ (All P xs × P x)
+  all_with xs x = (
+    λ h. (holds_of_all xs (λ y c. holds_of (xs ++ x ∷ []) h (Contains-append_left xs (x ∷ []) y c)), holds_of (xs ++ x ∷ []) h (Contains-push xs x)),
+    λ h. holds_of_all (xs ++ x ∷ []) (λ y c. elim (Contains-push_cases xs x y c) [ inl d ↦ holds_of xs h.0 d | inr e ↦ subst P e h.1 ]),
+  )
+
+work_aside : (f a b : Path) (w : Work) → Apart a b → Apart f a → Apart f b → WorkThenMove f w a b
+work_aside f a b w m ha hb = record {
+  move_apart = m;
+  f_not_b = λ e. hb.left (same_under f b e);
+  f_not_in_b = not_inside f b hb.left;
+  a_not_in_f = not_inside a f ha.right;
+  b_not_in_f = not_inside b f hb.right;
+  hunk_at_a = λ e. absurd (ha.left (same_under f a e));
+}
+
+move_aside : (a b c d : Path) → Apart a b → Apart c d → Apart a c → Apart a d → Apart b c → Apart b d → MoveThenMove a b c d
+move_aside a b c d m n ac ad bc bd = record {
+  first_apart = m;
+  second_apart = n;
+  c_not_b = λ e. bc.left (same_under b c (sym e));
+  d_not_a = λ e. ad.left (same_under a d (sym e));
+  c_not_a = λ e. ac.left (same_under a c (sym e));
+  d_not_b = λ e. bd.left (same_under b d (sym e));
+  c_not_in_a = not_inside c a ac.right;
+  d_not_in_a = not_inside d a ad.right;
+  a_not_in_d = not_inside a d ad.left;
+  b_not_in_d = not_inside b d bd.left;
+  not_both_inside = λ x y. not_inside a c ac.left x;
+}
+
+first_of : (f : Path) (fs : List Path) → Contains (f ∷ fs) f
+first_of f fs = (0, omega arith, refl)
+
+second_of : (f g : Path) → Contains (f ∷ g ∷ []) g
+second_of f g = (1, omega arith, refl)
+
+-- two primitives that touch nothing in common
+row_aside : (p q : Prim) → MovesOutside p → MovesOutside q → ((f g : Path) → Contains (paths_of p) f → Contains (paths_of q) g → Apart f g) → TableRow p q q p
+row_aside (At f w) (At g v) hp hq h = let d = h f g (first_of f []) (first_of g []) in two_works (record { differ = λ e. d.left (same_under f g e); apart = λ k. d })
+row_aside (At f w) (Move a b) hp hq h =
+    let fa = h f a (first_of f []) (first_of a (b ∷ [])) in
+    work_move (work_aside f a b w hq fa (h f b (first_of f []) (second_of a b))) (sym (forward-other a b f fa.left))
+row_aside (Move a b) (At f w) hp hq h =
+    let bf = h b f (second_of a b) (first_of f []) in
+    move_work (work_aside f b a w (apart_sym hp) (apart_sym bf) (apart_sym (h a f (first_of a (b ∷ [])) (first_of f [])))) (sym (forward-other b a f bf.right))
+row_aside (Move a b) (Move c d) hp hq h =
+    let ac = h a c (first_of a (b ∷ [])) (first_of c (d ∷ [])) in
+    let ad = h a d (first_of a (b ∷ [])) (second_of c d) in
+    let bc = h b c (second_of a b) (first_of c (d ∷ [])) in
+    let bd = h b d (second_of a b) (second_of c d) in
+    two_moves (move_aside a b c d hp hq ac ad bc bd)
+    (sym (forward-other b a c bc.right)) (sym (forward-other b a d bd.right)) (sym (forward-other c d a ac.left)) (sym (forward-other c d b bc.left))
+
+-- lists each pair of which commutes unchanged
+row_unchanged : (x : Prim) (ys : List Prim) → ((y : Prim) → Contains ys y → Commutes x y y x) → CellRow Commutes x ys ys x
+row_unchanged x [] h = none
+row_unchanged x (y ∷ ys) h = next (h y (0, omega arith, refl)) (row_unchanged x ys (λ z c. h z (Contains-append_right (y ∷ []) ys z c)))
+
+lists_unchanged : (xs ys : List Prim) → ((x y : Prim) → Contains xs x → Contains ys y → Commutes x y y x) → ListsCommute xs ys ys xs
+lists_unchanged [] ys h = empty
+lists_unchanged (x ∷ xs) ys h = row (lists_unchanged xs ys (λ z y c d. h z y (Contains-append_right (x ∷ []) xs z c) d)) (row_unchanged x ys (λ y d. h x y (0, omega arith, refl) d))
+
+-- what a primitive of a list names is touched by the list
+touched_in : (ps : List Prim) (p : Prim) (f : Path) → Contains ps p → Contains (paths_of p) f → IsTouched ps f
+touched_in [] p f (k, l, e) d = absurd (omega (arith, l))
+touched_in (q ∷ ps) p f c d = elim (Contains-append_cases (q ∷ []) ps p c) [ inl x ↦ Contains-append_left (paths_of q) (flat_map paths_of ps) f (rw (only x) d) | inr x ↦ Contains-append_right (paths_of q) (flat_map paths_of ps) f (touched_in ps p f x d) ]
+  where
+    only : Contains (q ∷ []) p → q ≡ p
+    only x = elim (Contains-push_cases [] q p x) [ inl (k, l, e) ↦ absurd (omega (arith, l)) | inr e ↦ e ]
+
+pub pass_unchanged : (t u : TouchedPaths) → AreApart t u → PassUnchanged t u
+pass_unchanged t u h xs ys a b =
+    lists_unchanged xs ys (λ x y c d. record {
+      good_p = holds_of IsGoodPrim xs a.good c;
+      good_q = holds_of IsGoodPrim ys b.good d;
+      good_q' = holds_of IsGoodPrim ys b.good d;
+      good_p' = holds_of IsGoodPrim xs a.good c;
+      row = row_aside x y (holds_of MovesOutside xs (a.moves.0 h.0) c) (holds_of MovesOutside ys (b.moves.0 h.1) d)
+          (λ f g e i. holds_of (Apart f) u.paths (holds_of (IsApartFrom u.paths) t.paths h.2 ((a.paths f).1 (touched_in xs x f c e))).each ((b.paths g).1 (touched_in ys y g d i)));
+    })
+
+-- what work and a move name
+pub paths_of_work : (p : Prim) → IsWork p → paths_of p ≡ path_of p ∷ []
+paths_of_work (At f w) h = refl
+paths_of_work (Move a b) h = elim h [ ]
+
+pub work_moves_outside : (p : Prim) → IsWork p → MovesOutside p
+work_moves_outside (At f w) h = tt
+work_moves_outside (Move a b) h = elim h [ ]
+
+pub paths_of_move : (p : Prim) (a b : Path) → p ≡ Move a b → paths_of p ≡ a ∷ b ∷ []
+paths_of_move p a b e = rw e
+
+pub move_moves_outside : (p : Prim) (a b : Path) → p ≡ Move a b → MovesOutside p ↔ Apart a b
+move_moves_outside p a b e = rw e (λ h. h, λ h. h)
+
+-- one primitive more
+module _ (p : Prim) (t : TouchedPaths) (paths : List Path) (moves : Bool) (good : IsGoodPrim p)
+    (more : (f : Path) → Contains paths f ↔ Contains (t.paths ++ paths_of p) f) (outside : IsTrue moves ↔ (IsTrue t.moves_outside × MovesOutside p))
+    (ps : List Prim) (h : Touches ps t) where
+  touched_more : (f : Path) → Contains (t.paths ++ paths_of p) f ↔ Contains (flat_map paths_of ps ++ paths_of p) f
+  touched_more f = (
+    λ c. elim (Contains-append_cases t.paths (paths_of p) f c) [ inl d ↦ Contains-append_left (flat_map paths_of ps) (paths_of p) f ((h.paths f).0 d) | inr d ↦ Contains-append_right (flat_map paths_of ps) (paths_of p) f d ],
+    λ c. elim (Contains-append_cases (flat_map paths_of ps) (paths_of p) f c) [ inl d ↦ Contains-append_left t.paths (paths_of p) f ((h.paths f).1 d) | inr d ↦ Contains-append_right t.paths (paths_of p) f d ],
+  )
+
+  touched_by : flat_map paths_of (ps ++ p ∷ []) ≡ flat_map paths_of ps ++ paths_of p
+  touched_by = flat_map-append paths_of ps (p ∷ []) ∙ ap (λ z. flat_map paths_of ps ++ z) (append-nil (paths_of p))
+
+  pub touches_more : Touches (ps ++ p ∷ []) (record { paths = paths; moves_outside = moves })
+  touches_more = record {
+    good = (all_with IsGoodPrim ps p).1 (h.good, good);
+    paths = λ f. rw touched_by (λ c. (touched_more f).0 ((more f).0 c), λ c. (more f).1 ((touched_more f).1 c));
+    moves = (
+      λ m. let o = outside.0 m in (all_with MovesOutside ps p).1 (h.moves.0 o.0, o.1),
+      λ m. let o = (all_with MovesOutside ps p).0 m in outside.1 (h.moves.1 o.0, o.1),
+    );
+  }
+
+-- a path after another
+pub two_more : (old one two : List Path) (a b : Path) → ((f : Path) → Contains one f ↔ Contains (old ++ a ∷ []) f) → ((f : Path) → Contains two f ↔ Contains (one ++ b ∷ []) f) →
+    (f : Path) → Contains two f ↔ Contains (old ++ a ∷ b ∷ []) f
+two_more old one two a b h k f = rw (append_assoc old (a ∷ []) (b ∷ [])) at both
+  where
+    both : Contains two f ↔ Contains ((old ++ a ∷ []) ++ b ∷ []) f
+    both = (
+      λ c. elim (Contains-append_cases one (b ∷ []) f ((k f).0 c)) [ inl d ↦ Contains-append_left (old ++ a ∷ []) (b ∷ []) f ((h f).0 d) | inr d ↦ Contains-append_right (old ++ a ∷ []) (b ∷ []) f d ],
+      λ c. (k f).1 (elim (Contains-append_cases (old ++ a ∷ []) (b ∷ []) f c) [ inl d ↦ Contains-append_left one (b ∷ []) f ((h f).1 d) | inr d ↦ Contains-append_right one (b ∷ []) f d ]),
+    )
+
+pub touches_none : {t : TouchedPaths} → t.paths ≡ [] → t.moves_outside ≡ true → Touches [] t
+touches_none e m = record {
+  good = λ k d l. absurd (omega (arith, l));
+  paths = λ f. rw e (λ c. c, λ c. c);
+  moves = rw m (λ t. λ k d l. absurd (omega (arith, l)), λ h. refl);
+}

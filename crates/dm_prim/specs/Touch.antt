@@ -1,0 +1,49 @@
+-- Which paths a list of primitives touches, and when two lists touch nothing in common.
+use Rattle.std.specs.Prelude.{◌↔◌, Bool, IsTrue, List, [], ◌∷◌, ◌++◌, flat_map}
+use Rattle.std.specs.List.{All, Contains}
+use Rattle.dm_tree.specs.Paths.{Path, Apart}
+use Rattle.dm_prim.specs.Primitives.{Prim, At, Move}
+use Rattle.dm_prim.specs.Commuting.{IsGoodPrim, ListsCommute}
+
+-- the paths that a primitive names
+abbrev pub paths_of : Prim → List Path
+paths_of (At f w) = f ∷ []
+paths_of (Move a b) = a ∷ b ∷ []
+
+-- a path that a primitive of the list names
+abbrev pub IsTouched : List Prim → Path → Type 0
+IsTouched ps f = Contains (flat_map paths_of ps) f
+
+-- it is no move one of whose paths is, or contains, the other
+abbrev pub MovesOutside : Prim → Type 0
+MovesOutside (At f w) = Unit {0}
+MovesOutside (Move a b) = Apart a b
+
+-- what is known of a list of primitives once it was gone through
+pub record TouchedPaths : Type 0 where
+  -- the paths that it names, each at least once
+  pub paths : List Path
+  -- whether each of its moves leads outside of what it moves
+  pub moves_outside : Bool
+
+-- that is known of this list, whose primitives are good
+pub record Touches (ps : List Prim) (t : TouchedPaths) : Type 0 where
+  pub good : All IsGoodPrim ps
+  pub paths : (f : Path) → Contains t.paths f ↔ IsTouched ps f
+  pub moves : IsTrue t.moves_outside ↔ All MovesOutside ps
+
+-- the path neither is, nor is inside, nor contains one of these
+pub record IsApartFrom (others : List Path) (f : Path) : Type 0 where
+  pub each : All (Apart f) others
+
+-- no path of one is, is inside or contains a path of the other, and each move leads outside of what it moves
+abbrev pub AreApart : TouchedPaths → TouchedPaths → Type 0
+AreApart t u = IsTrue t.moves_outside × IsTrue u.moves_outside × All (IsApartFrom u.paths) t.paths
+
+-- lists that touch this commute, and stay as they are
+abbrev pub PassUnchanged : TouchedPaths → TouchedPaths → Type 0
+PassUnchanged t u = (xs ys : List Prim) → Touches xs t → Touches ys u → ListsCommute xs ys ys xs
+
+-- the list that touched the one touches the other with this primitive more
+abbrev pub TouchesMore : Prim → TouchedPaths → TouchedPaths → Type 0
+TouchesMore p t u = (ps : List Prim) → Touches ps t → Touches (ps ++ p ∷ []) u

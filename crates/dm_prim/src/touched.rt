@@ -1,0 +1,122 @@
+//! The paths that a list of primitives touches.
+ghost use Rattle.std.specs.Prelude.{◌≡◌, ◌↔◌, ◌++◌, ◌∷◌, [], All, Contains, IfOk, OnOk, IsTrue};
+ghost use Rattle.dm_tree.specs.Paths.{Path as TreePath};
+ghost use Rattle.dm_prim.specs.Prims.{prim_of, prims_of};
+ghost use Rattle.dm_prim.specs.Touch.{AreApart, IsApartFrom, PassUnchanged, Touches, TouchesMore};
+
+use crate::pair::are_apart;
+use crate::primitive::Primitive;
+use dm_tree::Path;
+use std::alloc::{AllocError, Allocator};
+use std::marker::Model;
+
+/// The paths that a list of primitives names, and whether each of its moves leads outside of what it moves.
+#[derive(Drop)]
+pub struct Touched<A: Allocator> {
+    paths: Vec<Path<A>, A>,
+    moves_outside: bool,
+}
+
+impl<A: Allocator> Model for Touched<A> {
+    ghost use Rattle.dm_prim.specs.Touch.{TouchedPaths};
+
+    ghost Value = { TouchedPaths };
+
+    ghost view = { λ t. record { paths = t.paths.items; moves_outside = t.moves_outside } };
+}
+
+impl<A: Allocator + Copy> Touched<A> {
+    /// Adds what one more primitive touches.
+    fn add<B: Allocator>(&mut self, prim: &Primitive<B>) -> Result<(), AllocError>
+        ensures { OnOk result (TouchesMore (prim_of prim.now) self.old self.new) }
+    {
+        prim.tells_good();
+        add_path(&mut self.paths, prim.path())?;
+        if let Some(target) = prim.target() {
+            add_path(&mut self.paths, target)?;
+            if !are_apart(prim.path(), target) {
+                self.moves_outside = false;
+            }
+        }
+        Ok(())
+    }
+}
+
+/// Adds a path, unless it is the last one there: the primitives of a patch often work at one path in turn.
+fn add_path<A: Allocator + Copy, B: Allocator>(
+    paths: &mut Vec<Path<A>, A>,
+    path: &Path<B>,
+) -> Result<(), AllocError>
+    ensures { OnOk result ((f : TreePath) → Contains paths.new.items f ↔ Contains (paths.old.items ++ path.now ∷ []) f) }
+{
+    if let Some(last) = paths.last() {
+        if last.same(path) {
+            return Ok(());
+        }
+    }
+    let alloc = *paths.allocator();
+    let copy = path.copy_into(alloc)?;
+    paths.push(copy)?;
+    Ok(())
+}
+
+/// What a list of primitives touches.
+pub fn touch<A: Allocator, B: Allocator + Copy>(
+    alloc: B,
+    prims: &[Primitive<A>],
+) -> Result<Touched<B>, AllocError>
+    ensures { IfOk result (Touches (prims_of prims.now)) }
+{
+    let mut touched = Touched {
+        paths: Vec::new(alloc),
+        moves_outside: true,
+    };
+    for prim in prims {
+        touched.add(prim)?;
+    }
+    Ok(touched)
+}
+
+/// Whether a path neither is, nor is inside, nor contains one of these.
+fn is_apart_from<A: Allocator, B: Allocator>(path: &Path<A>, others: &[Path<B>]) -> bool
+    ensures { IsTrue result ↔ IsApartFrom others.now path.now }
+{
+    others.iter().all(|other| are_apart(path, other))
+}
+
+/// Whether each of these paths is apart from each of the others.
+fn all_apart<A: Allocator, B: Allocator>(paths: &[Path<A>], others: &[Path<B>]) -> bool
+    ensures { IsTrue result ↔ All (IsApartFrom others.now) paths.now }
+{
+    for path in paths {
+        if !is_apart_from(path, others) {
+            return false;
+        }
+    }
+    true
+}
+
+/// Whether they touch nothing in common, and all moves lead outside of what they move.
+fn touch_nothing_in_common<A: Allocator, B: Allocator>(
+    first: &Touched<A>,
+    second: &Touched<B>,
+) -> bool
+    ensures { IsTrue result ↔ AreApart first.now second.now }
+{
+    if !first.moves_outside {
+        return false;
+    }
+    if !second.moves_outside {
+        return false;
+    }
+    all_apart(&first.paths, &second.paths)
+}
+
+/// Whether two lists that touch this are apart: no path of one is, is inside or contains a path of the other, and no move
+/// of either has a path that is, or contains, the other. Such lists commute and stay as they are. Takes no memory.
+pub fn apart<A: Allocator, B: Allocator>(first: &Touched<A>, second: &Touched<B>) -> bool
+    ensures apart { IsTrue result ↔ AreApart first.now second.now }
+    ensures unchanged { IsTrue result → PassUnchanged first.now second.now }
+{
+    touch_nothing_in_common(first, second)
+}
