@@ -1,9 +1,9 @@
--- Laws of the text of paths, primitives and named patches.
+-- Laws of the text of paths, primitives and named patches, and of patches that start at one state.
 use Rattle.std.specs.Prelude.{◌≡◌, ◌≢◌, ◌≤◌, ℕ, List, ◌++◌, length}
 use Rattle.dm_tree.specs.Paths.{Path}
 use Rattle.dm_tree.specs.Validity.{IsGoodPath}
-use Rattle.dm_prim.specs.Primitives.{Prim}
-use Rattle.dm_prim.specs.Commuting.{IsGoodPrim}
+use Rattle.dm_prim.specs.Primitives.{Prim, inv_all}
+use Rattle.dm_prim.specs.Commuting.{IsGoodPrim, ListsCommute}
 use Rattle.dm_named.specs.Words.{skipped, Begins, EndsWord}
 use Rattle.dm_named.specs.Paths.{PathWord}
 use Rattle.dm_named.specs.Patches.{PrimText, Patch, PatchText, IsGoodPatch, RunEnds}
@@ -57,3 +57,9 @@ PrimRoundTrip = (p : Prim) (rest : List ℕ) → IsGoodPrim p → NoLine rest �
 -- a good named patch that is written is read again, before whatever goes on with neither its last hunk nor its run
 abbrev pub PatchRoundTrip : Type 0
 PatchRoundTrip = (p : Patch) (rest : List ℕ) → IsGoodPatch p → NoLine rest → RunEnds (skipped rest) → ReadsPatch (patch_text p ++ rest) p rest
+
+-- two patches that start at one state, turned round: where the inverse of r's primitives then n's commute to those of n' and the inverse of those of r',
+-- the inverse of n's then r's commute to those of r' and the inverse of those of n'
+abbrev pub SquaresTurn : Type 0
+SquaresTurn = (r n n' r' : Patch) → ListsCommute (inv_all r.prims) n.prims n'.prims (inv_all r'.prims) →
+    ListsCommute (inv_all n.prims) r.prims r'.prims (inv_all n'.prims)

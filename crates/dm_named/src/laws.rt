@@ -1,6 +1,7 @@
-//! Laws of the text of paths, primitives and named patches. A call of one does nothing: its contract is the law.
+//! Laws of the text of paths, primitives and named patches, and of two patches that start at one state. A call of one does nothing:
+//! its contract is the law.
 
-ghost use Rattle.dm_named.specs.Laws.{OnePatch, FaultExcludesPatch, OneFault, NoFaultWithinCount, PathRoundTrip, PrimRoundTrip, PatchRoundTrip};
+ghost use Rattle.dm_named.specs.Laws.{OnePatch, FaultExcludesPatch, OneFault, NoFaultWithinCount, PathRoundTrip, PrimRoundTrip, PatchRoundTrip, SquaresTurn};
 
 /// At most one named patch stands at the front of a text.
 pub fn one_patch()
@@ -35,4 +36,10 @@ pub fn prim_round_trip()
 /// A good named patch that is written is read again.
 pub fn patch_round_trip()
     ensures { PatchRoundTrip }
+{}
+
+/// Two patches that start at one state: where n's primitives are those of n' after r, and r's are those of r' after n, the same
+/// holds with the two exchanged.
+pub fn turning_a_square()
+    ensures { SquaresTurn }
 {}

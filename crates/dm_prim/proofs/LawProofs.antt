@@ -6,7 +6,7 @@ use Rattle.dm_prim.specs.InTurn.{done, step}
 use Rattle.dm_prim.specs.Rectangles.{CellRow, none, next, empty, row}
 use Rattle.dm_prim.specs.Primitives.{AddFile, RmFile, AddDir, RmDir, Hunk, Prim, At, Move, inv, inv_all, LawfulMap, Leads, LeadsAll}
 use Rattle.dm_prim.specs.Commuting.{IsGoodPrim, Commutes, ListsCommute}
-use Rattle.dm_prim.specs.Laws.{PairLaws, ListLaws, CommutedPairsEndAlike, PairsCommuteBack, PairsCommutePastAnInverse, CommutedListsEndAlike, ListsCommuteBack, ListsCommutePastAnInverse, InversesLeadBack, ListInversesLeadBack, OneWayToApply, OneWayToCommute, OneWayToCommuteLists}
+use Rattle.dm_prim.specs.Laws.{PairLaws, ListLaws, CommutedPairsEndAlike, PairsCommuteBack, PairsCommutePastAnInverse, CommutedListsEndAlike, ListsCommuteBack, ListsCommutePastAnInverse, RectanglesTurn, InversesLeadBack, ListInversesLeadBack, OneWayToApply, OneWayToCommute, OneWayToCommuteLists}
 use Rattle.dm_prim.proofs.Undoing.{OffRoot, undone, kept}
 use Rattle.dm_prim.proofs.TableRows.{square_from, row_turn, row_inv}
 use Rattle.dm_prim.proofs.Ends.{square_runs, inv_inv}
@@ -79,12 +79,18 @@ inv_all-append : (xs ys : List Prim) → inv_all (xs ++ ys) ≡ inv_all ys ++ in
 inv_all-append [] ys = sym (append-nil (inv_all ys))
 inv_all-append (x ∷ xs) ys = rw (inv_all-append xs ys) (append_assoc (inv_all ys) (inv_all xs) (inv x ∷ []))
 
-inv_all-inv_all : (xs : List Prim) → inv_all (inv_all xs) ≡ xs
+pub inv_all-inv_all : (xs : List Prim) → inv_all (inv_all xs) ≡ xs
 inv_all-inv_all [] = refl
 inv_all-inv_all (x ∷ xs) = inv_all-append (inv_all xs) (inv x ∷ []) ∙ ap₂ (λ a b. a ∷ b) (inv_inv x) (inv_all-inv_all xs)
 
 pub list_inverses_lead_back : ListInversesLeadBack
 list_inverses_lead_back ps s t = (all_lead_back ps s t, λ h. rw (inv_all-inv_all ps) at (all_lead_back (inv_all ps) t s h))
+
+-- two lists that start at one state, turned round: past an inverse, back, and past an inverse
+pub rectangles_turn : RectanglesTurn
+rectangles_turn r n n' r' g =
+    let a : ListsCommute r n' n r' = rw (inv_all-inv_all r, inv_all-inv_all r') at (lists_past_inverse (inv_all r) n n' (inv_all r') g) in
+    lists_past_inverse n r' r n' (lists_back r n' n r' a)
 
 -- one answer
 pub one_map : OneWayToApply

@@ -48,6 +48,11 @@ ListsCommuteBack = (xs ys ys' xs' : List Prim) → ListsCommute xs ys ys' xs' �
 abbrev pub ListsCommutePastAnInverse : Type 0
 ListsCommutePastAnInverse = (xs ys ys' xs' : List Prim) → ListsCommute xs ys ys' xs' → ListsCommute (inv_all xs) ys' ys (inv_all xs')
 
+-- two lists that start at one state, turned round: where the inverse of r then n commute to n' then the inverse of r', the inverse of n then r
+-- commute to r' then the inverse of n'
+abbrev pub RectanglesTurn : Type 0
+RectanglesTurn = (r n n' r' : List Prim) → ListsCommute (inv_all r) n n' (inv_all r') → ListsCommute (inv_all n) r r' (inv_all n')
+
 -- a primitive leads from one lawful map to another exactly where its inverse leads back; so does a list
 abbrev pub InversesLeadBack : Type 0
 InversesLeadBack = (p : Prim) (s t : LawfulMap) → Leads p s t ↔ Leads (inv p) t s

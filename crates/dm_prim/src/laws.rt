@@ -1,6 +1,6 @@
 //! The laws of the definitions alone, for all values, whether or not they ever apply to a tree.
 //! Each call does nothing; whoever calls it knows the law from there on.
-ghost use Rattle.dm_prim.specs.Laws.{CommutedPairsEndAlike, PairsCommuteBack, PairsCommutePastAnInverse, CommutedListsEndAlike, ListsCommuteBack, ListsCommutePastAnInverse, InversesLeadBack, ListInversesLeadBack, OneWayToApply, OneWayToCommute, OneWayToCommuteLists, ApplyingHasOneAnswer, ApplyingAListHasOneAnswer, HunkHasOneAnswer};
+ghost use Rattle.dm_prim.specs.Laws.{CommutedPairsEndAlike, PairsCommuteBack, PairsCommutePastAnInverse, CommutedListsEndAlike, ListsCommuteBack, ListsCommutePastAnInverse, RectanglesTurn, InversesLeadBack, ListInversesLeadBack, OneWayToApply, OneWayToCommute, OneWayToCommuteLists, ApplyingHasOneAnswer, ApplyingAListHasOneAnswer, HunkHasOneAnswer};
 
 /// Every lawful map on which two primitives apply in turn has the same end by those that they
 /// commute to.
@@ -37,6 +37,12 @@ pub fn commuting_lists_back()
 /// inverse of xs'.
 pub fn commuting_lists_past_an_inverse()
     ensures { ListsCommutePastAnInverse }
+{}
+
+/// Two lists that start at one state: where n is n' after r, and r is r' after n, the same holds with
+/// the two exchanged.
+pub fn turning_a_rectangle()
+    ensures { RectanglesTurn }
 {}
 
 /// A list leads from one lawful map to another exactly where its inverse leads back.

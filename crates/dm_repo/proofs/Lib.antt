@@ -19,3 +19,6 @@ pub mod FoldLemmas
 pub mod Depths
 pub mod Following
 pub mod OneAnswer
+pub mod Turning
+pub mod BothOrders
+pub mod OrdersOnce

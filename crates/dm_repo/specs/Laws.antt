@@ -1,5 +1,5 @@
 -- What holds of all repositories and bundles.
-use Rattle.std.specs.Prelude.{◌≡◌, ◌≢◌, ◌↔◌, List, ◌++◌}
+use Rattle.std.specs.Prelude.{◌≡◌, ◌≢◌, ◌↔◌, List, ◌++◌, Option}
 use Rattle.dm_prim.specs.InTurn.{InTurn}
 use Rattle.dm_prim.specs.Primitives.{LawfulMap}
 use Rattle.dm_named.specs.Patches.{Patch}
@@ -9,10 +9,11 @@ use Rattle.dm_repo.specs.Merging.{Merge, MergeStops}
 use Rattle.dm_repo.specs.Squares.{Placed, placed, patches, PlacedCommutes, PlacedMerges}
 use Rattle.dm_repo.specs.Folds.{PatchLeads, Fold}
 use Rattle.dm_bundle.specs.Patches.{infos_of, Distinct}
-use Rattle.dm_repo.specs.Repositories.{IsRepo}
+use Rattle.dm_repo.specs.Repositories.{Repository, IsRepo}
 use Rattle.dm_repo.specs.declared.refusal.Refusal.{Refusal}
 use Rattle.dm_repo.specs.declared.refusal.Refusal.TheVariants.{NoMemory}
 use Rattle.dm_repo.specs.Weighing.{IsCommon, Fits, RefusesBundle, IsNothingNew, IsMergeOf}
+use Rattle.dm_repo.specs.Orders.{TakesBothOrders, patches_of_both}
 
 -- front then rest make the repository's tree
 abbrev pub SplitFolds : Type 0
@@ -74,3 +75,8 @@ AnswersWeighing repo b (Merged merged) = IsMergeOf repo b merged
 abbrev pub WeighingHasOneAnswer : Type 0
 WeighingHasOneAnswer = (repo : List Patch) (b : Contents) (x y : Answer) → x ≢ Refused NoMemory → y ≢ Refused NoMemory →
     AnswersWeighing repo b x → AnswersWeighing repo b y → x ≡ y
+
+-- two answers to taking two bundles in both orders are the same: both none, or twice the same patches
+abbrev pub BothOrdersHaveOneAnswer : Type 0
+BothOrdersHaveOneAnswer = (repo : List Patch) (b c : Contents) (x y : Option (Repository × Repository)) →
+    TakesBothOrders repo b c x → TakesBothOrders repo b c y → patches_of_both x ≡ patches_of_both y

@@ -10,5 +10,6 @@ pub mod Marking
 pub mod Weighing
 pub mod Weighed
 pub mod Splitting
+pub mod Orders
 pub mod Words
 pub mod Laws

@@ -1,7 +1,7 @@
 //! Laws of the definitions alone. A call of them does nothing.
 
 ghost use Rattle.dm_repo.specs.Laws.{FoldIsOne, SplitFolds, SplitIsOne, SplitStopsOnce};
-ghost use Rattle.dm_repo.specs.Laws.{MergeApplies, MergeIsOne, MergeStopsOnce, MergeIsRepo, WeighingHasOneAnswer};
+ghost use Rattle.dm_repo.specs.Laws.{MergeApplies, MergeIsOne, MergeStopsOnce, MergeIsRepo, WeighingHasOneAnswer, BothOrdersHaveOneAnswer};
 
 /// A list of patches makes at most one tree.
 pub fn fold()
@@ -29,4 +29,10 @@ pub fn merge()
 /// patches are merged. Out of memory is no answer of theirs.
 pub fn weighing_has_one_answer()
     ensures { WeighingHasOneAnswer }
+{}
+
+/// A repository and two bundles decide what [`law_both_orders`](crate::law_both_orders) answers: none, or the patches of both
+/// repositories.
+pub fn both_orders_have_one_answer()
+    ensures { BothOrdersHaveOneAnswer }
 {}

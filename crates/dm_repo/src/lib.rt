@@ -8,7 +8,8 @@
 //! The crate stands on dm_bundle's bundles, on dm_named's patches and when they commute, and on dm_prim's laws of commutation.
 //! Its theorem is the contract of [`weigh`]: it answers the merged patches and the tree after them, or the first refusal in
 //! order, with the place or the pair that it is about; and the [`laws`]: front then rest make the repository's tree, what
-//! fits and is merged applies after the repository, and weighing has one answer.
+//! fits and is merged applies after the repository, and weighing has one answer. [`law_both_orders`] takes two bundles in both
+//! orders: where they share no patch and rest on the whole repository, both end at the same tree.
 #![tactic(auto)]
 
 mod dependencies;
@@ -17,6 +18,7 @@ pub mod laws;
 mod lookup;
 mod marks;
 mod merge;
+mod orders;
 mod parted;
 mod passing;
 mod refusal;
@@ -24,6 +26,7 @@ mod repo;
 mod stop;
 mod weighed;
 
+pub use orders::law_both_orders;
 pub use parted::{Parted, split};
 pub use refusal::Refusal;
 pub use repo::{Ready, Repo};

@@ -224,6 +224,68 @@ fn bundles_taken_in_turn(rt: HostRuntime) -> Result<(), Fail> {
     Ok(())
 }
 
+/// What a row shows, the base, the bundles that are taken in both orders, and the repository after the first and then the second,
+/// that after the second and then the first, and the tree of both; or none.
+const BOTH_ORDERS: &str =
+    r"hunks of one file: %N%F%C => %N(n)hunk ./f 1|-1|+one|+uno|%C(a)| => %N(o)hunk ./f 4|-4|+four|%C(a)| => %N%F(n)hunk ./f 1|-1|+one|+uno|(o)hunk ./f 5|-4|+four|%C => %N%F(o)hunk ./f 4|-4|+four|(n)hunk ./f 1|-1|+one|+uno|%C => ./f|one|uno|2|3|four|5|
+one line that both change: %N%F%C => %N(n)hunk ./f 1|-1|+one|%C(a)| => %N(o)hunk ./f 1|-1|+uno|%C(a)| => none
+two directories: %N%C => %N(a)adddir ./d|%C => %N(b)adddir ./e|%C => %N(a)adddir ./d|(b)adddir ./e|%C => %N(b)adddir ./e|(a)adddir ./d|%C => ./d ./e
+one directory that both add: %N%C => %N(a)adddir ./d|%C => %N(b)adddir ./d|%C => none
+work in a directory that the other moves: %N(a){|adddir ./d|addfile ./d/f|}|%C => %N(n)move ./d ./e|%C(a)| => %N(o)hunk ./d/f 1|+x|%C(a)| => %N(a){|adddir ./d|addfile ./d/f|}|(n)move ./d ./e|(o)hunk ./e/f 1|+x|%C => %N(a){|adddir ./d|addfile ./d/f|}|(o)hunk ./d/f 1|+x|(n)move ./d ./e|%C => ./e ./e/f|x|
+two moves: %N(a){|adddir ./d|adddir ./d/g|}|%C => %N(n)move ./d ./e|%C(a)| => %N(o)move ./d/g ./h|%C(a)| => %N(a){|adddir ./d|adddir ./d/g|}|(n)move ./d ./e|(o)move ./e/g ./h|%C => %N(a){|adddir ./d|adddir ./d/g|}|(o)move ./d/g ./h|(n)move ./d ./e|%C => ./e ./h
+two patches each: %N%F%C => %N(n)adddir ./d|(p)move ./f ./d/f|%C(a)| => %N(o)hunk ./f 5|-5|+five|(q)hunk ./f 1|+x|%C(a)| => %N%F(n)adddir ./d|(p)move ./f ./d/f|(o)hunk ./d/f 5|-5|+five|(q)hunk ./d/f 1|+x|%C => %N%F(o)hunk ./f 5|-5|+five|(q)hunk ./f 1|+x|(n)adddir ./d|(p)move ./f ./d/f|%C => ./d ./d/f|x|1|2|3|4|five|
+the last of each conflict: %N%F%C => %N(n)adddir ./d|(p)hunk ./f 1|-1|+one|%C(a)| => %N(o)adddir ./e|(q)hunk ./f 1|-1|+uno|%C(a)| => none
+a patch that both bring: %N%F%C => %N(n)adddir ./d|(s)adddir ./s|%C(a)| => %N(o)adddir ./e|(s)adddir ./s|%C(a)| => %N%F(n)adddir ./d|(s)adddir ./s|(o)adddir ./e|%C => %N%F(o)adddir ./e|(s)adddir ./s|(n)adddir ./d|%C => ./d ./e ./f|1|2|3|4|5| ./s
+the second brings nothing new: %N%F%C => %N(n)adddir ./d|%C(a)| => %N(n)adddir ./d|%C(a)| => none
+more is held than one of them rests on: %N%F(m)hunk ./f 1|+x|%C => %N(n)hunk ./f 3|-3|+three|%C(a)| => %N(o)hunk ./f 6|-5|+five|%C(a)|(m)| => %N%F(m)hunk ./f 1|+x|(n)hunk ./f 4|-3|+three|(o)hunk ./f 6|-5|+five|%C => %N%F(m)hunk ./f 1|+x|(o)hunk ./f 6|-5|+five|(n)hunk ./f 4|-3|+three|%C => ./f|x|1|2|three|4|five|
+only the second can be taken: %N%F%C => %N(n)adddir ./d|%C(z)| => %N(o)adddir ./e|%C(a)| => none
+";
+
+/// The repository has the patches of this row, and makes this tree.
+fn is_left<A: Allocator + Copy>(
+    rt: &impl Abort,
+    alloc: A,
+    repo: &Repo<A>,
+    row: &str,
+    tree: &str,
+    what: &str,
+) -> Result<(), Fail> {
+    let held = write_bundle(alloc, &repo.to_bundle(alloc)?)?;
+    let wanted = text_of(alloc, row)?;
+    assert_eq!(rt;
+        held.as_slice(),
+        wanted.as_slice(),
+        "{what}: the repository"
+    );
+    let after = kept(rt, alloc, repo, what)?;
+    assert_eq!(rt; after.as_slice(), tree.as_bytes(), "{what}: the tree");
+    Ok(())
+}
+
+#[test]
+fn bundles_taken_in_both_orders(rt: HostRuntime) -> Result<(), Fail> {
+    let arena = Bump::new(rt.alloc());
+    for line in BOTH_ORDERS.lines() {
+        let (what, row) = line.split_once(": ").ok_or("what the row shows")?;
+        let (base, row) = row.split_once(" => ").ok_or("a base")?;
+        let (first, row) = row.split_once(" => ").ok_or("a first bundle")?;
+        let (second, answer) = row.split_once(" => ").ok_or("a second bundle")?;
+        let mut repo = Repo::new(rt.alloc());
+        let _ = taken(&rt, &arena, &mut repo, bundle_of(&arena, base)?)?;
+        let first = bundle_of(&arena, first)?;
+        let second = bundle_of(&arena, second)?;
+        let Some((one, other)) = law_both_orders(&arena, &repo, &first, &second)? else {
+            assert_eq!(rt; answer, "none", "{what}");
+            continue;
+        };
+        let (row, answer) = answer.split_once(" => ").ok_or("one order")?;
+        let (back, tree) = answer.split_once(" => ").ok_or("the other order")?;
+        is_left(&rt, &arena, &one, row, tree, what)?;
+        is_left(&rt, &arena, &other, back, tree, what)?;
+    }
+    Ok(())
+}
+
 /// The bundle of a patch that adds so many directories, each in the one before, and the directories x and y, and of more.
 fn chain(alloc: Global, count: usize, more: &str) -> Result<Bundle<Global>, Fail> {
     let mut text = text_of(alloc, "%N(a){|adddir ./x|adddir ./y|")?;
