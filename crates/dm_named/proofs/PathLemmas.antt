@@ -1,5 +1,5 @@
 -- A path's text is cut in one way.
-use Rattle.std.proofs.Common.{◌≡◌, ◌<◌, ◌+◌, ℕ, suc, true, false, List, [], ◌∷◌, ◌++◌, length, get_or, take, drop, refl, sym, ap, subst, ◌∙◌, arith, inl, inr, Some, None, ◌==◌}
+use Rattle.std.proofs.Common.{◌≡◌, ◌<◌, ◌+◌, ℕ, suc, true, false, List, [], ◌∷◌, ◌++◌, length, get_or, take, drop, refl, sym, ap, subst, ◌∙◌, arith, length-append, inl, inr, Some, None, ◌==◌}
 use Rattle.std.proofs.lemmas.Bool.{false≢true}
 use Rattle.std.proofs.lemmas.List.{take-append-drop, drop_more}
 use Rattle.memchr.specs.Find.{IsFirstByte, is_byte}
@@ -84,6 +84,16 @@ pub no_names : (text : List ℕ) (ns : Path) (mid : List ℕ) → Many SlashName
 no_names text ns mid r some none ms s =
     let m = many_follows SlashName one_name_at text ns ms mid [] r s closed_end in
     stuck mid m.0 some none m.2
+
+some_more : (mid : List ℕ) (more : Path) → (length mid ≡ 0 → ⊥) → Many SlashName mid more [] → 0 < length more
+some_more mid [] some r = absurd (some (ap length r))
+some_more mid (n ∷ ns) some r = omega arith
+
+-- where something is left after some names, there are more of them
+pub more_names : (text : List ℕ) (ns : Path) (mid : List ℕ) → Many SlashName text ns mid → (length mid ≡ 0 → ⊥) → (ms : Path) → Many SlashName text ms [] → length ns < length ms
+more_names text ns mid r some ms s =
+    let m = many_follows SlashName one_name_at text ns ms mid [] r s closed_end in
+    omega (arith, some_more mid m.0 some m.2, ap length m.1, length-append ns m.0)
 
 pub ended : (mid : List ℕ) → length mid ≡ 0 → mid ≡ []
 ended [] none = refl

@@ -68,6 +68,10 @@ inverted_more xs i old rest new p q l h e eq en = go h.left h.whole h.queue_is
           count = length-append h.gone (x ∷ []) ∙ omega (arith, h.count);
         }
 
+-- the queue is as long as the list
+pub inverted_count : (xs queue : List Prim) (i : ℕ) → InvertedSome xs queue i → length queue ≡ length xs
+inverted_count xs queue i h = omega (arith, ap length h.whole, ap length h.queue_is, length-append h.gone h.left, length-append h.left (map inv h.gone), length-map h.gone inv)
+
 pub inverted_all : (xs queue : List Prim) (i : ℕ) → length xs ≤ i → InvertedSome xs queue i → queue ≡ map inv xs
 inverted_all xs queue i l h =
     let size : length xs ≡ length h.gone + length h.left = ap length h.whole ∙ length-append h.gone h.left in

@@ -8,9 +8,11 @@ pub mod ValidityLemmas
 pub mod Paths
 pub mod OneAnswer
 pub mod Removes
+pub mod Replacing
 pub mod Renames
 pub mod Search
 pub mod MoveLemmas
 pub mod Sorted
 pub mod Steps
+pub mod Texts
 pub mod Trees

@@ -1,6 +1,7 @@
 pub mod Paths
 pub mod Validity
 pub mod Trees
+pub mod Texts
 pub mod Changes
 pub mod Listings
 pub mod Seen

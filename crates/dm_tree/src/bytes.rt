@@ -1,5 +1,5 @@
 //! A list of bytes that is owned: a name, or a line.
-ghost use Rattle.std.specs.Prelude.{◌≡◌, ◌↔◌, [], IfOk, IsTrue};
+ghost use Rattle.std.specs.Prelude.{◌≡◌, ◌↔◌, ◌++◌, [], IfOk, OnOk, IsTrue};
 ghost use Rattle.dm_tree.specs.Validity.{is_name};
 
 use std::alloc::{AllocError, Allocator};
@@ -62,8 +62,20 @@ pub(crate) fn copy_all<A: Allocator, B: Allocator + Copy>(
     ensures { IfOk result (λ v. v.items ≡ texts.now) }
 {
     let mut copies = Vec::with_capacity(alloc, texts.len())?;
+    push_all(&mut copies, texts)?;
+    Ok(copies)
+}
+
+/// Appends copies of the texts; where memory runs out, some of them.
+pub(crate) fn push_all<A: Allocator, B: Allocator + Copy>(
+    copies: &mut Vec<Bytes<B>, B>,
+    texts: &[Bytes<A>],
+) -> Result<(), AllocError>
+    ensures { OnOk result (copies.new.items ≡ copies.old.items ++ texts.now) }
+{
+    let alloc = *copies.allocator();
     for text in texts {
         copies.push(Bytes::from_slice(alloc, text.as_slice())?)?;
     }
-    Ok(copies)
+    Ok(())
 }

@@ -1,13 +1,14 @@
 //! The change of a range of a file's lines.
-ghost use Rattle.std.specs.Prelude.{◌≡◌, ◌<◌, ◌≤◌, ◌↔◌, ◌∷◌, [], length, OnOk, OnErr, IsTrue};
-ghost use Rattle.std.specs.List.{splice};
+ghost use Rattle.std.specs.Prelude.{◌≡◌, ◌<◌, ◌↔◌, ◌∷◌, [], length, OnOk, OnErr, IsTrue};
 ghost use Rattle.dm_tree.specs.Children.{IsRising, look};
+ghost use Rattle.dm_tree.specs.Paths.{Under};
 ghost use Rattle.dm_tree.specs.Walks.{CanSplice, RefusesEdit, SetsAt, spliced};
 
-use crate::bytes::Bytes;
+use crate::bytes::{Bytes, is_same};
 use crate::fault::TreeFault;
 use crate::node::{Body, Node, place};
-use crate::path::begins;
+use crate::replace::replace_lines;
+use crate::text::Text;
 use std::alloc::{AllocError, Allocator};
 
 /// Whether a file of these lines is empty: one line with no byte.
@@ -21,8 +22,8 @@ pub(crate) fn is_blank<A: Allocator>(lines: &[Bytes<A>]) -> bool
 pub(crate) fn edit_refused<A: Allocator, B: Allocator, C: Allocator>(
     lines: &[Bytes<A>],
     line: u32,
-    old: &[Bytes<B>],
-    new: &[Bytes<C>],
+    old: &Text<B>,
+    new: &Text<C>,
 ) -> Option<TreeFault>
     ensures { RefusesEdit lines.now line old.now new.now result }
 {
@@ -36,7 +37,7 @@ pub(crate) fn edit_refused<A: Allocator, B: Allocator, C: Allocator>(
     if lines.len() - start < old.len() {
         return Some(TreeFault::LineRange);
     }
-    if !begins(&lines[start..], old) {
+    if !stands(&lines[start..], old) {
         return Some(TreeFault::OldDiffers);
     }
     if old.len() == lines.len() && new.is_empty() {
@@ -45,19 +46,34 @@ pub(crate) fn edit_refused<A: Allocator, B: Allocator, C: Allocator>(
     None
 }
 
+/// Whether the lines begin with all those of the text.
+fn stands<A: Allocator, B: Allocator>(lines: &[Bytes<A>], text: &Text<B>) -> bool
+    ensures { IsTrue result ↔ Under lines.now text.now }
+{
+    if lines.len() < text.len() {
+        return false;
+    }
+    for i in 0..text.len() {
+        if !is_same(lines[i].as_slice(), text.line(i)) {
+            return false;
+        }
+    }
+    true
+}
+
 /// Puts fresh lines in place of a file's lines from `start` to before `end`.
-pub(crate) fn edit_at<A: Allocator + Copy, B: Allocator>(
+pub(crate) fn edit_at<A: Allocator + Copy, B: Allocator, C: Allocator>(
     children: &mut Vec<Node<A>, A>,
     path: &[Bytes<B>],
     start: usize,
     end: usize,
-    fresh: Vec<Bytes<A>, A>,
+    fresh: &Text<C>,
 ) -> Result<(), AllocError>
     requires nonempty { 0 < length path.now }
     requires rising { IsRising children.old.items }
-    requires may { CanSplice (look children.old.items path.now) start end fresh.items }
+    requires may { CanSplice (look children.old.items path.now) start end fresh.now }
     ensures rising { IsRising children.new.items }
-    ensures ok { OnOk result (SetsAt (look children.old.items) (look children.new.items) path.now (spliced (look children.old.items path.now) start end fresh.items)) }
+    ensures ok { OnOk result (SetsAt (look children.old.items) (look children.new.items) path.now (spliced (look children.old.items path.now) start end fresh.now)) }
     ensures err { OnErr result (children.new.items ≡ children.old.items) }
 {
     let Some((name, rest)) = path.split_first() else {
@@ -81,21 +97,4 @@ pub(crate) fn edit_at<A: Allocator + Copy, B: Allocator>(
             replace_lines(lines, start, end, fresh)
         }
     }
-}
-
-/// Puts the fresh lines in place of those from `start` to before `end`, in one move of those
-/// after.
-fn replace_lines<A: Allocator + Copy>(
-    lines: &mut Vec<Bytes<A>, A>,
-    start: usize,
-    end: usize,
-    fresh: Vec<Bytes<A>, A>,
-) -> Result<(), AllocError>
-    requires order { start ≤ end }
-    requires within { end ≤ length lines.old.items }
-    ensures ok { OnOk result (lines.new.items ≡ splice lines.old.items start end fresh.items) }
-    ensures err { OnErr result (lines.new.items ≡ lines.old.items) }
-{
-    let _ = lines.splice(start..end, fresh)?;
-    Ok(())
 }

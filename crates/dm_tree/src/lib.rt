@@ -22,8 +22,10 @@ mod listing;
 mod node;
 mod path;
 mod rename;
+mod replace;
 #[cfg(test)]
 mod tests;
+mod text;
 mod tree;
 
 pub use entry::{Entry, FileRef};

@@ -2,15 +2,17 @@
 ghost use Rattle.std.specs.Prelude.{◌≡◌, ◌↔◌, ◌<◌, ◌++◌, ◌∷◌, [], length, IsTrue, IfOk, OnOk, OnErr, slice_index_or};
 ghost use Rattle.dm_tree.specs.Validity.{AnswersLine, ArePlain, IsPlain, line_fault};
 
-use crate::bytes::{Bytes, copy_all};
 use crate::fault::LineFault;
+use crate::text::Text;
 use std::alloc::{AllocError, Allocator};
 use std::marker::Model;
 
 /// A list of lines, none of which has a newline byte: the old or the new lines of an edit.
+///
+/// They stand in one run of bytes, so that they take two blocks of memory, however many they are.
 #[derive(Drop)]
 pub struct Lines<A: Allocator> {
-    lines: Vec<Bytes<A>, A>,
+    text: Text<A>,
 }
 
 impl<A: Allocator> Model for Lines<A> {
@@ -19,34 +21,45 @@ impl<A: Allocator> Model for Lines<A> {
 
     ghost Value = { List (List ℕ) };
 
-    ghost view = { λ a. a.lines.items };
+    ghost view = { λ a. a.text };
 
-    ghost invariant = { λ a. ArePlain a.lines.items };
+    ghost invariant = { λ a. ArePlain a.text };
 }
 
-impl<A: Allocator> Lines<A> {
+impl<A: Allocator + Copy> Lines<A> {
     /// No lines; takes no memory.
     pub fn new(alloc: A) -> Lines<A>
         ensures { result ≡ [] }
     {
         Lines {
-            lines: Vec::new(alloc),
+            text: Text::new(alloc),
         }
     }
 
+    /// No lines, with room for so many lines, and for so many bytes of all lines together: for a
+    /// reader that knows both before it appends the lines.
+    pub fn with_room(alloc: A, lines: usize, bytes: usize) -> Result<Lines<A>, AllocError>
+        ensures { IfOk result (λ r. r ≡ []) }
+    {
+        let text = Text::with_room(alloc, lines, bytes)?;
+        Ok(Lines { text })
+    }
+}
+
+impl<A: Allocator> Lines<A> {
     /// The count of lines.
     pub fn len(&self) -> usize
         ensures value { result ≡ length self.now }
         ensures good { ArePlain self.now }
     {
-        self.lines.len()
+        self.text.len()
     }
 
     /// Whether there is no line.
     pub fn is_empty(&self) -> bool
         ensures { IsTrue result ↔ (self.now ≡ []) }
     {
-        self.lines.is_empty()
+        self.text.is_empty()
     }
 
     /// The line at a place, from 0, borrowed.
@@ -54,26 +67,9 @@ impl<A: Allocator> Lines<A> {
         requires { i < length self.now }
         ensures { result.now ≡ slice_index_or self.now i [] }
     {
-        self.lines[i].as_slice()
+        self.text.line(i)
     }
 
-    /// A copy with another allocator.
-    pub fn copy_into<B: Allocator + Copy>(&self, alloc: B) -> Result<Lines<B>, AllocError>
-        ensures { IfOk result (λ r. r ≡ self.now) }
-    {
-        let lines = copy_all(alloc, self.lines())?;
-        Ok(Lines { lines })
-    }
-
-    pub(crate) fn lines(&self) -> &[Bytes<A>]
-        ensures value { result.now ≡ self.now }
-        ensures good { ArePlain self.now }
-    {
-        self.lines.as_slice()
-    }
-}
-
-impl<A: Allocator + Copy> Lines<A> {
     /// Appends a copy of the line. A line with a newline byte is refused as
     /// [`LineFault::Newline`].
     pub fn push(&mut self, line: &[u8]) -> Result<(), LineFault>
@@ -95,9 +91,22 @@ impl<A: Allocator + Copy> Lines<A> {
         ensures ok { OnOk result (self.new ≡ self.old ++ line.now ∷ []) }
         ensures err { OnErr result (self.new ≡ self.old) }
     {
-        let alloc = *self.lines.allocator();
-        let fresh = Bytes::from_slice(alloc, line)?;
-        self.lines.push(fresh)?;
+        self.text.push(line)?;
         Ok(())
+    }
+
+    /// A copy with another allocator, with no room to spare.
+    pub fn copy_into<B: Allocator + Copy>(&self, alloc: B) -> Result<Lines<B>, AllocError>
+        ensures { IfOk result (λ r. r ≡ self.now) }
+    {
+        let text = self.text.copy_into(alloc)?;
+        Ok(Lines { text })
+    }
+
+    pub(crate) fn text(&self) -> &Text<A>
+        ensures value { result.now ≡ self.now }
+        ensures good { ArePlain self.now }
+    {
+        &self.text
     }
 }

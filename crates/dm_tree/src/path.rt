@@ -3,7 +3,7 @@ ghost use Rattle.std.specs.Prelude.{◌≡◌, ◌<◌, ◌≤◌, ◌↔◌, []
 ghost use Rattle.dm_tree.specs.Validity.{AnswersPath, IsGoodPath, is_bad_name, path_fault, path_fault_of};
 ghost use Rattle.dm_tree.specs.Paths.{Inside, Under, forward};
 
-use crate::bytes::{Bytes, copy_all, is_same};
+use crate::bytes::{Bytes, copy_all, is_same, push_all};
 use crate::fault::PathFault;
 use std::alloc::{AllocError, Allocator};
 use std::marker::Model;
@@ -160,9 +160,9 @@ impl<A: Allocator> Path<A> {
         if base.len() + rest.len() > 32 {
             return Ok(None);
         }
-        let mut moved = copy_all(alloc, base)?;
-        let mut below = copy_all(alloc, rest)?;
-        moved.append(&mut below)?;
+        let mut moved = Vec::with_capacity(alloc, base.len() + rest.len())?;
+        push_all(&mut moved, base)?;
+        push_all(&mut moved, rest)?;
         Ok(Some(Path { names: moved }))
     }
 

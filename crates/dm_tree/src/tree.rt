@@ -11,7 +11,6 @@ ghost use Rattle.dm_tree.specs.Seen.{seen};
 ghost use Rattle.dm_tree.specs.Nested.{entry_of};
 ghost use Rattle.dm_tree.specs.Walks.{leaf_entry, part_of};
 
-use crate::bytes::copy_all;
 use crate::edit::{edit_at, edit_refused, is_blank};
 use crate::entry::{Entry, FileRef};
 use crate::fault::TreeFault;
@@ -171,16 +170,14 @@ impl<A: Allocator + Copy> Tree<A> {
             None => return Err(TreeFault::Missing),
             Some(Body::Children(_)) => return Err(TreeFault::NotFile),
             Some(Body::Text(lines)) => {
-                if let Some(fault) = edit_refused(lines, line, old.lines(), new.lines()) {
+                if let Some(fault) = edit_refused(lines, line, old.text(), new.text()) {
                     return Err(fault);
                 }
             }
         }
-        let alloc = *self.children.allocator();
-        let fresh = copy_all(alloc, new.lines())?;
         let start = (line - 1) as usize;
         let end = start + old.len();
-        edit_at(&mut self.children, path.names(), start, end, fresh)?;
+        edit_at(&mut self.children, path.names(), start, end, new.text())?;
         Ok(())
     }
 

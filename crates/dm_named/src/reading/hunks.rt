@@ -1,6 +1,6 @@
 //! Hunks as text, from after their path.
 
-ghost use Rattle.std.specs.Prelude.{◌≡◌, ◌≤◌, ℕ, List, length, drop, IfOk, IfErr};
+ghost use Rattle.std.specs.Prelude.{◌≡◌, ◌≤◌, ℕ, List, [], length, drop, IfOk, IfErr};
 ghost use Rattle.dm_named.specs.Words.{LineGroup};
 ghost use Rattle.dm_named.specs.Patches.{HunkBody};
 ghost use Rattle.dm_named.specs.Faults as faults;
@@ -24,7 +24,7 @@ fn lines_at<A: Allocator + Copy>(
     ensures within { IfOk result (λ x. x.1 ≤ length text.now) }
     ensures forward { IfOk result (λ x. start ≤ x.1) }
 {
-    let mut lines = Lines::new(alloc);
+    let mut lines = room_at(alloc, byte, text, start)?;
     let mut at = start;
     while begins_at(text, at, byte) {
         let (line, next) = line_at(text, at + 1);
@@ -32,6 +32,39 @@ fn lines_at<A: Allocator + Copy>(
         at = next;
     }
     Ok((lines, at))
+}
+
+/// No lines, with room for those that begin with a byte: of each all but that byte and its newline.
+fn room_at<A: Allocator + Copy>(
+    alloc: A,
+    byte: u8,
+    text: &[u8],
+    start: usize,
+) -> Result<Lines<A>, AllocError>
+    requires { start ≤ length text.now }
+    ensures { IfOk result (λ r. r ≡ []) }
+{
+    let (count, end) = count_lines(byte, text, start);
+    Lines::with_room(
+        alloc,
+        count,
+        (end - start).saturating_sub(count.saturating_mul(2)),
+    )
+}
+
+/// The count of the lines that begin with a byte, and the place after them.
+fn count_lines(byte: u8, text: &[u8], start: usize) -> (usize, usize)
+    requires { start ≤ length text.now }
+    ensures { start ≤ result.1 }
+{
+    let mut count = 0;
+    let mut at = start;
+    while begins_at(text, at, byte) {
+        let (_line, next) = line_at(text, at + 1);
+        count += 1;
+        at = next;
+    }
+    (count, at)
 }
 
 /// The place after the lines that begin with a space.

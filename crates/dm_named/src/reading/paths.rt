@@ -1,6 +1,6 @@
 //! Paths as text.
 
-ghost use Rattle.std.specs.Prelude.{◌≡◌, ◌≤◌, [], List, ℕ, length, drop, map, IfOk, IfErr};
+ghost use Rattle.std.specs.Prelude.{◌≡◌, ◌<◌, ◌≤◌, [], List, ℕ, length, drop, map, IfOk, IfErr};
 ghost use Rattle.dm_named.specs.Many.{Many};
 ghost use Rattle.dm_named.specs.Paths.{Piece, SlashName, IsPathText, NextPath};
 ghost use Rattle.dm_named.specs.Faults.{PathFaultAt};
@@ -35,14 +35,17 @@ fn slash_name<A: Allocator + Copy>(alloc: A, text: &[u8]) -> Result<(Vec<u8, A>,
     Ok((name, rest))
 }
 
-/// Names, each after its slash.
+/// Names, each after its slash, and no more than a path may have.
 fn names_of<A: Allocator + Copy>(alloc: A, text: &[u8]) -> Result<Vec<Vec<u8, A>, A>, NameFault>
     ensures found { IfOk result (λ x. Many SlashName text.now (map (λ v. v.items) x.items) []) }
-    ensures none { IfErr result (λ e. (e ≡ NameFault.BadPath) → (names : List (List ℕ)) → Many SlashName text.now names [] → ⊥) }
+    ensures none { IfErr result (λ e. (e ≡ NameFault.BadPath) → (names : List (List ℕ)) → Many SlashName text.now names [] → 32 < length names) }
 {
     let mut names = Vec::new(alloc);
     let mut rest = text;
     while !rest.is_empty() {
+        if names.len() >= 32 {
+            return Err(NameFault::BadPath);
+        }
         let (name, next) = slash_name(alloc, rest)?;
         names.push(name)?;
         rest = next;
@@ -57,7 +60,7 @@ fn parts_of<A: Allocator + Copy>(
 ) -> Result<Vec<&[u8], A>, AllocError>
     ensures { IfOk result (λ x. map (λ b. b.now) x.items ≡ map (λ v. v.items) names.now) }
 {
-    let mut parts = Vec::new(alloc);
+    let mut parts = Vec::with_capacity(alloc, names.len())?;
     for name in names {
         parts.push(name.as_slice())?;
     }

@@ -1,6 +1,6 @@
-use Rattle.std.proofs.Common.{arith, ap, ◌∙◌}
+use Rattle.std.proofs.Common.{◌≡◌, ◌<◌, arith, ap, ◌∙◌, true, false, length}
 use Rattle.dm_prim.specs.Prims.{prims_of}
-use Rattle.dm_prim.proofs.ListLemmas.{count_of, inverted_none, inverted_more, inverted_all}
+use Rattle.dm_prim.proofs.ListLemmas.{count_of, inverted_none, inverted_count, inverted_more, inverted_all}
 use Rattle.dm_prim.proofs.inverse.invert_each.Goals as goal
 
 pub loop-i-init : goal.loop-i-init
@@ -8,6 +8,14 @@ loop-i-init g c = (
   inverted_none (prims_of c.args.prims.items) (prims_of c.from-queue.result.items) (ap (λ z. prims_of z) c.from-queue.ensures.0),
   c.len-i-end.ensures ∙ c.from-queue.ensures.1 ∙ c.args.prims.ok.0,
 )
+
+pub unreachable-requires : goal.unreachable-requires
+unreachable-requires g c =
+    let queue = c.loop-i.queue.items in
+    let some : 0 < length queue =
+    omega (arith, count_of queue, inverted_count (prims_of c.args.prims.items) (prims_of queue) c.loop-i.i c.loop-i.invariant.0, count_of c.args.prims.items, c.loop-i-test.true, c.loop-i.invariant.1) in
+    let never : false ≡ true = c.in_default.ensures.variant.1 (omega (arith, some, c.loop-i.queue.ok)) in
+    cc
 
 pub loop-i-preserved : goal.loop-i-preserved
 loop-i-preserved g c = (

@@ -12,7 +12,7 @@ use Rattle.dm_tree.proofs.edit.+edit_at.Goals as goal
 
 pub unreachable-requires-in_default-place : goal.unreachable-requires-in_default-place
 unreachable-requires-in_default-place g t c =
-    subst (λ x. CanSplice x c.args.start c.args.end c.args.fresh.items) (look_gap c.in-Some.name.now _ c.args.children.now.items _ c.in_default-place.field-0 c.args.path.now c.in-Some.rest.now c.requires.rising c.as_slice.ensures c.deref.ensures.value c.in_default-place.ensures.absent c.in-Some.ensures.cases.0) c.requires.may
+    subst (λ x. CanSplice x c.args.start c.args.end c.args.fresh.now) (look_gap c.in-Some.name.now _ c.args.children.now.items _ c.in_default-place.field-0 c.args.path.now c.in-Some.rest.now c.requires.rising c.as_slice.ensures c.deref.ensures.value c.in_default-place.ensures.absent c.in-Some.ensures.cases.0) c.requires.may
 
 pub unreachable-requires-then-is_empty : goal.unreachable-requires-then-is_empty
 unreachable-requires-then-is_empty g t c =
@@ -21,7 +21,7 @@ unreachable-requires-then-is_empty g t c =
     let view : dir_child c.child.inside.name c.in-Children.inner.items ≡ c.index_mut-child.result.now = rw c.in-Children.is at c.child.view_is in
     let o = opened name _ ks _ c.in-Ok.i c.index_mut-child.result.now c.child.inside.name c.in-Children.inner.items c.as_slice.ensures c.deref.ensures.value c.in-Ok.ensures.found c.index_mut-child.ensures.value view in
     let none = no_rest c.in-Some.rest.now (sym c.is_empty.ensures ∙ c.if-is_empty.true) in
-    subst (λ x. CanSplice x c.args.start c.args.end c.args.fresh.items) (look_dir name ks c.in-Ok.i c.child.inside.name c.in-Children.inner.items c.args.path.now c.in-Some.rest.now c.requires.rising o c.in-Some.ensures.cases.0 ∙ ap (look c.in-Children.inner.items) none) c.requires.may
+    subst (λ x. CanSplice x c.args.start c.args.end c.args.fresh.now) (look_dir name ks c.in-Ok.i c.child.inside.name c.in-Children.inner.items c.args.path.now c.in-Some.rest.now c.requires.rising o c.in-Some.ensures.cases.0 ∙ ap (look c.in-Children.inner.items) none) c.requires.may
 
 pub edit_at-requires : goal.edit_at-requires
 edit_at-requires g t c κs within =
@@ -29,17 +29,17 @@ edit_at-requires g t c κs within =
     let name = c.in-Some.name.now in
     let view : dir_child c.child.inside.name c.in-Children.inner.items ≡ c.index_mut-child.result.now = rw c.in-Children.is at c.child.view_is in
     let o = opened name _ ks _ c.in-Ok.i c.index_mut-child.result.now c.child.inside.name c.in-Children.inner.items c.as_slice.ensures c.deref.ensures.value c.in-Ok.ensures.found c.index_mut-child.ensures.value view in
-    let may = subst (λ x. CanSplice x c.args.start c.args.end c.args.fresh.items) (look_dir name ks c.in-Ok.i c.child.inside.name c.in-Children.inner.items c.args.path.now c.in-Some.rest.now c.requires.rising o c.in-Some.ensures.cases.0) c.requires.may in
+    let may = subst (λ x. CanSplice x c.args.start c.args.end c.args.fresh.now) (look_dir name ks c.in-Ok.i c.child.inside.name c.in-Children.inner.items c.args.path.now c.in-Some.rest.now c.requires.rising o c.in-Some.ensures.cases.0) c.requires.may in
     let good : IsRising c.in-Children.inner.items = subst IsGood c.in-Children.is c.child.invariant in
     let some = some_rest c.in-Some.rest.now (sym c.is_empty.ensures ∙ c.if-is_empty.false) in
     let less : length c.in-Some.rest.now < length c.args.path.now = omega (arith, c.in-Some.ensures.cases.1) in
-    (omega (arith, less, c.decreases), (within.0, (within.1, (some, (good, may)))))
+    (omega (arith, less, c.decreases), (within.0, (within.1.0, (within.1.1, (some, (good, may))))))
 
 pub unreachable-requires-then-not-is_empty : goal.unreachable-requires-then-not-is_empty
 unreachable-requires-then-not-is_empty g t c =
     let some = some_rest c.in-Some.rest.now (sym c.is_empty-in-Text.ensures ∙ c.if-not-is_empty.true) in
     let view : leaf_child c.child.inside.name (File c.in-Text.lines.items) ≡ c.index_mut-child.result.now = rw c.in-Text.is at c.child.view_is in
-    subst (λ x. CanSplice x c.args.start c.args.end c.args.fresh.items) (look_text c.in-Some.name.now _ c.args.children.now.items _ c.in-Ok.i c.index_mut-child.result.now c.child.inside.name c.in-Text.lines.items c.args.path.now c.in-Some.rest.now c.requires.rising c.as_slice.ensures c.deref.ensures.value c.in-Ok.ensures.found c.index_mut-child.ensures.value view c.in-Some.ensures.cases.0 some) c.requires.may
+    subst (λ x. CanSplice x c.args.start c.args.end c.args.fresh.now) (look_text c.in-Some.name.now _ c.args.children.now.items _ c.in-Ok.i c.index_mut-child.result.now c.child.inside.name c.in-Text.lines.items c.args.path.now c.in-Some.rest.now c.requires.rising c.as_slice.ensures c.deref.ensures.value c.in-Ok.ensures.found c.index_mut-child.ensures.value view c.in-Some.ensures.cases.0 some) c.requires.may
 
 pub replace_lines-requires : goal.replace_lines-requires
 replace_lines-requires g t c =
@@ -49,7 +49,7 @@ replace_lines-requires g t c =
     let view : leaf_child c.child.inside.name (File c.in-Text.lines.items) ≡ c.index_mut-child.result.now = rw c.in-Text.is at c.child.view_is in
     let seen_file = seen name ks c.in-Ok.i c.index_mut-child.result.now (leaf_child c.child.inside.name (File c.in-Text.lines.items)) at c.index_mut-child.ensures.value view in
     let none = no_rest c.in-Some.rest.now (sym c.is_empty-in-Text.ensures ∙ c.if-not-is_empty.false) in
-    let may : CanSplice (Some (File c.in-Text.lines.items)) c.args.start c.args.end c.args.fresh.items = subst (λ x. CanSplice x c.args.start c.args.end c.args.fresh.items) (look_here name ks c.child.inside.name c.in-Text.lines.items c.args.path.now c.in-Some.rest.now c.requires.rising seen_file c.in-Some.ensures.cases.0 none) c.requires.may in
+    let may : CanSplice (Some (File c.in-Text.lines.items)) c.args.start c.args.end c.args.fresh.now = subst (λ x. CanSplice x c.args.start c.args.end c.args.fresh.now) (look_here name ks c.child.inside.name c.in-Text.lines.items c.args.path.now c.in-Some.rest.now c.requires.rising seen_file c.in-Some.ensures.cases.0 none) c.requires.may in
     record { order = may.0; within = may.1.0 }
 
 pub invariant_of-child-in-Text : goal.invariant_of-child-in-Text
@@ -60,9 +60,9 @@ invariant_of-child-in-Text g t c =
     let view : leaf_child c.child.inside.name (File c.in-Text.lines.items) ≡ c.index_mut-child.result.now = rw c.in-Text.is at c.child.view_is in
     let seen_file = seen name ks c.in-Ok.i c.index_mut-child.result.now (leaf_child c.child.inside.name (File c.in-Text.lines.items)) at c.index_mut-child.ensures.value view in
     let none = no_rest c.in-Some.rest.now (sym c.is_empty-in-Text.ensures ∙ c.if-not-is_empty.false) in
-    let may : CanSplice (Some (File c.in-Text.lines.items)) c.args.start c.args.end c.args.fresh.items = subst (λ x. CanSplice x c.args.start c.args.end c.args.fresh.items) (look_here name ks c.child.inside.name c.in-Text.lines.items c.args.path.now c.in-Some.rest.now c.requires.rising seen_file c.in-Some.ensures.cases.0 none) c.requires.may in
+    let may : CanSplice (Some (File c.in-Text.lines.items)) c.args.start c.args.end c.args.fresh.now = subst (λ x. CanSplice x c.args.start c.args.end c.args.fresh.now) (look_here name ks c.child.inside.name c.in-Text.lines.items c.args.path.now c.in-Some.rest.now c.requires.rising seen_file c.in-Some.ensures.cases.0 none) c.requires.may in
     let had : 0 < length c.in-Text.lines.items = subst IsGood c.in-Text.is c.child.invariant in
-    still_lines c.replace_lines.result c.in-Text.lines.items c.replace_lines.new.lines.items (splice c.in-Text.lines.items c.args.start c.args.end c.args.fresh.items) c.replace_lines.ensures.ok c.replace_lines.ensures.err may.1.1 had
+    still_lines c.replace_lines.result c.in-Text.lines.items c.replace_lines.new.lines.items (splice c.in-Text.lines.items c.args.start c.args.end c.args.fresh.now) c.replace_lines.ensures.ok c.replace_lines.ensures.err may.1.1 had
 
 pub returns-else-is_empty-clause-rising : goal.returns-else-is_empty-clause-rising
 returns-else-is_empty-clause-rising g t c =
@@ -78,7 +78,7 @@ returns-else-is_empty-clause-ok g t c =
     let name = c.in-Some.name.now in
     let view : dir_child c.child.inside.name c.in-Children.inner.items ≡ c.index_mut-child.result.now = rw c.in-Children.is at c.child.view_is in
     let o = opened name _ ks _ c.in-Ok.i c.index_mut-child.result.now c.child.inside.name c.in-Children.inner.items c.as_slice.ensures c.deref.ensures.value c.in-Ok.ensures.found c.index_mut-child.ensures.value view in
-    on_ok c.edit_at.result _ _ (λ s. spliced_dir ks c.args.path.now c.args.start c.args.end c.args.fresh.items name c.in-Ok.i c.child.inside.name c.in-Children.inner.items c.edit_at.new.children.items c.in-Some.rest.now c.requires.rising o c.in-Some.ensures.cases.0 s) c.edit_at.ensures.ok
+    on_ok c.edit_at.result _ _ (λ s. spliced_dir ks c.args.path.now c.args.start c.args.end c.args.fresh.now name c.in-Ok.i c.child.inside.name c.in-Children.inner.items c.edit_at.new.children.items c.in-Some.rest.now c.requires.rising o c.in-Some.ensures.cases.0 s) c.edit_at.ensures.ok
 
 pub returns-else-is_empty-clause-err : goal.returns-else-is_empty-clause-err
 returns-else-is_empty-clause-err g t c =
@@ -104,7 +104,7 @@ returns-else-not-is_empty-clause-ok g t c =
     let same : c.child.inside.name ≡ name = ap (λ k. k.name) (view ∙ c.index_mut-child.ensures.value) ∙ at_name name ks c.in-Ok.i c.index_mut-child.result.now at in
     let seen_file = seen name ks c.in-Ok.i c.index_mut-child.result.now (leaf_child c.child.inside.name (File c.in-Text.lines.items)) at c.index_mut-child.ensures.value view in
     let none = no_rest c.in-Some.rest.now (sym c.is_empty-in-Text.ensures ∙ c.if-not-is_empty.false) in
-    on_ok c.replace_lines.result _ _ (λ e. spliced_text ks c.args.path.now c.args.start c.args.end c.args.fresh.items name c.in-Ok.i c.child.inside.name c.in-Text.lines.items c.replace_lines.new.lines.items c.in-Some.rest.now c.requires.rising at same seen_file c.in-Some.ensures.cases.0 none e) c.replace_lines.ensures.ok
+    on_ok c.replace_lines.result _ _ (λ e. spliced_text ks c.args.path.now c.args.start c.args.end c.args.fresh.now name c.in-Ok.i c.child.inside.name c.in-Text.lines.items c.replace_lines.new.lines.items c.in-Some.rest.now c.requires.rising at same seen_file c.in-Some.ensures.cases.0 none e) c.replace_lines.ensures.ok
 
 pub returns-else-not-is_empty-clause-err : goal.returns-else-not-is_empty-clause-err
 returns-else-not-is_empty-clause-err g t c =

@@ -1,4 +1,4 @@
-use Rattle.std.proofs.Common.{◌∙◌, sym, refl, length}
+use Rattle.std.proofs.Common.{◌≡◌, ◌++◌, ◌∙◌, ap, sym, refl, length, drop}
 use Rattle.std.proofs.lemmas.List.{take_rest}
 use Rattle.dm_tree.proofs.Paths.{forward-other}
 use Rattle.dm_tree.proofs.Fronts.{refuted, under_at, too_long, in_place, moved_good}
@@ -17,13 +17,14 @@ pub invariant_of-result : goal.invariant_of-result
 invariant_of-result g c =
     let n = length c.names-front.result.now in
     let short = c.if-base-rest-gt32.false in
+    let pushed : c.push_all.new.copies.items ≡ c.names-base.result.now = rw c.in_ok-moved.ensures.items at c.in_ok-push_all.ensures in
     moved_good c.names-names.result.now c.names-front.result.now c.names-base.result.now c.args.self.now c.args.from.now c.args.to.now n
     c.names-names.ensures.value c.names-front.ensures.value c.names-base.ensures.value refl (c.if-not-begins.ensures.0 refl)
-    c.append.new.self.items c.in_ok-moved.moved.items c.in_ok-below.below.items c.in_ok-append.ensures.items c.in_ok-moved.ensures (c.in_ok-below.ensures ∙ take_rest c.names-names.result.now n)
+    c.push_all-2.new.copies.items c.push_all.new.copies.items (drop n c.names-names.result.now) (c.in_ok-push_all-2.ensures ∙ ap (λ z. c.push_all.new.copies.items ++ z) (take_rest c.names-names.result.now n)) pushed refl
     c.names-names.ensures.good c.names-base.ensures.good (rw (take_rest c.names-names.result.now n) at short)
 
 pub returns-clause-value : goal.returns-clause-value
 returns-clause-value g c =
     in_place c.names-names.result.now c.names-front.result.now c.names-base.result.now c.args.self.now c.args.from.now c.args.to.now (length c.names-front.result.now)
     c.names-names.ensures.value c.names-front.ensures.value c.names-base.ensures.value refl (c.if-not-begins.ensures.0 refl)
-    c.names-names.result.now c.append.new.self.items c.in_ok-moved.moved.items c.in_ok-below.below.items refl c.in_ok-append.ensures.items c.in_ok-moved.ensures c.in_ok-below.ensures
+    c.names-names.result.now c.push_all-2.new.copies.items c.push_all.new.copies.items _ refl c.in_ok-push_all-2.ensures (rw c.in_ok-moved.ensures.items at c.in_ok-push_all.ensures) refl

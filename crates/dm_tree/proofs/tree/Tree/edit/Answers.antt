@@ -25,18 +25,7 @@ returns-in-Some-clause-fault g c =
     let old = c.args.old.now in
     let new = c.args.new.now in
     let at_file : get c.args.self.now p ≡ Some (File ls) = sym c.in-Some-Text.ensures.value ∙ ap (λ b. Some (entry_of b)) c.in-Some-Text.field-0-is in
-    edit_refused (get c.args.self.now) p n old new ls at_file c.in-Some.fault (refuses_edit_of ls _ n old _ new _ (Some c.in-Some.fault) c.deref.ensures.value c.lines.ensures.value c.lines-in-Some-Text.ensures.value c.in-Some.ensures)
-
-pub returns-in_err-fresh-clause-fault : goal.returns-in_err-fresh-clause-fault
-returns-in_err-fresh-clause-fault g c =
-    let p = c.args.path.now in
-    let n = c.args.line in
-    let ls = c.in-Some-Text.lines.items in
-    let old = c.args.old.now in
-    let new = c.args.new.now in
-    let at_file : get c.args.self.now p ≡ Some (File ls) = sym c.in-Some-Text.ensures.value ∙ ap (λ b. Some (entry_of b)) c.in-Some-Text.field-0-is in
-    let edits = refuses_edit_of ls _ n old _ new _ None c.deref.ensures.value c.lines.ensures.value c.lines-in-Some-Text.ensures.value c.in_default.ensures in
-    err_memory (EditAnswers (get c.args.self.now) p n old new) c.from_residual.result c.from_residual.ensures.1 (ls, edits.0, at_file, edits.1)
+    edit_refused (get c.args.self.now) p n old new ls at_file c.in-Some.fault (refuses_edit_of ls _ n old _ new _ (Some c.in-Some.fault) c.deref.ensures.value c.text.ensures.value c.text-in-Some-Text.ensures.value c.in-Some.ensures)
 
 pub edit_at-requires-clause-may : goal.edit_at-requires-clause-may
 edit_at-requires-clause-may g c =
@@ -47,13 +36,13 @@ edit_at-requires-clause-may g c =
     let old = c.args.old.now in
     let new = c.args.new.now in
     let at_file : get c.args.self.now p ≡ Some (File ls) = sym c.in-Some-Text.ensures.value ∙ ap (λ b. Some (entry_of b)) c.in-Some-Text.field-0-is in
-    let edits = refuses_edit_of ls _ n old _ new _ None c.deref.ensures.value c.lines.ensures.value c.lines-in-Some-Text.ensures.value c.in_default.ensures in
+    let edits = refuses_edit_of ls _ n old _ new _ None c.deref.ensures.value c.text.ensures.value c.text-in-Some-Text.ensures.value c.in_default.ensures in
     let is_map : look ks ≡ get c.args.self.now = sym (get-tree_of ks) ∙ ap get c.self.view_is in
     let file : look ks p ≡ Some (File ls) = ap (λ m. m p) is_map ∙ at_file in
     let end_is : c.len.result ≡ length old = c.len.ensures.value in
-    let fresh_is : c.in_ok-fresh.fresh.items ≡ new = c.in_ok-fresh.ensures ∙ c.lines-2.ensures.value in
-    subst (λ o. CanSplice o (n - 1) (n - 1 + c.len.result) c.in_ok-fresh.fresh.items) (sym (ap (look ks) c.names.ensures.value ∙ file))
-    (subst (λ e. CanSplice (Some (File ls)) (n - 1) (n - 1 + e) c.in_ok-fresh.fresh.items) (sym end_is)
+    let fresh_is : c.text-2.result.now ≡ new = c.text-2.ensures.value in
+    subst (λ o. CanSplice o (n - 1) (n - 1 + c.len.result) c.text-2.result.now) (sym (ap (look ks) c.names.ensures.value ∙ file))
+    (subst (λ e. CanSplice (Some (File ls)) (n - 1) (n - 1 + e) c.text-2.result.now) (sym end_is)
     (subst (λ f. CanSplice (Some (File ls)) (n - 1) (n - 1 + length old) f) (sym fresh_is) (may_edit ls edits.0 n old new edits.1)))
 
 pub returns-in_err-edit_at-clause-fault : goal.returns-in_err-edit_at-clause-fault
@@ -64,8 +53,8 @@ returns-in_err-edit_at-clause-fault g c =
     let old = c.args.old.now in
     let new = c.args.new.now in
     let at_file : get c.args.self.now p ≡ Some (File ls) = sym c.in-Some-Text.ensures.value ∙ ap (λ b. Some (entry_of b)) c.in-Some-Text.field-0-is in
-    let edits = refuses_edit_of ls _ n old _ new _ None c.deref.ensures.value c.lines.ensures.value c.lines-in-Some-Text.ensures.value c.in_default.ensures in
-    err_memory (EditAnswers (get c.args.self.now) p n old new) c.from_residual-in_err-edit_at.result c.from_residual-in_err-edit_at.ensures.1 (ls, edits.0, at_file, edits.1)
+    let edits = refuses_edit_of ls _ n old _ new _ None c.deref.ensures.value c.text.ensures.value c.text-in-Some-Text.ensures.value c.in_default.ensures in
+    err_memory (EditAnswers (get c.args.self.now) p n old new) c.from_residual.result c.from_residual.ensures.1 (ls, edits.0, at_file, edits.1)
 
 pub invariant_of-self-2 : goal.invariant_of-self-2
 invariant_of-self-2 g c =
@@ -76,14 +65,14 @@ invariant_of-self-2 g c =
     let old = c.args.old.now in
     let new = c.args.new.now in
     let at_file : get c.args.self.now p ≡ Some (File ls) = sym c.in-Some-Text.ensures.value ∙ ap (λ b. Some (entry_of b)) c.in-Some-Text.field-0-is in
-    let edits = refuses_edit_of ls _ n old _ new _ None c.deref.ensures.value c.lines.ensures.value c.lines-in-Some-Text.ensures.value c.in_default.ensures in
+    let edits = refuses_edit_of ls _ n old _ new _ None c.deref.ensures.value c.text.ensures.value c.text-in-Some-Text.ensures.value c.in_default.ensures in
     let is_map : look ks ≡ get c.args.self.now = sym (get-tree_of ks) ∙ ap get c.self.view_is in
     let file : look ks p ≡ Some (File ls) = ap (λ m. m p) is_map ∙ at_file in
     let end_is : c.len.result ≡ length old = c.len.ensures.value in
-    let fresh_is : c.in_ok-fresh.fresh.items ≡ new = c.in_ok-fresh.ensures ∙ c.lines-2.ensures.value in
+    let fresh_is : c.text-2.result.now ≡ new = c.text-2.ensures.value in
     let ls' = edits.0 in
-    let what : spliced (look ks c.names.result.now) (n - 1) (n - 1 + c.len.result) c.in_ok-fresh.fresh.items ≡ Some (File ls') =
-    ap (λ o. spliced o (n - 1) (n - 1 + c.len.result) c.in_ok-fresh.fresh.items) (ap (look ks) c.names.ensures.value ∙ file) ∙ ap (λ e. Some (File (splice ls (n - 1) (n - 1 + e) c.in_ok-fresh.fresh.items))) end_is ∙ ap (λ f. Some (File (splice ls (n - 1) (n - 1 + length old) f))) fresh_is ∙ ap (λ (l : Lines). Some (File l)) (edits_splice ls ls' n old new edits.1) in
+    let what : spliced (look ks c.names.result.now) (n - 1) (n - 1 + c.len.result) c.text-2.result.now ≡ Some (File ls') =
+    ap (λ o. spliced o (n - 1) (n - 1 + c.len.result) c.text-2.result.now) (ap (look ks) c.names.ensures.value ∙ file) ∙ ap (λ e. Some (File (splice ls (n - 1) (n - 1 + e) c.text-2.result.now))) end_is ∙ ap (λ f. Some (File (splice ls (n - 1) (n - 1 + length old) f))) fresh_is ∙ ap (λ (l : Lines). Some (File l)) (edits_splice ls ls' n old new edits.1) in
     let sets : SetsAt (look ks) (look c.edit_at.new.children.items) p (Some (File ls')) =
     subst (λ r. SetsAt (look ks) (look c.edit_at.new.children.items) r (Some (File ls'))) c.names.ensures.value (subst (λ w. SetsAt (look ks) (look c.edit_at.new.children.items) c.names.result.now w) what c.in_ok-edit_at.ensures.ok) in
     edited_tree ks c.edit_at.new.children.items p ls ls' sets file c.self.invariant c.edit_at.ensures.rising edits.1.left
@@ -96,7 +85,7 @@ returns-clause-fault g c =
     let old = c.args.old.now in
     let new = c.args.new.now in
     let at_file : get c.args.self.now p ≡ Some (File ls) = sym c.in-Some-Text.ensures.value ∙ ap (λ b. Some (entry_of b)) c.in-Some-Text.field-0-is in
-    let edits = refuses_edit_of ls _ n old _ new _ None c.deref.ensures.value c.lines.ensures.value c.lines-in-Some-Text.ensures.value c.in_default.ensures in
+    let edits = refuses_edit_of ls _ n old _ new _ None c.deref.ensures.value c.text.ensures.value c.text-in-Some-Text.ensures.value c.in_default.ensures in
     (ls, edits.0, at_file, edits.1)
 
 pub returns-clause-ok : goal.returns-clause-ok
@@ -108,14 +97,14 @@ returns-clause-ok g c =
     let old = c.args.old.now in
     let new = c.args.new.now in
     let at_file : get c.args.self.now p ≡ Some (File ls) = sym c.in-Some-Text.ensures.value ∙ ap (λ b. Some (entry_of b)) c.in-Some-Text.field-0-is in
-    let edits = refuses_edit_of ls _ n old _ new _ None c.deref.ensures.value c.lines.ensures.value c.lines-in-Some-Text.ensures.value c.in_default.ensures in
+    let edits = refuses_edit_of ls _ n old _ new _ None c.deref.ensures.value c.text.ensures.value c.text-in-Some-Text.ensures.value c.in_default.ensures in
     let is_map : look ks ≡ get c.args.self.now = sym (get-tree_of ks) ∙ ap get c.self.view_is in
     let file : look ks p ≡ Some (File ls) = ap (λ m. m p) is_map ∙ at_file in
     let end_is : c.len.result ≡ length old = c.len.ensures.value in
-    let fresh_is : c.in_ok-fresh.fresh.items ≡ new = c.in_ok-fresh.ensures ∙ c.lines-2.ensures.value in
+    let fresh_is : c.text-2.result.now ≡ new = c.text-2.ensures.value in
     let ls' = edits.0 in
-    let what : spliced (look ks c.names.result.now) (n - 1) (n - 1 + c.len.result) c.in_ok-fresh.fresh.items ≡ Some (File ls') =
-    ap (λ o. spliced o (n - 1) (n - 1 + c.len.result) c.in_ok-fresh.fresh.items) (ap (look ks) c.names.ensures.value ∙ file) ∙ ap (λ e. Some (File (splice ls (n - 1) (n - 1 + e) c.in_ok-fresh.fresh.items))) end_is ∙ ap (λ f. Some (File (splice ls (n - 1) (n - 1 + length old) f))) fresh_is ∙ ap (λ (l : Lines). Some (File l)) (edits_splice ls ls' n old new edits.1) in
+    let what : spliced (look ks c.names.result.now) (n - 1) (n - 1 + c.len.result) c.text-2.result.now ≡ Some (File ls') =
+    ap (λ o. spliced o (n - 1) (n - 1 + c.len.result) c.text-2.result.now) (ap (look ks) c.names.ensures.value ∙ file) ∙ ap (λ e. Some (File (splice ls (n - 1) (n - 1 + e) c.text-2.result.now))) end_is ∙ ap (λ f. Some (File (splice ls (n - 1) (n - 1 + length old) f))) fresh_is ∙ ap (λ (l : Lines). Some (File l)) (edits_splice ls ls' n old new edits.1) in
     let sets : SetsAt (look ks) (look c.edit_at.new.children.items) p (Some (File ls')) =
     subst (λ r. SetsAt (look ks) (look c.edit_at.new.children.items) r (Some (File ls'))) c.names.ensures.value (subst (λ w. SetsAt (look ks) (look c.edit_at.new.children.items) c.names.result.now w) what c.in_ok-edit_at.ensures.ok) in
     (ls, ls', at_file, edits.1, sets_tree ks c.edit_at.new.children.items p (File ls') sets ∙ ap (λ t. insert t p (File ls')) c.self.view_is)
