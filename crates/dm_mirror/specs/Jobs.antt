@@ -9,6 +9,7 @@ use Rattle.dm_mirror.specs.declared.jobs.PostJob.{PostJob}
 use Rattle.dm_mirror.specs.declared.jobs.Posted.{Posted}
 use Rattle.dm_mirror.specs.declared.jobs.TakeJob.{TakeJob}
 use Rattle.dm_mirror.specs.declared.jobs.Kept.{Kept}
+use Rattle.dm_mirror.specs.declared.mirror.Mirror.{Mirror}
 use Rattle.dm_mirror.specs.Deliveries.{all_mails, texts_of}
 use Rattle.dm_mirror.specs.PlainFolds.{IsPlainFold}
 
@@ -31,11 +32,15 @@ pub record DoesPost (job : PostJob) (done : Posted) : Type 0 where
   pub first : sent_mails done.first ≡ all_mails (outlet_poster job.first) (texts_of job.texts.items)
   pub second : sent_mails done.second ≡ all_mails (outlet_poster job.second) (texts_of job.texts.items)
 
--- as many mails were taken as were expected, and their bundles into the mirror's repository
-pub record DoesTake (job : TakeJob) (done : Kept) : Type 0 where
-  pub same : SameInlet job.inlet done.inlet
-  pub taken : (p : ℕ) → taken_of done.inlet p ≡ mails_of p done.mirror.mails.items
-  pub count : length done.mirror.mails.items ≡ job.expected
-  pub below : AllBelow (inlet_posters job.inlet) done.mirror.mails.items
-  pub fold : IsPlainFold job.mirror.repo.patches done.mirror.mails.items done.mirror.verdicts.items done.mirror.repo.patches
-  pub receipts : done.mirror.receipts ≡ job.mirror.receipts
+-- an inlet and a mirror once as many mails were taken as were expected, and their bundles into the mirror's repository
+pub record TakesInto (inlet : Inlet) (mirror : Mirror) (expected : ℕ) (done : Inlet × Mirror) : Type 0 where
+  pub same : SameInlet inlet done.0
+  pub taken : (p : ℕ) → taken_of done.0 p ≡ mails_of p done.1.mails.items
+  pub count : length done.1.mails.items ≡ expected
+  pub below : AllBelow (inlet_posters inlet) done.1.mails.items
+  pub fold : IsPlainFold mirror.repo.patches done.1.mails.items done.1.verdicts.items done.1.repo.patches
+  pub receipts : done.1.receipts ≡ mirror.receipts
+
+-- so it was done with what the job has
+abbrev pub DoesTake : TakeJob → Kept → Type 0
+DoesTake job done = TakesInto job.inlet job.mirror job.expected (done.inlet, done.mirror)

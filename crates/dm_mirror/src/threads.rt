@@ -1,14 +1,18 @@
 //! The threads of a run: one for each poster and one for each mirror.
-ghost use Rattle.std.specs.Prelude.{◌≡◌, IfOk, IfSome};
-ghost use Rattle.dm_mirror.specs.Jobs.{DoesPost, DoesTake};
+ghost use Rattle.std.specs.Prelude.{◌≡◌, ℕ, [], IfOk, IfSome};
+ghost use Rattle.dm_mail.specs.Ends.{taken_of};
+ghost use Rattle.dm_mirror.specs.Jobs.{DoesPost, DoesTake, TakesInto};
+ghost use Rattle.dm_mirror.specs.Mirrors.{IsReady};
 ghost use Rattle.dm_mirror.specs.declared.threads.RunFault.TheVariants.{NoMemory};
 
 use crate::gate::Gate;
 use crate::jobs::{Kept, PostJob, Posted, TakeJob};
+use crate::mirror::Mirror;
 use crate::posting::post;
 use crate::starting::StartLine;
 use crate::taking::take_mails;
 use bumpalo::Bump;
+use dm_mail::Inlet;
 use std::alloc::{AllocError, Global};
 use std::snapshot::Snapshot;
 use std::sync::Wait;
@@ -44,8 +48,8 @@ impl Promise<Option<Posted>> for WillPost {
 #[derive(Drop)]
 pub(crate) struct WillTake(pub(crate) Snapshot<TakeJob>);
 
-impl Promise<Option<Kept>> for WillTake {
-    ghost kept_by = { λ promise result. IfSome result (DoesTake promise.0.value) };
+impl Promise<Option<(Inlet, Mirror)>> for WillTake {
+    ghost kept_by = { λ promise result. IfSome result (TakesInto promise.0.value.inlet promise.0.value.mirror promise.0.value.expected) };
 }
 
 /// A poster's thread, from the start line on. `None` where the run was called off.
@@ -72,8 +76,8 @@ fn take_once_open<R: Wait, G: Gate>(
     gate: &G,
     number: usize,
     job: TakeJob,
-) -> Option<Kept>
-    ensures { IfSome result (DoesTake job) }
+) -> Option<(Inlet, Mirror)>
+    ensures { IfSome result (TakesInto job.inlet job.mirror job.expected) }
 {
     let mut arena = Bump::new(alloc);
     let memory = match arena.try_alloc_slice_copy(&[0u8]) {
@@ -88,7 +92,8 @@ fn take_once_open<R: Wait, G: Gate>(
         mirror,
         expected,
     } = job;
-    Some(take_mails(rt, &mut arena, gate, number, inlet, mirror, expected))
+    let Kept { inlet, mirror } = take_mails(rt, &mut arena, gate, number, inlet, mirror, expected);
+    Some((inlet, mirror))
 }
 
 /// Starts a poster's thread.
@@ -109,6 +114,36 @@ fn start_poster<'s, 'e, R: Threads + Wait + Sync>(
     }
 }
 
+/// Starts a thread that is given two values, and hands back two of the same types. Of the types it knows alone that they
+/// may be sent, so that no proof has to look into both at once.
+fn start_with<
+    's,
+    'e,
+    I: Send + Drop + 'e,
+    M: Send + Drop + 'e,
+    P: Promise<Option<(I, M)>> + Drop,
+    F: FnOnce(I, M) -> Option<(I, M)> + Send + 'e,
+>(
+    scope: &'s Scope<'s, &'e ()>,
+    promise: P,
+    inlet: I,
+    mirror: M,
+    body: F,
+) -> Result<PromisedHandle<Option<(I, M)>, P>, RunFault>
+    requires runs { F.pre body inlet mirror }
+    requires keeps { (r : _) → F.post body inlet mirror r → P.kept_by promise r }
+    ensures { IfOk result (λ handle. handle.promise ≡ promise) }
+{
+    let work = move || -> Option<(I, M)>
+        requires { F.pre body inlet mirror }
+        ensures { F.post body inlet mirror result }
+    { body(inlet, mirror) };
+    match scope.spawn_with(promise, work) {
+        Ok(handle) => Ok(handle),
+        Err(_) => Err(RunFault::NoThread),
+    }
+}
+
 /// Starts the thread of a mirror with this number.
 fn start_mirror<'s, 'e, R: Threads + Wait + Sync, G: Gate + Sync>(
     scope: &'s Scope<'s, &'e ()>,
@@ -118,16 +153,33 @@ fn start_mirror<'s, 'e, R: Threads + Wait + Sync, G: Gate + Sync>(
     gate: &'e G,
     number: usize,
     job: TakeJob,
-) -> Result<PromisedHandle<Option<Kept>, WillTake>, RunFault>
+) -> Result<PromisedHandle<Option<(Inlet, Mirror)>, WillTake>, RunFault>
     ensures { IfOk result (λ handle. handle.promise.0.value ≡ job) }
 {
-    match scope.spawn_with(
-        WillTake(Snapshot::of(&job)),
-        move || take_once_open(rt, alloc, line, gate, number, job),
-    ) {
-        Ok(handle) => Ok(handle),
-        Err(_) => Err(RunFault::NoThread),
-    }
+    let promise = WillTake(Snapshot::of(&job));
+    let TakeJob {
+        inlet,
+        mirror,
+        expected,
+    } = job;
+    start_with(
+        scope,
+        promise,
+        inlet,
+        mirror,
+        move |inlet, mirror| -> Option<(Inlet, Mirror)>
+            requires fresh { (p : ℕ) → taken_of inlet p ≡ [] }
+            requires ready { IsReady expected mirror }
+            ensures { IfSome result (TakesInto inlet mirror expected) }
+        {
+            let job = TakeJob {
+                inlet,
+                mirror,
+                expected,
+            };
+            take_once_open(rt, alloc, line, gate, number, job)
+        },
+    )
 }
 
 /// Starts the threads, lets them go once all are there, and joins them.
@@ -161,7 +213,17 @@ pub(crate) fn in_threads<R: Threads + Wait + Sync, G: Gate + Sync>(
             let (one, two) = (one.join(rt), two.join(rt));
             let (left, right) = (left.join(rt), right.join(rt));
             match (one, two, left, right) {
-                (Some(one), Some(two), Some(left), Some(right)) => Ok(((one, two), (left, right))),
+                (Some(one), Some(two), Some(left), Some(right)) => {
+                    let left = Kept {
+                        inlet: left.0,
+                        mirror: left.1,
+                    };
+                    let right = Kept {
+                        inlet: right.0,
+                        mirror: right.1,
+                    };
+                    Ok(((one, two), (left, right)))
+                }
                 _ => Err(RunFault::NoThread),
             }
         },

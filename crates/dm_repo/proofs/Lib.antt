@@ -7,9 +7,11 @@ pub mod Members
 pub mod RowSteps
 pub mod Applying
 pub mod Splits
+pub mod FrontLemmas
 pub mod Keeps
 pub mod ClosedLemmas
 pub mod MarksLemmas
+pub mod NameLemmas
 pub mod Alike
 pub mod Steps
 pub mod DependencyLemmas

@@ -1,6 +1,6 @@
 -- Members of lists of patches.
-use Rattle.std.proofs.Common.{◌≡◌, ℕ, zero, suc, ◌+◌, ◌<◌, List, [], ◌∷◌, ◌++◌, length, take, drop, get_or, slice_get, Some, ◌⊎◌, inl, inr, refl, sym, ap, ap₂, ◌∙◌, arith, append_assoc, append-nil}
-use Rattle.std.proofs.lemmas.List.{take_more, drop_more}
+use Rattle.std.proofs.Common.{◌≡◌, ℕ, zero, suc, ◌+◌, ◌<◌, List, [], ◌∷◌, ◌++◌, length, take, get_or, slice_get, Some, ◌⊎◌, inl, inr, refl, sym, ap, ap₂, ◌∙◌, arith, append_assoc, append-nil}
+use Rattle.std.proofs.lemmas.List.{take_more}
 use Rattle.std.specs.List.{Contains}
 use Rattle.dm_info.specs.PatchInfo.{PatchInfo}
 use Rattle.dm_named.specs.Patches.{Patch}
@@ -27,15 +27,8 @@ module _ {X : Type 0} where
   from_at (y ∷ ys) {x} zero e = let f : x ≡ y = cc in rw f (here y ys)
   from_at (y ∷ ys) (suc k) e = more y ys (from_at ys k e)
 
--- what was read at a place is a member; what is neither in a list nor one element more is not in both together
+-- one more copy
 module _ {X : Type 0} where
-  pub found_at : (xs : List X) (k : ℕ) (x y : X) → k < length xs → x ≡ get_or xs k x → x ≡ y → Contains xs y
-  found_at xs k x y l e f = let h : Contains xs x = (k, l, sym e) in rw f at h
-
-  pub none_on : (xs : List X) (x y : X) → (Contains xs y → ⊥) → (x ≡ y → ⊥) → Contains (xs ++ x ∷ []) y → ⊥
-  none_on xs x y n f c = elim (Contains-append_cases xs (x ∷ []) y c) [ inl h ↦ n h | inr h ↦ elim (one_of x [] h) [ inl e ↦ f e | inr d ↦ none_of d ] ]
-
-  -- one more copy
   pub copied_more : (xs : List X) (k : ℕ) (x : X) (copies : List X) (y : X) {copies' : List X} → k < length xs → x ≡ get_or xs k x → copies ≡ take k xs → y ≡ x → copies' ≡ copies ++ y ∷ [] → copies' ≡ take (k + 1) xs
   copied_more xs k x copies y l e c s new = new ∙ ap₂ (λ a b. a ++ b ∷ []) c (s ∙ e) ∙ sym (take_more xs k x l)
 
@@ -48,25 +41,10 @@ pub infos_of-append : (xs ys : List Patch) → infos_of (xs ++ ys) ≡ infos_of 
 infos_of-append [] ys = refl
 infos_of-append (x ∷ xs) ys = ap (λ l. x.info ∷ l) (infos_of-append xs ys)
 
--- the same of the patch infos of patches
-pub none_more_infos : (xs : List Patch) (k : ℕ) (x : Patch) (i : PatchInfo) → k < length xs → x ≡ get_or xs k x → (Contains (infos_of (take k xs)) i → ⊥) → (x.info ≡ i → ⊥) →
-    Contains (infos_of (take (k + 1) xs)) i → ⊥
-none_more_infos xs k x i l e n f c = none_on (infos_of (take k xs)) x.info i n f (rw (take_more xs k x l, ← e, infos_of-append (take k xs) (x ∷ [])) at c)
-
-pub none_before_infos : (xs : List Patch) (k : ℕ) (x : Patch) (i : PatchInfo) → k < length xs → x ≡ get_or xs k x → (Contains (infos_of (drop (k + 1) xs)) i → ⊥) → (x.info ≡ i → ⊥) →
-    Contains (infos_of (drop k xs)) i → ⊥
-none_before_infos xs k x i l e n f c = let d : drop k xs ≡ x ∷ drop (k + 1) xs = drop_more xs k x l ∙ ap (λ z. z ∷ drop (k + 1) xs) (sym e) in go (rw d at c)
-  where
-    go : Contains (x.info ∷ infos_of (drop (k + 1) xs)) i → ⊥
-    go h = elim (one_of x.info (infos_of (drop (k + 1) xs)) h) [ inl g ↦ f g | inr d ↦ n d ]
-
 pub info_at : (xs : List Patch) (k : ℕ) (x : Patch) → k < length xs → x ≡ get_or xs k x → slice_get (infos_of xs) k ≡ Some x.info
 info_at [] k x l e = absurd (omega arith)
 info_at (y ∷ ys) zero x l e = ap (λ z. Some z.info) (sym e)
 info_at (y ∷ ys) (suc k) x l e = info_at ys k x (omega arith) e
-
-pub found_info : (xs : List Patch) (k : ℕ) (x : Patch) (i : PatchInfo) → k < length xs → x ≡ get_or xs k x → x.info ≡ i → Contains (infos_of xs) i
-found_info xs k x i l e f = rw f at (in_infos xs (found_at xs k x x l e refl))
 
 -- what a member names is held, or a member's name
 pub dep_held : (held : List PatchInfo) (xs : List Patch) {x : Patch} {d : PatchInfo} → NamesEarlier held xs → Contains xs x → Contains x.deps d → Contains (held ++ infos_of xs) d

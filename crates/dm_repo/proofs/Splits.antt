@@ -1,12 +1,14 @@
 -- One more patch of a list that is split by marks.
-use Rattle.std.proofs.Common.{◌≡◌, ℕ, zero, suc, ◌+◌, ◌<◌, List, [], ◌∷◌, ◌++◌, length, take, get_or, slice_get, Some, Bool, true, false, refl, sym, ap, ◌∙◌, arith, add-zero, append_assoc, length-append}
-use Rattle.std.proofs.lemmas.List.{take-append-le, take_all}
+use Rattle.std.proofs.Common.{◌≡◌, ℕ, zero, suc, ◌+◌, ◌<◌, ◌≤◌, List, [], ◌∷◌, ◌++◌, length, take, drop, get_or, slice_get, Some, Bool, true, false, inl, inr, refl, sym, ap, ◌∙◌, arith, add-zero, append_assoc, append-nil, length-append}
+use Rattle.std.proofs.lemmas.List.{take-append-le, take_all, take_more, length-take-le}
+use Rattle.std.proofs.lemmas.Bool.{cases_lt}
 use Rattle.dm_named.specs.Patches.{Patch}
-use Rattle.dm_repo.specs.Staircases.{Passes, Split, PassStops, SplitStops}
+use Rattle.dm_repo.specs.Staircases.{Passes, Split, nothing, stays, PassStops, SplitStops}
 use Rattle.dm_repo.specs.Squares.{Placed, placed, placed_from, PlacedCommutes}
-use Rattle.dm_repo.specs.Stops.{AtPlaces, StopsAt, BlockedBy, blocked_at, IsMarked}
+use Rattle.dm_repo.specs.Stops.{AreMarkedUpTo, AtPlaces, StopsAt, BlockedBy, blocked_at, IsMarked}
 use Rattle.dm_repo.specs.declared.stop.Stop.{Stop}
 use Rattle.dm_repo.specs.declared.stop.Stop.TheVariants.{At, NoMemory}
+use Rattle.dm_repo.proofs.RowSteps.{around}
 use Rattle.dm_repo.proofs.Staircases.{split_in, split_out}
 
 -- what a slice of a whole vector was changed to is all that the vector holds
@@ -69,3 +71,32 @@ module _ (xs : List Patch) (taken : List Placed) (k : ℕ) (x : Patch) (left : L
       in_set = mark_at marks k true d (rw m (is_below e)) marked;
       stops = s;
     }
+
+-- a patch at a place, with what stands before it and after it
+pub placed_around : (xs : List Patch) (k : ℕ) (x : Patch) → k < length xs → x ≡ get_or xs k x → placed xs ≡ placed (take k xs) ++ placed_from k (x ∷ drop (k + 1) xs)
+placed_around xs k x l e =
+    let n : 0 + length (take k xs) ≡ k = omega (arith, length-take-le k xs (omega (arith, l))) in
+    ap placed (around xs k x l e) ∙ placed_from-append 0 (take k xs) (x ∷ drop (k + 1) xs) ∙ ap (λ n. placed (take k xs) ++ placed_from n (x ∷ drop (k + 1) xs)) n
+
+pub placed_more : (xs : List Patch) (k : ℕ) (x : Patch) → k < length xs → x ≡ get_or xs k x → placed (take (k + 1) xs) ≡ placed (take k xs) ++ (k, x) ∷ []
+placed_more xs k x l e =
+    let n : 0 + length (take k xs) ≡ k = omega (arith, length-take-le k xs (omega (arith, l))) in
+    ap placed (take_more xs k x l ∙ ap (λ y. take k xs ++ y ∷ []) (sym e)) ∙ placed_from-append 0 (take k xs) (x ∷ []) ∙ ap (λ n. placed (take k xs) ++ placed_from n (x ∷ [])) n
+
+pub length-placed : (xs : List Patch) (k : ℕ) → k ≤ length xs → length (placed (take k xs)) ≡ k
+length-placed xs k l = length-placed_from 0 (take k xs) ∙ length-take-le k xs l
+
+-- the first patches stay where all of them are marked
+all_kept : (marks : List Bool) (n : ℕ) (xs : List Patch) → ((k : ℕ) → k < length xs → slice_get marks (n + k) ≡ Some true) → Split PlacedCommutes (IsMarked marks) (placed_from n xs) (placed_from n xs) []
+all_kept marks n [] f = nothing
+all_kept marks n (x ∷ xs) f =
+    let z : n + 0 ≡ n = add-zero n in
+    stays (rw z at (f 0 (omega arith))) (all_kept marks (n + 1) xs (λ k l. let e : n + suc k ≡ n + 1 + k = omega arith in rw e at (f (suc k) (omega (arith, l)))))
+
+pub kept_stay : (marks : List Bool) (xs : List Patch) (kept : ℕ) → kept ≤ length xs → AreMarkedUpTo marks kept → Split PlacedCommutes (IsMarked marks) (placed (take kept xs)) (placed (take kept xs) ++ []) []
+kept_stay marks xs kept l f =
+    rw (append-nil (placed (take kept xs))) (all_kept marks 0 (take kept xs) (λ k b. f (0 + k) (omega (arith, b, length-take-le kept xs l))))
+
+-- one more mark is set
+pub marked_more : (marks : List Bool) (n : ℕ) → AreMarkedUpTo marks n → slice_get marks n ≡ Some true → AreMarkedUpTo marks (n + 1)
+marked_more marks n f e k l = elim (cases_lt k n) [ inl b ↦ f k b | inr b ↦ let s : k ≡ n = omega (arith, l, b) in rw s e ]

@@ -1,5 +1,5 @@
 -- Where rows of squares end early.
-use Rattle.std.specs.Prelude.{◌≡◌, ℕ, Bool, true, List, slice_get, Some}
+use Rattle.std.specs.Prelude.{◌≡◌, ◌<◌, ℕ, Bool, true, List, slice_get, Some}
 use Rattle.dm_repo.specs.Squares.{Placed}
 use Rattle.dm_repo.specs.declared.refusal.Refusal.{Refusal}
 use Rattle.dm_repo.specs.declared.refusal.Refusal.TheVariants as refusals
@@ -40,3 +40,7 @@ refusal_between why blocks.NoMemory = refusals.NoMemory
 -- the mark at the patch's place is set
 abbrev pub IsMarked : List Bool → Placed → Type 0
 IsMarked marks x = slice_get marks x.0 ≡ Some true
+
+-- the marks at the first n places are set
+abbrev pub AreMarkedUpTo : List Bool → ℕ → Type 0
+AreMarkedUpTo marks n = (k : ℕ) → k < n → slice_get marks k ≡ Some true

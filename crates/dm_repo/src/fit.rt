@@ -1,12 +1,12 @@
 //! Applying patches to a tree, up to the first that leads nowhere, or to a path that is too deep.
-ghost use Rattle.std.specs.Prelude.{◌≡◌, ◌≢◌, false, List, IfOk, MatchBool, MatchResult};
+ghost use Rattle.std.specs.Prelude.{◌≡◌, ◌≢◌, ◌++◌, false, List, IfOk, MatchBool, MatchResult};
 ghost use Rattle.dm_prim.specs.Primitives.{LawfulMap};
 ghost use Rattle.dm_prim.specs.Prims.{prim_of};
 ghost use Rattle.dm_prim.specs.InTurn.{InTurn};
 ghost use Rattle.dm_named.specs.Patches.{Patch};
 ghost use Rattle.dm_bundle.specs.Bundles.{Contents};
 ghost use Rattle.dm_repo.specs.Folds.{IsStopped, LeadsShallowly, PatchLeadsShallowly, PatchStops};
-ghost use Rattle.dm_repo.specs.Squares.{Placed, patches};
+ghost use Rattle.dm_repo.specs.Squares.{Placed, patches, placed};
 ghost use Rattle.dm_repo.specs.Repositories.{IsMapOf, IsRepo};
 ghost use Rattle.dm_repo.specs.Weighing.{FitStops, Fits, IsBundleSplit, RefusesBundle};
 ghost use Rattle.dm_repo.specs.Stops.{StopsAt};
@@ -80,19 +80,51 @@ pub(crate) fn fit<A: Allocator, B: Allocator + Copy>(
     Ok(())
 }
 
-/// Applies the front, and the patches to merge after it.
-pub(crate) fn check_fit<A: Allocator + Copy>(
-    alloc: A,
-    front: &[(usize, Named<A>)],
-    new: &[(usize, Named<A>)],
+/// Applies patches in turn, each of which stands at its place, or stops at the first that leads nowhere shallowly.
+fn fit_first<A: Allocator, B: Allocator + Copy>(
+    list: &[Named<A>],
+    tree: &mut Tree<B>,
+) -> Result<(), Stop>
+    ensures { (s : LawfulMap) → IsMapOf tree.old s → MatchResult result
+        (λ _. (t : LawfulMap) × IsMapOf tree.new t × InTurn PatchLeadsShallowly list.now s t)
+        (λ stop. StopsAt stop (FitStops IsStopped s (placed list.now))) }
+{
+    for k in 0..list.len() {
+        if !apply_patch(&list[k], tree)? {
+            return Err(Stop::At(k));
+        }
+    }
+    Ok(())
+}
+
+/// Applies the front from the root alone: first the patches that stayed where they are, then those that were copied.
+fn fit_front<A: Allocator, B: Allocator + Copy>(
+    kept: &[Named<A>],
+    copied: &[(usize, Named<B>)],
+    tree: &mut Tree<B>,
+) -> Result<(), Stop>
+    ensures { (s : LawfulMap) → IsMapOf tree.old s → MatchResult result
+        (λ _. (t : LawfulMap) × IsMapOf tree.new t × InTurn PatchLeadsShallowly (patches (placed kept.now ++ copied.now)) s t)
+        (λ stop. StopsAt stop (FitStops IsStopped s (placed kept.now ++ copied.now))) }
+{
+    fit_first(kept, tree)?;
+    fit(copied, tree)
+}
+
+/// Applies the front, and the patches to merge after it. The first patches of the front stayed where they are.
+pub(crate) fn check_fit<A: Allocator, B: Allocator + Copy>(
+    alloc: B,
+    kept: &[Named<A>],
+    copied: &[(usize, Named<B>)],
+    new: &[(usize, Named<B>)],
 ) -> Result<(), Refusal>
-    ensures { (repo : List Patch) (b : Contents) (rest : List Placed) → IsRepo repo → IsBundleSplit repo b front.now rest new.now → MatchResult result
+    ensures { (repo : List Patch) (b : Contents) (rest : List Placed) → IsRepo repo → IsBundleSplit repo b (placed kept.now ++ copied.now) rest new.now → MatchResult result
         (λ _. Fits repo b rest new.now)
         (λ why. RefusesBundle repo b why) }
 {
     let mut tree = Tree::new(alloc);
     tree_is_lawful(&tree);
-    match fit(front, &mut tree) {
+    match fit_front(kept, copied, &mut tree) {
         Ok(()) => {}
         Err(stop) => return Err(stop.full()),
     }

@@ -1,9 +1,9 @@
 //! A repository of named patches, and how a bundle is taken into it (`darcs apply --no-allow-conflicts`).
 //!
-//! A repository is a list of patches, and keeps the tree that they make ([`Repo`]). [`weigh`] looks up what a bundle rests
-//! on, splits the repository into that and the rest as [`split`] does, applies the new patches after the first part and
-//! merges them with the second; [`weigh_owned`] does so with a bundle that is given up. What they answer is copied by
-//! [`Repo::prepare`], which makes all room, and appended by [`Repo::commit`], which can't fail.
+//! A repository is a list of patches, and keeps an index of their names and the tree that they make ([`Repo`]). [`weigh`]
+//! looks up what a bundle rests on, splits the repository into that and the rest as [`split`] does, applies the new patches
+//! after the first part and merges them with the second; [`weigh_owned`] does so with a bundle that is given up. What they
+//! answer is copied by [`Repo::prepare`], which makes all room, and appended by [`Repo::commit`], which can't fail.
 //!
 //! The crate stands on dm_bundle's bundles, on dm_named's patches and when they commute, and on dm_prim's laws of commutation.
 //! Its theorem is the contract of [`weigh`]: it answers the merged patches and the tree after them, or the first refusal in
@@ -18,6 +18,7 @@ pub mod laws;
 mod lookup;
 mod marks;
 mod merge;
+mod names;
 mod orders;
 mod parted;
 mod passing;

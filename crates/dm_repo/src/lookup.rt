@@ -11,7 +11,7 @@ use dm_bundle::Bundle;
 use std::alloc::Allocator;
 
 /// Looks up the bundle's names: none where nothing is new.
-pub(crate) fn look_up<A: Allocator, B: Allocator + Copy>(
+pub(crate) fn look_up<A: Allocator + Copy, B: Allocator + Copy>(
     alloc: B,
     repo: &Repo<A>,
     bundle: &Bundle<B>,
@@ -26,7 +26,7 @@ pub(crate) fn look_up<A: Allocator, B: Allocator + Copy>(
     if are_set(&marks.held) {
         return Ok(None);
     }
-    match first_missing(repo, bundle, &marks) {
+    match first_missing(alloc, repo, bundle, &marks)? {
         None => Ok(Some(marks)),
         Some((n, d)) => Err(Refusal::MissingDependency(n, d)),
     }

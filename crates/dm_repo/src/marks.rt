@@ -26,11 +26,7 @@ pub(crate) fn are_set(marks: &[bool]) -> bool
 }
 
 /// Marks the patches of these names, or answers the place of the first that isn't held.
-fn mark<A: Allocator, B: Allocator>(
-    repo: &Repo<A>,
-    infos: &[Info<B>],
-    marks: &mut [bool],
-) -> Result<(), usize>
+fn mark<A: Allocator>(repo: &Repo<A>, infos: &[Info<A>], marks: &mut [bool]) -> Result<(), usize>
     requires marks { length marks.old ≡ length repo.now.patches }
     requires distinct { Distinct (infos_of repo.now.patches) }
     ensures { MatchResult result
@@ -47,7 +43,7 @@ fn mark<A: Allocator, B: Allocator>(
 }
 
 /// Marks the context.
-fn context_marks<A: Allocator, B: Allocator + Copy>(
+fn context_marks<A: Allocator + Copy, B: Allocator + Copy>(
     alloc: B,
     repo: &Repo<A>,
     bundle: &Bundle<B>,
@@ -57,14 +53,15 @@ fn context_marks<A: Allocator, B: Allocator + Copy>(
         (λ why. RefusesContext repo.now.patches bundle.now why) }
 {
     let mut marks = vec![in alloc; false; repo.len()]?;
-    match mark(repo, bundle.context(), marks.as_mut_slice()) {
+    let context = repo.copy_infos(bundle.context())?;
+    match mark(repo, &context, marks.as_mut_slice()) {
         Ok(()) => Ok(marks),
         Err(c) => Err(Refusal::MissingContext(c)),
     }
 }
 
 /// Marks the context and what it rests on: one pass from the last patch to the first, since a dependency stands earlier.
-fn closed_marks<A: Allocator, B: Allocator + Copy>(
+fn closed_marks<A: Allocator + Copy, B: Allocator + Copy>(
     alloc: B,
     repo: &Repo<A>,
     bundle: &Bundle<B>,
@@ -87,7 +84,7 @@ fn closed_marks<A: Allocator, B: Allocator + Copy>(
 }
 
 /// Marks what is common, and the new patches that are held.
-pub(crate) fn common_marks<A: Allocator, B: Allocator + Copy>(
+pub(crate) fn common_marks<A: Allocator + Copy, B: Allocator + Copy>(
     alloc: B,
     repo: &Repo<A>,
     bundle: &Bundle<B>,
@@ -100,7 +97,7 @@ pub(crate) fn common_marks<A: Allocator, B: Allocator + Copy>(
     let mut common = closed_marks(alloc, repo, bundle)?;
     let mut held = Vec::with_capacity(alloc, bundle.new_patches().len())?;
     for patch in bundle.new_patches() {
-        match repo.position(patch.info()) {
+        match repo.find(patch.info())? {
             None => held.push(false)?,
             Some(k) => {
                 common[k] = true;

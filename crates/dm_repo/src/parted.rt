@@ -1,5 +1,5 @@
 //! Splitting a list of patches: the marked ones go to the front, past the others.
-ghost use Rattle.std.specs.Prelude.{◌≡◌, ◌↔◌, ◌++◌, List, length, IfOk, IfErr, MatchResult};
+ghost use Rattle.std.specs.Prelude.{◌≡◌, ◌↔◌, ◌≤◌, ◌++◌, List, length, take, IfOk, IfErr, MatchResult};
 ghost use Rattle.dm_prim.specs.Primitives.{LawfulMap};
 ghost use Rattle.dm_named.specs.Patches.{Patch};
 ghost use Rattle.dm_bundle.specs.Patches.{infos_of};
@@ -13,12 +13,12 @@ ghost use Rattle.dm_repo.specs.MarkLists.{AreMarksOf};
 ghost use Rattle.dm_repo.specs.Weighing.{IsBundleSplit, IsCommon, IsHeld, IsRepoSplit, RefusesBundle};
 ghost use Rattle.dm_repo.specs.Weighed.{IsLookedUp};
 ghost use Rattle.dm_repo.specs.Splitting.{SplitsInto, RefusesToSplit};
-ghost use Rattle.dm_repo.specs.Stops.{AtPlaces, BlockedBy, IsMarked};
+ghost use Rattle.dm_repo.specs.Stops.{AreMarkedUpTo, AtPlaces, BlockedBy, IsMarked};
 
 use crate::marks::{Marks, common_marks};
 use crate::passing::pass;
 use crate::refusal::Refusal;
-use crate::repo::{Repo, copy_patches};
+use crate::repo::Repo;
 use crate::stop::Blocked;
 use dm_bundle::Bundle;
 use dm_named::Named;
@@ -61,19 +61,66 @@ fn split_by<A: Allocator + Copy>(
     Ok(Parted { front, rest })
 }
 
-/// Splits the repository, whose patches are copied: the common ones in front.
+/// How many patches stay where they are: those before the first that isn't marked.
+pub(crate) fn kept_in_place(marks: &[bool]) -> usize
+    ensures within { result ≤ length marks.now }
+    ensures marked { AreMarkedUpTo marks.now result }
+{
+    for k in 0..marks.len() {
+        if !marks[k] {
+            return k;
+        }
+    }
+    marks.len()
+}
+
+/// Splits patches that are borrowed: the marked ones in front. The first `kept`, all of which are marked, stay where they
+/// are; the others are copied.
+fn split_after<A: Allocator, B: Allocator + Copy>(
+    alloc: B,
+    patches: &[Named<A>],
+    marks: &[bool],
+    kept: usize,
+) -> Result<Parted<B>, Blocked>
+    requires marks { length marks.now ≡ length patches.now }
+    requires within { kept ≤ length marks.now }
+    requires marked { AreMarkedUpTo marks.now kept }
+    ensures { MatchResult result
+        (λ p. Split PlacedCommutes (IsMarked marks.now) (placed patches.now) (placed (take kept patches.now) ++ p.front.items) p.rest.items)
+        (λ w. BlockedBy w (AtPlaces (SplitStops PlacedCommutes (IsMarked marks.now) (placed patches.now)))) }
+{
+    let mut moved = Vec::new(alloc);
+    let mut rest = Vec::new(alloc);
+    for k in kept..patches.len() {
+        let mut placed = (k, patches[k].copy_into(alloc)?);
+        if !marks[k] {
+            rest.push(placed)?;
+            continue;
+        }
+        match pass(alloc, rest.as_mut_slice(), &mut placed) {
+            Ok(()) => {}
+            Err(stop) => return Err(stop.blocked(k)),
+        }
+        moved.push(placed)?;
+    }
+    Ok(Parted { front: moved, rest })
+}
+
+/// Splits the repository: the common patches in front, of which the first `kept` stay where they are.
 fn split_repo<A: Allocator, B: Allocator + Copy>(
     alloc: B,
     repo: &Repo<A>,
     common: &[bool],
+    kept: usize,
 ) -> Result<Parted<B>, Blocked>
-    requires { length common.now ≡ length repo.now.patches }
+    requires marks { length common.now ≡ length repo.now.patches }
+    requires within { kept ≤ length common.now }
+    requires marked { AreMarkedUpTo common.now kept }
     ensures { (b : Contents) → AreMarksOf common.now (infos_of repo.now.patches) (Common repo.now.patches b) → MatchResult result
-        (λ p. Split PlacedCommutes (IsCommon repo.now.patches b) (placed repo.now.patches) p.front.items p.rest.items)
+        (λ p. Split PlacedCommutes (IsCommon repo.now.patches b) (placed repo.now.patches) (placed (take kept repo.now.patches) ++ p.front.items) p.rest.items)
         (λ w. BlockedBy w (AtPlaces (SplitStops PlacedCommutes (IsCommon repo.now.patches b) (placed repo.now.patches)))) }
 {
-    let patches = copy_patches(alloc, repo.patches())?;
-    split_by(alloc, patches, common)
+    split_after(alloc, repo.patches(), common, kept)
 }
 
 /// Splits the new patches of a bundle: those that are held in front.
@@ -90,18 +137,22 @@ fn split_new<A: Allocator + Copy>(
     split_by(alloc, new, held)
 }
 
-/// Splits a repository by the marks of a bundle that was looked up: the common patches in front.
+/// Splits a repository by the marks of a bundle that was looked up: the common patches in front, of which the first `kept`
+/// stay where they are.
 pub(crate) fn split_common<A: Allocator, B: Allocator + Copy>(
     alloc: B,
     repo: &Repo<A>,
     marks: &Marks<B>,
+    kept: usize,
 ) -> Result<Parted<B>, Refusal>
-    requires { length marks.now.common.items ≡ length repo.now.patches }
+    requires marks { length marks.now.common.items ≡ length repo.now.patches }
+    requires within { kept ≤ length marks.now.common.items }
+    requires marked { AreMarkedUpTo marks.now.common.items kept }
     ensures { (b : Contents) → IsLookedUp repo.now.patches b marks.now.common.items marks.now.held.items → MatchResult result
-        (λ parted. IsRepoSplit repo.now.patches b parted.front.items parted.rest.items)
+        (λ parted. IsRepoSplit repo.now.patches b (placed (take kept repo.now.patches) ++ parted.front.items) parted.rest.items)
         (λ why. RefusesBundle repo.now.patches b why) }
 {
-    match split_repo(alloc, repo, &marks.common) {
+    match split_repo(alloc, repo, &marks.common, kept) {
         Ok(parted) => Ok(parted),
         Err(blocked) => Err(blocked.context_depends()),
     }
@@ -129,7 +180,7 @@ pub(crate) fn split_held<A: Allocator + Copy>(
 ///
 /// The common patches are the context, what it rests on by explicit dependencies, and the new patches that are held.
 /// It refuses with [`Refusal::MissingContext`], [`Refusal::ContextDepends`] and [`Refusal::NoMemory`] alone.
-pub fn split<A: Allocator, B: Allocator + Copy>(
+pub fn split<A: Allocator + Copy, B: Allocator + Copy>(
     alloc: B,
     repo: &Repo<A>,
     bundle: &Bundle<B>,
@@ -140,7 +191,7 @@ pub fn split<A: Allocator, B: Allocator + Copy>(
     ensures refusal { IfErr result (RefusesToSplit repo.now.patches bundle.now) }
 {
     let marks = common_marks(alloc, repo, bundle)?;
-    match split_repo(alloc, repo, &marks.common) {
+    match split_repo(alloc, repo, &marks.common, 0) {
         Ok(parted) => Ok(parted),
         Err(blocked) => Err(blocked.context_depends()),
     }

@@ -1,8 +1,9 @@
-//! A repository: its patches, oldest first, and the tree that they make.
+//! A repository: its patches, oldest first, their names, and the tree that they make.
 ghost use Rattle.std.specs.Prelude.{◌≡◌, ◌↔◌, ◌<◌, ◌≤◌, [], ◌++◌, length, IfOk, IsTrue, slice_get, Some, MatchOption};
 ghost use Rattle.dm_bundle.specs.Patches.{infos_of};
 ghost use Rattle.dm_repo.specs.Repositories.{Holds, IsRepo, IsTreeOf, KeepsTree};
 
+use crate::names::{Names, append_names, copy_infos, copy_names, no_names, place_of};
 use crate::weighed::Merged;
 use dm_bundle::Bundle;
 use dm_info::Info;
@@ -12,37 +13,46 @@ use dm_tree::laws::tree_is_lawful;
 use std::alloc::{AllocError, Allocator};
 use std::marker::Model;
 
-/// Named patches in the order in which they were taken, and the tree that they make.
+/// Named patches in the order in which they were taken, an index of their names, and the tree that they make.
 ///
 /// Their names are distinct, each explicit dependency stands earlier, and they apply in turn from the
 /// root alone, where no primitive makes a path of more than 32 names.
+///
+/// The hash of the index has no seed: whoever picks the names can make them collide in it, and a look-up then
+/// compares as many of them as a walk over the patches would.
 #[derive(Drop)]
 pub struct Repo<A: Allocator> {
     patches: Vec<Named<A>, A>,
+    names: Names<A>,
     tree: Tree<A>,
 }
 
 impl<A: Allocator> Model for Repo<A> {
-    ghost use Rattle.std.specs.Prelude.{◌-◌, vec_len, vec_capacity};
+    ghost use Rattle.std.specs.Prelude.{◌≡◌, ◌-◌, min, vec_len, vec_capacity};
+    ghost use Rattle.indexmap.specs.IndexSet.{spare};
+    ghost use Rattle.dm_bundle.specs.Patches.{infos_of};
     ghost use Rattle.dm_repo.specs.Repositories.{Repository, KeepsTree};
 
     ghost Value = { Repository };
 
-    ghost view = { λ r. record { patches = r.patches.items; room = vec_capacity r.patches - vec_len r.patches } };
+    ghost view = { λ r. record { patches = r.patches.items; room = min (vec_capacity r.patches - vec_len r.patches) (spare r.names) } };
 
-    ghost invariant = { λ r. KeepsTree r.patches.items r.tree };
+    ghost invariant = { λ r. KeepsTree r.patches.items r.tree × (r.names.keys ≡ infos_of r.patches.items) };
 }
 
-/// Copies of patches that are about to be appended, and of the tree after them.
+/// Copies of patches that are about to be appended, of their names, and of the tree after them.
 #[derive(Drop)]
 pub struct Ready<A: Allocator> {
     patches: Vec<Named<A>, A>,
+    names: Vec<Info<A>, A>,
     tree: Tree<A>,
 }
 
 impl<A: Allocator> Model for Ready<A> {
+    ghost use Rattle.std.specs.Prelude.{◌≡◌};
     ghost use Rattle.std.specs.Coded.{codes};
     ghost use Rattle.dm_tree.specs.Trees.{tree_code};
+    ghost use Rattle.dm_bundle.specs.Patches.{infos_of};
     ghost use Rattle.dm_repo.specs.Repositories.{Prepared};
 
     ghost Value = { Prepared };
@@ -50,6 +60,8 @@ impl<A: Allocator> Model for Ready<A> {
     ghost coded = { Prim.hlevel (codes, tree_code) };
 
     ghost view = { λ r. record { patches = r.patches.items; tree = r.tree } };
+
+    ghost invariant = { λ r. r.names.items ≡ infos_of r.patches.items };
 }
 
 impl<A: Allocator> Repo<A> {
@@ -115,17 +127,12 @@ impl<A: Allocator> Repo<A> {
     }
 
     /// The place of the patch of this name, if it is held.
-    pub fn position<B: Allocator>(&self, info: &Info<B>) -> Option<usize>
+    pub fn position(&self, info: &Info<A>) -> Option<usize>
         ensures { MatchOption result
             (Holds self.now.patches info.now → ⊥)
             (λ i. slice_get (infos_of self.now.patches) i ≡ Some info.now) }
     {
-        for i in (0..self.patches.len()).rev() {
-            if self.patches[i].info().same(info) {
-                return Some(i);
-            }
-        }
-        None
+        place_of(&self.names, info)
     }
 
     /// Appends what was prepared, and answers how many patches that is; takes no memory. The tree after them takes the
@@ -140,7 +147,8 @@ impl<A: Allocator> Repo<A> {
     {
         let mut more = ready.patches;
         let count = more.len();
-        // There is room, so this can't fail.
+        // There is room, so neither can fail.
+        append_names(&mut self.names, ready.names);
         let _ = self.patches.append(&mut more);
         self.tree = ready.tree;
         count
@@ -156,8 +164,29 @@ impl<A: Allocator + Copy> Repo<A> {
         tree_is_lawful(&tree);
         Repo {
             patches: Vec::new(alloc),
+            names: no_names(alloc),
             tree,
         }
+    }
+
+    /// The place of the patch of this name, if it is held, where the name lies under another allocator.
+    pub(crate) fn find<B: Allocator>(&self, info: &Info<B>) -> Result<Option<usize>, AllocError>
+        ensures { IfOk result (λ found. MatchOption found
+            (Holds self.now.patches info.now → ⊥)
+            (λ i. slice_get (infos_of self.now.patches) i ≡ Some info.now)) }
+    {
+        let name = info.copy_into(*self.patches.allocator())?;
+        Ok(self.position(&name))
+    }
+
+    /// Copies of names, under the repository's allocator.
+    pub(crate) fn copy_infos<B: Allocator>(
+        &self,
+        infos: &[Info<B>],
+    ) -> Result<Vec<Info<A>, A>, AllocError>
+        ensures { IfOk result (λ copies. copies.items ≡ infos.now) }
+    {
+        copy_infos(*self.patches.allocator(), infos)
     }
 
     /// Makes the room for the merged patches, and copies them and the tree after them. The repository reads as before.
@@ -171,9 +200,15 @@ impl<A: Allocator + Copy> Repo<A> {
     {
         let alloc = *self.patches.allocator();
         let patches = copy_patches(alloc, &merged.patches)?;
+        let names = copy_names(alloc, &patches)?;
         let tree = merged.tree.copy_into(alloc)?;
         self.patches.reserve(patches.len())?;
-        Ok(Ready { patches, tree })
+        self.names.reserve(patches.len())?;
+        Ok(Ready {
+            patches,
+            names,
+            tree,
+        })
     }
 }
 

@@ -432,6 +432,53 @@ fn one_bundle_step_by_step(rt: HostRuntime) -> Result<(), Fail> {
     Ok(())
 }
 
+/// The bundle of a patch of this name, which adds the directory of this name.
+fn adds<A: Allocator + Copy>(alloc: A, name: u8) -> Result<Bundle<A>, Fail> {
+    let mut text = text_of(alloc, "%N[")?;
+    text.push(name)?;
+    text.extend_from_slice(b"\np**20240101000000] adddir ./")?;
+    text.push(name)?;
+    text.extend_from_slice(text_of(alloc, "|%C")?.as_slice())?;
+    match read_bundle(alloc, &text) {
+        Ok(bundle) => Ok(bundle),
+        Err(_) => Err("a text that is no bundle".into()),
+    }
+}
+
+/// Each is the name of a patch that is taken.
+const NAMES: &[u8] = b"the quick brown fox jumps over the lazy dog";
+
+#[test]
+fn each_name_is_found(rt: HostRuntime) -> Result<(), Fail> {
+    let alloc = rt.alloc();
+    let arena = Bump::new(alloc);
+    let mut repo = Repo::new(alloc);
+    for name in NAMES {
+        if *name != b' ' {
+            let _ = taken(&rt, &arena, &mut repo, adds(&arena, *name)?)?;
+        }
+    }
+    assert_eq!(rt; repo.len(), 26, "each letter once");
+    for i in 0..repo.len() {
+        assert_eq!(rt;
+            repo.position(repo.patch(i).info()),
+            Some(i),
+            "each patch is at its place"
+        );
+    }
+    let found = places(
+        alloc,
+        &repo,
+        "%N(t)adddir ./t|[t|p**20240101000001] adddir ./u|[t|q**20240101000000] adddir ./v|[t|p**20240101000000| l|] adddir ./w|(g)adddir ./g|%C",
+    )?;
+    assert_eq!(rt;
+        found.as_slice(),
+        [Some(0), None, None, None, Some(25)].as_slice(),
+        "a name with another date, author or log isn't held"
+    );
+    Ok(())
+}
+
 #[test]
 fn a_repository_holds_at_most_100_000_patches(rt: HostRuntime) {
     for (held, more, is_full) in [

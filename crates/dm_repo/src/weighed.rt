@@ -10,7 +10,7 @@ use crate::fit::check_fit;
 use crate::lookup::look_up;
 use crate::marks::{Marks, are_set};
 use crate::merge::{append_to_whole, merge};
-use crate::parted::{split_common, split_held};
+use crate::parted::{kept_in_place, split_common, split_held};
 use crate::refusal::Refusal;
 use crate::repo::{Repo, copy_patches};
 use dm_bundle::Bundle;
@@ -55,9 +55,10 @@ fn weigh_new<A: Allocator, B: Allocator + Copy>(
         let chosen = split_held(alloc, new, marks)?;
         return append_to_whole(alloc, repo, chosen);
     }
-    let parted = split_common(alloc, repo, marks)?;
+    let kept = kept_in_place(&marks.common);
+    let parted = split_common(alloc, repo, marks, kept)?;
     let chosen = split_held(alloc, new, marks)?;
-    check_fit(alloc, &parted.front, &chosen)?;
+    check_fit(alloc, &repo.patches()[..kept], &parted.front, &chosen)?;
     merge(alloc, repo, parted.rest, chosen)
 }
 
@@ -73,7 +74,7 @@ fn names_are_distinct<A: Allocator>(bundle: &Bundle<A>)
 /// The bundle's context and dependencies are looked up; the repository is split into what the bundle was made from and the
 /// rest; the new patches are applied after the first part, and merged with the second (`darcs apply --no-allow-conflicts`).
 /// The first step that refuses decides. The new patches are copied; [`weigh_owned`] moves them.
-pub fn weigh<A: Allocator, B: Allocator + Copy>(
+pub fn weigh<A: Allocator + Copy, B: Allocator + Copy>(
     alloc: B,
     repo: &Repo<A>,
     bundle: &Bundle<B>,
@@ -93,7 +94,7 @@ pub fn weigh<A: Allocator, B: Allocator + Copy>(
 }
 
 /// The same as [`weigh`] of a bundle that is given up: its new patches are moved into what is merged.
-pub fn weigh_owned<A: Allocator, B: Allocator + Copy>(
+pub fn weigh_owned<A: Allocator + Copy, B: Allocator + Copy>(
     alloc: B,
     repo: &Repo<A>,
     bundle: Bundle<B>,

@@ -6,10 +6,10 @@ pub loop-n-init : goal.loop-n-init
 loop-n-init g c = λ m l. absurd (omega (arith, l))
 
 pub loop-n-preserved : goal.loop-n-preserved
-loop-n-preserved g c = have_more c.args.repo.now.patches c.args.bundle.now c.loop-n.n c.in-None.ensures c.loop-n.invariant
+loop-n-preserved g c = have_more c.args.repo.now.patches c.args.bundle.now c.loop-n.n (rw c.in-None.is at c.in_ok-missing_dependency.ensures) c.loop-n.invariant
 
 pub returns-in-Some : goal.returns-in-Some
-returns-in-Some g c = first_lacking c.args.repo.now.patches c.args.bundle.now c.loop-n.n c.in-Some.d c.loop-n.invariant c.in-Some.ensures
+returns-in-Some g c = first_lacking c.args.repo.now.patches c.args.bundle.now c.loop-n.n c.in-Some.d c.loop-n.invariant (rw c.in-Some.is at c.in_ok-missing_dependency.ensures)
 
 pub returns : goal.returns
 returns g c = all_have c.args.repo.now.patches c.args.bundle.now c.loop-n.n (rw c.new_patches-new.ensures.value at c.loop-n-test.false) c.loop-n.invariant

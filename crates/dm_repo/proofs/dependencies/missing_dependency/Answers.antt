@@ -1,4 +1,4 @@
-use Rattle.std.proofs.Common.{◌≡◌, ◌<◌, true, false, refl, sym, ◌∙◌, subst, length, get_or, arith}
+use Rattle.std.proofs.Common.{◌≡◌, ◌<◌, true, false, sym, ◌∙◌, subst, length, get_or, arith}
 use Rattle.std.specs.Prelude.{Contains}
 use Rattle.std.proofs.lemmas.List.{take_all, length-map}
 use Rattle.std.proofs.lemmas.Bool.{false≢true}
@@ -25,10 +25,10 @@ loop-d-init g c = λ i h. absurd (none_of h)
 
 pub loop-d-preserved : goal.loop-d-preserved
 loop-d-preserved g c =
-    all_more c.deps-dependencies.result.now c.loop-d.d c.index-dependencies-d.result (IsKnown c.args.repo.now.patches c.args.bundle.now c.args.n) c.loop-d-test.true c.index-dependencies-d.is (c.if-not-is_known.ensures.0 refl) c.loop-d.invariant
+    all_more c.deps-dependencies.result.now c.loop-d.d c.index-dependencies-d.result (IsKnown c.args.repo.now.patches c.args.bundle.now c.args.n) c.loop-d-test.true c.index-dependencies-d.is (c.in_ok-is_known.ensures.0 c.if-not-branch.false) c.loop-d.invariant
 
-pub returns-then-not-is_known : goal.returns-then-not-is_known
-returns-then-not-is_known g c =
+pub returns-then-not-branch : goal.returns-then-not-branch
+returns-then-not-branch g c =
     let repo = c.args.repo.now.patches in
     let b = c.args.bundle.now in
     let x = c.index-new_patches-n.result in
@@ -38,7 +38,7 @@ returns-then-not-is_known g c =
     let l : c.args.n < length held = omega (arith, w, c.requires.marks.held_is.length_is, c.requires.place) in
     let new = unmarked_new repo b.patches held c.args.n x c.requires.marks.held_is (at_place b.patches c.args.n x c.requires.place e) (mark_at held c.args.n false c.index.result.now l (sym c.index.ensures ∙ c.if-index.false)) in
     first_unknown repo b c.args.n c.loop-d.d x c.index-dependencies-d.result c.requires.place e new
-    (rw c.deps-dependencies.ensures at c.loop-d-test.true) (rw c.deps-dependencies.ensures at c.index-dependencies-d.is) (λ k. false≢true (c.if-not-is_known.ensures.1 k))
+    (rw c.deps-dependencies.ensures at c.loop-d-test.true) (rw c.deps-dependencies.ensures at c.index-dependencies-d.is) (λ k. false≢true (sym c.if-not-branch.true ∙ c.in_ok-is_known.ensures.1 k))
     (rw c.deps-dependencies.ensures at c.loop-d.invariant)
 
 pub returns : goal.returns

@@ -22,10 +22,10 @@ returns-in-None g c = record {
   prerequisites = record {
     knows = c.in_ok-marks.ensures.knows;
     is_new = λ h. false≢true (c.if-are_set.ensures.1 (rw c.deref.ensures.value (not_all_held c.args.repo.now.patches c.args.bundle.now.patches c.in_ok-marks.marks.held.items c.in_ok-marks.ensures.held_is h)));
-    has_dependencies = c.in-None.ensures;
+    has_dependencies = rw c.in-None.is at c.in_ok-first_missing.ensures;
   };
   marked = c.in_ok-marks.ensures;
 }
 
 pub returns-in-Some : goal.returns-in-Some
-returns-in-Some g c = (c.in_ok-marks.ensures.knows, (λ h. false≢true (c.if-are_set.ensures.1 (rw c.deref.ensures.value (not_all_held c.args.repo.now.patches c.args.bundle.now.patches c.in_ok-marks.marks.held.items c.in_ok-marks.ensures.held_is h)))), c.in-Some.ensures)
+returns-in-Some g c = (c.in_ok-marks.ensures.knows, (λ h. false≢true (c.if-are_set.ensures.1 (rw c.deref.ensures.value (not_all_held c.args.repo.now.patches c.args.bundle.now.patches c.in_ok-marks.marks.held.items c.in_ok-marks.ensures.held_is h)))), rw c.in-Some.is at c.in_ok-first_missing.ensures)

@@ -10,7 +10,7 @@ pub returns-in-Ok : goal.returns-in-Ok
 returns-in-Ok g c =
     let infos = infos_of c.args.repo.now.patches in
     let context = c.args.bundle.now.context in
-    let e = rw (c.context.ensures, c.as_mut_slice.ensures.value, c.in_ok-marks.ensures.items_if_clones_equal (λ y h. h)) at c.in-Ok.ensures in
+    let e = rw (c.deref.ensures.value, c.in_ok-context.ensures, c.context.ensures, c.as_mut_slice.ensures.value, c.in_ok-marks.ensures.items_if_clones_equal (λ y h. h)) at c.in-Ok.ensures in
     let kept = whole c.mark.new.marks (drop (length c.mark.new.marks) c.in_ok-marks.marks.items) c.in_ok-marks.marks.len (search rules) in (
       e.1,
       rw kept (marks_also infos (replicate c.len.result false) c.mark.new.marks context (λ i. ⊥) (Contains context)
@@ -18,4 +18,4 @@ returns-in-Ok g c =
     )
 
 pub returns-in-Err : goal.returns-in-Err
-returns-in-Err g c = rw c.context.ensures at c.in-Err.ensures
+returns-in-Err g c = rw (c.deref.ensures.value, c.in_ok-context.ensures, c.context.ensures) at c.in-Err.ensures

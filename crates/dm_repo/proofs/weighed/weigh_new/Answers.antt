@@ -1,4 +1,4 @@
-use Rattle.std.proofs.Common.{refl, []}
+use Rattle.std.proofs.Common.{refl, [], ◌++◌, take}
 use Rattle.std.proofs.lemmas.Result.{err_from_is_err_and}
 use Rattle.dm_repo.specs.Squares.{placed}
 use Rattle.dm_repo.proofs.Following.{parted_whole}
@@ -21,19 +21,27 @@ returns-in_err-parted g c = λ b e found. let p = err_from_is_err_and c.from_res
 
 pub returns-in_err-chosen-2 : goal.returns-in_err-chosen-2
 returns-in_err-chosen-2 g c = λ b e found.
+    let repo = c.args.repo.now.patches in
+    let front = placed (take c.kept_in_place-kept.result repo) ++ c.in_ok-parted.parted.front.items in
     let p = err_from_is_err_and c.from_residual-in_err-chosen-2.result c.from_residual-in_err-chosen-2.ensures.1 in rw (p.1, p.2)
-    (c.in_err-chosen-2.ensures c.args.repo.now.patches b c.in_ok-parted.parted.front.items c.in_ok-parted.parted.rest.items e found (c.in_ok-parted.ensures b found))
+    (c.in_err-chosen-2.ensures repo b front c.in_ok-parted.parted.rest.items e found (c.in_ok-parted.ensures b found))
 
 pub returns-in_err-check_fit : goal.returns-in_err-check_fit
 returns-in_err-check_fit g c = λ b e found.
     let repo = c.args.repo.now.patches in
+    let front = placed (take c.kept_in_place-kept.result repo) ++ c.in_ok-parted.parted.front.items in
     let rest = c.in_ok-parted.parted.rest.items in
-    let chosen = c.in_ok-chosen-2.ensures repo b c.in_ok-parted.parted.front.items rest e found (c.in_ok-parted.ensures b found) in
-    let p = err_from_is_err_and c.from_residual-in_err-check_fit.result c.from_residual-in_err-check_fit.ensures.1 in rw (p.1, p.2) (c.in_err-check_fit.ensures repo b rest c.lawful.ensures (rw (c.deref-2.ensures.value, c.deref-3.ensures.value) chosen))
+    let chosen = c.in_ok-chosen-2.ensures repo b front rest e found (c.in_ok-parted.ensures b found) in
+    let p = err_from_is_err_and c.from_residual-in_err-check_fit.result c.from_residual-in_err-check_fit.ensures.1 in
+    rw (p.1, p.2) (c.in_err-check_fit.ensures repo b rest c.lawful.ensures (rw (c.patches.ensures.value, c.deref-3.ensures.value, c.deref-4.ensures.value) chosen))
 
 pub returns : goal.returns
 returns g c = λ b e found.
     let repo = c.args.repo.now.patches in
+    let front = placed (take c.kept_in_place-kept.result repo) ++ c.in_ok-parted.parted.front.items in
     let rest = c.in_ok-parted.parted.rest.items in
-    let chosen = c.in_ok-chosen-2.ensures repo b c.in_ok-parted.parted.front.items rest e found (c.in_ok-parted.ensures b found) in
-    c.merge.ensures b (rw c.deref-3.ensures.value at (c.in_ok-check_fit.ensures repo b rest c.lawful.ensures (rw (c.deref-2.ensures.value, c.deref-3.ensures.value) chosen)))
+    let chosen = c.in_ok-chosen-2.ensures repo b front rest e found (c.in_ok-parted.ensures b found) in
+    c.merge.ensures b (rw c.deref-4.ensures.value at (c.in_ok-check_fit.ensures repo b rest c.lawful.ensures (rw (c.patches.ensures.value, c.deref-3.ensures.value, c.deref-4.ensures.value) chosen)))
+
+pub split_common-requires-clause-marked : goal.split_common-requires-clause-marked
+split_common-requires-clause-marked g c = rw c.deref-2.ensures.value at c.kept_in_place-kept.ensures.marked

@@ -23,3 +23,10 @@ returns-in_err-right-clause-fault c =
     (few _ _ c.if-one-gt-MOST_BUNDLES.false) (few _ _ c.if-two-gt-MOST_BUNDLES.false)
     (omega (arith, c.if-bound-eq0.false)) (omega (arith, c.if-bound-gt-MOST_WAITING.false)) in
     rw (p.1, p.2) (second_refused _ _ c.args.bound _ _ _ _ (map_two _ c.args.bases.now _ _ c.in-len2-bases.len_at_least c.in-len2-bases.len_below) good c.in_ok-left.ensures.ok c.in_err-right.ensures.err)
+
+pub returns-in_err-plan_of-clause-fault : goal.returns-in_err-plan_of-clause-fault
+returns-in_err-plan_of-clause-fault c =
+    let p = err_from_is_err_and c.from_residual-in_err-plan_of.result c.from_residual-in_err-plan_of.ensures.1 in
+    rw (p.1, p.2) (plannable _ _ c.args.posters.now c.args.bases.now _ _ c.args.bound c.in-len2.len_at_least c.in-len2.len_below c.in-len2-bases.len_at_least c.in-len2-bases.len_below
+    (few _ _ c.if-one-gt-MOST_BUNDLES.false) (few _ _ c.if-two-gt-MOST_BUNDLES.false)
+    (omega (arith, c.if-bound-eq0.false)) (omega (arith, c.if-bound-gt-MOST_WAITING.false)))
