@@ -1,7 +1,9 @@
 -- What a run of bytes and its ends are as lines.
 use Rattle.std.proofs.Common.{◌≡◌, ℕ, ◌+◌, ◌-◌, ◌<◌, ◌≤◌, List, [], ◌∷◌, ◌++◌, length, take, drop, get_or, zero, suc, refl, sym, ap, ap₂, subst, ◌∙◌, arith, append-nil, append_assoc, length-append, take-append-drop, add-zero, add-one}
 use Rattle.std.specs.List.{concat}
+use Rattle.std.specs.Prelude.{sum_by}
 use Rattle.std.proofs.lemmas.List.{take_at, drop_at, drop_more, take_more}
+use Rattle.std.proofs.lemmas.List.Concat.{concat_is, length-flat_map}
 use Rattle.dm_tree.specs.Trees.{Lines}
 use Rattle.dm_tree.specs.Texts.{Holds, ends_from, cut, begin_of}
 
@@ -39,6 +41,10 @@ ends_from-append n [] ys = ap (λ k. ends_from k ys) (sym (add-zero n))
 ends_from-append n (x ∷ xs) ys =
     let same : (n + length x) + length (concat xs) ≡ n + length (x ++ concat xs) = omega (arith, length-append x (concat xs)) in
     ap (λ z. (n + length x) ∷ z) (ends_from-append (n + length x) xs ys ∙ ap (λ k. ends_from (n + length x) xs ++ ends_from k ys) same)
+
+-- the count of bytes of all lines
+pub length-concat : (ls : Lines) → length (concat ls) ≡ sum_by length ls
+length-concat ls = ap length (concat_is ls) ∙ length-flat_map (λ x. x) ls
 
 -- the end of a line is where the next begins
 pub get_or-ends_from : (n : ℕ) (ls : Lines) (i d : ℕ) → i < length ls → get_or (ends_from n ls) i d ≡ n + begin_of ls (suc i)
@@ -109,4 +115,11 @@ module _ (run ends : List ℕ) (ls : Lines) (h : Holds run ends ls) where
   holds_push run' ends' line n e f size = record {
     whole = e ∙ ap₂ (λ x y. x ++ y) h.whole (sym (append-nil line)) ∙ sym (concat-append ls (line ∷ []));
     placed = f ∙ ap₂ (λ x k. x ++ k ∷ []) h.placed (omega (arith, size, ap length e, length-append run line, ap length h.whole)) ∙ sym (ends_from-append 0 ls (line ∷ []));
+  }
+
+  -- more lines
+  pub holds_append : (run' ends' : List ℕ) (fs : Lines) (n : ℕ) → run' ≡ run ++ concat fs → ends' ≡ ends ++ ends_from n fs → n ≡ length run → Holds run' ends' (ls ++ fs)
+  holds_append run' ends' fs n e f size = record {
+    whole = e ∙ ap (λ x. x ++ concat fs) h.whole ∙ sym (concat-append ls fs);
+    placed = f ∙ ap₂ (λ x k. x ++ ends_from k fs) h.placed (omega (arith, size, ap length h.whole)) ∙ sym (ends_from-append 0 ls fs);
   }

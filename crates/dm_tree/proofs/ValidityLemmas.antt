@@ -1,63 +1,46 @@
 -- The faults of a path's names, from one name on.
-use Rattle.std.proofs.Common.{◌≡◌, ℕ, ◌<◌, ◌≤◌, Bool, true, false, nat_lt, cond, List, [], ◌∷◌, ◌++◌, length, ◌+◌, Option, Some, None, refl, sym, ap, ◌∙◌, arith, length-append, get_or, drop, map, drop-cons, add-one, Bor, nat_eq, zero, suc}
+use Rattle.std.proofs.Common.{◌≡◌, ℕ, ◌<◌, ◌≤◌, Bool, true, false, nat_lt, cond, List, [], ◌∷◌, ◌++◌, length, ◌+◌, Option, Some, None, refl, sym, ap, ◌∙◌, arith, length-append, get_or, drop, map, drop-cons, add-one, nat_eq}
 use Rattle.dm_tree.specs.Paths.{Name, Path}
 use Rattle.dm_tree.specs.Validity.{path_fault, names_fault, is_bad_name}
 use Rattle.dm_tree.specs.declared.fault.PathFault.{PathFault}
 use Rattle.dm_tree.specs.declared.fault.PathFault.TheVariants.{Empty, BadName, TooDeep, TooLong}
 use Rattle.std.proofs.lemmas.Bool.Decides.{nat_tests}
-
-abbrev pub texts : List (Bor (List ℕ)) → List Name
-texts xs = map (λ b. b.now) xs
-
-pub texts-step : (xs : List (Bor (List ℕ))) (i : ℕ) (d : Bor (List ℕ)) → i < length xs → names_fault (texts xs) ≡ names_fault (texts (drop i xs)) → names_fault (texts xs) ≡ names_fault ((get_or xs i d).now ∷ texts (drop (i + 1) xs))
-texts-step xs i d lt e = e ∙ (rw (add-one, drop-cons xs i d) refl)
-
-length-texts : (xs : List (Bor (List ℕ))) → length (texts xs) ≡ length xs
-length-texts [] = refl
-length-texts (x ∷ xs) = omega (arith, length-texts xs)
+use Rattle.std.proofs.lemmas.List.{drop_all, length-map}
 
 pub few : (n : ℕ) → n ≤ 32 → nat_lt 32 n ≡ false
 few n le = grind (arith, nat_tests)
 
-pub path_names : (xs : List (Bor (List ℕ))) → false ≡ nat_eq (length xs) 0 → length xs ≤ 32 → path_fault (texts xs) ≡ names_fault (texts xs)
-path_names xs e le =
-    ap (λ n. cond (nat_eq n 0) (Some Empty) (cond (nat_lt 32 n) (Some TooDeep) (names_fault (texts xs)))) (length-texts xs)
-    ∙ ap (λ b. cond b (Some Empty) (cond (nat_lt 32 (length xs)) (Some TooDeep) (names_fault (texts xs)))) (sym e)
-    ∙ ap (λ b. cond b (Some TooDeep) (names_fault (texts xs))) (few (length xs) le)
+-- the first name has a fault, or the others decide
+cond_none : {T : Type 0} (b c : Bool) (x y : T) (f : Option T) → cond b (Some x) (cond c (Some y) None) ≡ None → cond b (Some x) (cond c (Some y) f) ≡ f
+cond_none true c x y f h = cc
+cond_none false true x y f h = cc
+cond_none false false x y f h = refl
 
-bad_first : (n : Name) (ns : List Name) → is_bad_name n ≡ true → names_fault (n ∷ ns) ≡ Some BadName
-bad_first n ns e = ap (λ b. cond b (Some BadName) (cond (nat_lt 255 (length n)) (Some TooLong) (names_fault ns))) e
+cond_some : {T : Type 0} (b c : Bool) (x y e : T) (f : Option T) → cond b (Some x) (cond c (Some y) None) ≡ Some e → cond b (Some x) (cond c (Some y) f) ≡ Some e
+cond_some true c x y e f h = h
+cond_some false true x y e f h = h
+cond_some false false x y e f h = cc
 
-long_first : (n : Name) (ns : List Name) → is_bad_name n ≡ false → 255 < length n → names_fault (n ∷ ns) ≡ Some TooLong
-long_first n ns e lt = ap (λ b. cond b (Some BadName) (cond (nat_lt 255 (length n)) (Some TooLong) (names_fault ns))) e ∙ ap (λ b. cond b (Some TooLong) (names_fault ns)) (is_long (length n) lt)
-  where
-    is_long : (k : ℕ) → 255 < k → nat_lt 255 k ≡ true
-    is_long k lt = grind (arith, nat_tests)
+-- the names are those of the items of a list
+module _ {T : Type 0} (name : T → Name) (xs : List T) where
+  pub path_names : false ≡ nat_eq (length xs) 0 → length xs ≤ 32 → path_fault (map name xs) ≡ names_fault (map name xs)
+  path_names e le =
+      ap (λ n. cond (nat_eq n 0) (Some Empty) (cond (nat_lt 32 n) (Some TooDeep) (names_fault (map name xs)))) (length-map xs name)
+      ∙ ap (λ b. cond b (Some Empty) (cond (nat_lt 32 (length xs)) (Some TooDeep) (names_fault (map name xs)))) (sym e)
+      ∙ ap (λ b. cond b (Some TooDeep) (names_fault (map name xs))) (few (length xs) le)
 
-good_first : (n : Name) (ns : List Name) → is_bad_name n ≡ false → length n ≤ 255 → names_fault (n ∷ ns) ≡ names_fault ns
-good_first n ns e le = ap (λ b. cond b (Some BadName) (cond (nat_lt 255 (length n)) (Some TooLong) (names_fault ns))) e ∙ ap (λ b. cond b (Some TooLong) (names_fault ns)) (is_short (length n) le)
-  where
-    is_short : (k : ℕ) → k ≤ 255 → nat_lt 255 k ≡ false
-    is_short k le = grind (arith, nat_tests)
+  module _ (i : ℕ) (d : T) (lt : i < length xs) (so_far : names_fault (map name xs) ≡ names_fault (map name (drop i xs))) where
+    step : names_fault (map name xs) ≡ names_fault (name (get_or xs i d) ∷ map name (drop (i + 1) xs))
+    step = so_far ∙ (rw (add-one, drop-cons xs i d) refl)
 
-module _ (xs : List (Bor (List ℕ))) (i : ℕ) (d : Bor (List ℕ)) (lt : i < length xs) (so_far : names_fault (texts xs) ≡ names_fault (texts (drop i xs))) where
-  pub texts-bad : is_bad_name (get_or xs i d).now ≡ true → names_fault (texts xs) ≡ Some BadName
-  texts-bad e = texts-step xs i d lt so_far ∙ bad_first (get_or xs i d).now (texts (drop (i + 1) xs)) e
+    pub name_refused : (e : PathFault) → names_fault (name (get_or xs i d) ∷ []) ≡ Some e → names_fault (map name xs) ≡ Some e
+    name_refused e h = step ∙ cond_some (is_bad_name (name (get_or xs i d))) (nat_lt 255 (length (name (get_or xs i d)))) BadName TooLong e (names_fault (map name (drop (i + 1) xs))) h
 
-  pub texts-long : is_bad_name (get_or xs i d).now ≡ false → 255 < length (get_or xs i d).now → names_fault (texts xs) ≡ Some TooLong
-  texts-long e long = texts-step xs i d lt so_far ∙ long_first (get_or xs i d).now (texts (drop (i + 1) xs)) e long
+    pub name_good : names_fault (name (get_or xs i d) ∷ []) ≡ None → names_fault (map name xs) ≡ names_fault (map name (drop (i + 1) xs))
+    name_good h = step ∙ cond_none (is_bad_name (name (get_or xs i d))) (nat_lt 255 (length (name (get_or xs i d)))) BadName TooLong (names_fault (map name (drop (i + 1) xs))) h
 
-  pub texts-good : is_bad_name (get_or xs i d).now ≡ false → length (get_or xs i d).now ≤ 255 → names_fault (texts xs) ≡ names_fault (texts (drop (i + 1) xs))
-  texts-good e short = texts-step xs i d lt so_far ∙ good_first (get_or xs i d).now (texts (drop (i + 1) xs)) e short
-
-pub texts-end : (xs : List (Bor (List ℕ))) (i : ℕ) → length xs ≤ i → names_fault (texts xs) ≡ names_fault (texts (drop i xs)) → names_fault (texts xs) ≡ None
-texts-end xs i le e = e ∙ ap (λ ys. names_fault (texts ys)) (drop_all xs i le)
-  where
-    drop_all : (xs : List (Bor (List ℕ))) (i : ℕ) → length xs ≤ i → drop i xs ≡ []
-    drop_all [] zero le = refl
-    drop_all [] (suc i) le = refl
-    drop_all (x ∷ xs) zero le = absurd (omega arith)
-    drop_all (x ∷ xs) (suc i) le = drop_all xs i (omega arith)
+  pub names_end : (i : ℕ) → length xs ≤ i → names_fault (map name xs) ≡ names_fault (map name (drop i xs)) → names_fault (map name xs) ≡ None
+  names_end i le e = e ∙ ap (λ ys. names_fault (map name ys)) (drop_all i xs le)
 
 -- a good path, in its three parts
 pub record Good (p : Path) : Type 0 where

@@ -2,6 +2,7 @@ pub mod Paths
 pub mod Validity
 pub mod Trees
 pub mod Texts
+pub mod Files
 pub mod Changes
 pub mod Listings
 pub mod Seen

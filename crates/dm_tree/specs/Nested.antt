@@ -7,7 +7,7 @@ use Rattle.dm_tree.specs.Children.{PathEntries, IsRising, flatten}
 
 -- the entry that a node is
 abbrev pub entry_of : {A : Type 0} → Body A → Entry
-entry_of (Text lines) = File lines.items
+entry_of (Text lines) = File lines
 entry_of (Children children) = Dir
 
 -- the rows inside a node
@@ -17,5 +17,5 @@ under_of (Children children) = flatten children.items
 
 -- a file has a line, and a directory's children rise
 abbrev pub IsGood : {A : Type 0} → Body A → Type 0
-IsGood (Text lines) = 0 < length lines.items
+IsGood (Text lines) = 0 < length lines
 IsGood (Children children) = IsRising children.items

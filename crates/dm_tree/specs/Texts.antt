@@ -18,6 +18,11 @@ pub record Holds (run ends : List ℕ) (ls : Lines) : Type 0 where
   pub whole : run ≡ concat ls
   pub placed : ends ≡ ends_from 0 ls
 
+-- the run is the lines one after another, and the ends are theirs, the first of which begins at n
+pub record HoldsFrom (n : ℕ) (run ends : List ℕ) (ls : Lines) : Type 0 where
+  pub whole : run ≡ concat ls
+  pub placed : ends ≡ ends_from n ls
+
 -- where the line at place i begins
 abbrev pub begin_of : Lines → ℕ → ℕ
 begin_of ls i = length (concat (take i ls))

@@ -38,6 +38,13 @@ impl<A: Allocator> Bytes<A> {
         })
     }
 
+    /// These bytes; nothing is copied.
+    pub fn from_vec(bytes: Vec<u8, A>) -> Bytes<A>
+        ensures { result ≡ bytes.items }
+    {
+        Bytes { bytes }
+    }
+
     /// The bytes, borrowed.
     pub fn as_slice(&self) -> &[u8]
         ensures { result.now ≡ self.now }

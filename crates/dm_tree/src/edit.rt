@@ -1,64 +1,43 @@
 //! The change of a range of a file's lines.
-ghost use Rattle.std.specs.Prelude.{◌≡◌, ◌<◌, ◌↔◌, ◌∷◌, [], length, OnOk, OnErr, IsTrue};
+ghost use Rattle.std.specs.Prelude.{◌≡◌, ◌+◌, ◌-◌, ◌<◌, ◌^◌, length, IfNone, OnOk, OnErr};
 ghost use Rattle.dm_tree.specs.Children.{IsRising, look};
-ghost use Rattle.dm_tree.specs.Paths.{Under};
 ghost use Rattle.dm_tree.specs.Walks.{CanSplice, RefusesEdit, SetsAt, spliced};
 
-use crate::bytes::{Bytes, is_same};
+use crate::bytes::Bytes;
 use crate::fault::TreeFault;
+use crate::file::File;
 use crate::node::{Body, Node, place};
-use crate::replace::replace_lines;
 use crate::text::Text;
 use std::alloc::{AllocError, Allocator};
 
-/// Whether a file of these lines is empty: one line with no byte.
-pub(crate) fn is_blank<A: Allocator>(lines: &[Bytes<A>]) -> bool
-    ensures { IsTrue result ↔ (lines.now ≡ [] ∷ []) }
-{
-    lines.len() == 1 && lines[0].as_slice().is_empty()
-}
-
-/// The first fault of an edit of these lines.
+/// The first fault of an edit of this file.
 pub(crate) fn edit_refused<A: Allocator, B: Allocator, C: Allocator>(
-    lines: &[Bytes<A>],
+    file: &File<A>,
     line: u32,
     old: &Text<B>,
     new: &Text<C>,
 ) -> Option<TreeFault>
-    ensures { RefusesEdit lines.now line old.now new.now result }
+    ensures fault { RefusesEdit file.now line old.now new.now result }
+    ensures fits { IfNone result (line - 1 + length old.now < 2 ^ 64) }
 {
     if line == 0 {
         return Some(TreeFault::LineRange);
     }
     let start = (line - 1) as usize;
-    if lines.len() < start {
+    let count = file.len();
+    if count < start {
         return Some(TreeFault::LineRange);
     }
-    if lines.len() - start < old.len() {
+    if count - start < old.len() {
         return Some(TreeFault::LineRange);
     }
-    if !stands(&lines[start..], old) {
+    if !file.begins(start, old) {
         return Some(TreeFault::OldDiffers);
     }
-    if old.len() == lines.len() && new.is_empty() {
+    if old.len() == count && new.is_empty() {
         return Some(TreeFault::NoLines);
     }
     None
-}
-
-/// Whether the lines begin with all those of the text.
-fn stands<A: Allocator, B: Allocator>(lines: &[Bytes<A>], text: &Text<B>) -> bool
-    ensures { IsTrue result ↔ Under lines.now text.now }
-{
-    if lines.len() < text.len() {
-        return false;
-    }
-    for i in 0..text.len() {
-        if !is_same(lines[i].as_slice(), text.line(i)) {
-            return false;
-        }
-    }
-    true
 }
 
 /// Puts fresh lines in place of a file's lines from `start` to before `end`.
@@ -90,11 +69,11 @@ pub(crate) fn edit_at<A: Allocator + Copy, B: Allocator, C: Allocator>(
             }
             edit_at(inner, rest, start, end, fresh)
         }
-        Body::Text(lines) => {
+        Body::Text(file) => {
             if !rest.is_empty() {
                 unreachable!()
             }
-            replace_lines(lines, start, end, fresh)
+            file.splice(start, end, fresh)
         }
     }
 }

@@ -2,7 +2,7 @@
 ghost use Rattle.std.specs.Prelude.{◌≡◌, ◌<◌, [], length, slice_index_or};
 ghost use Rattle.dm_tree.specs.Listings.{file_size};
 
-use crate::bytes::Bytes;
+use crate::file::File;
 use std::alloc::Allocator;
 use std::marker::Model;
 
@@ -18,7 +18,7 @@ pub enum Entry<'t, A: Allocator> {
 /// The lines of a file, borrowed: the pieces between its newlines, at least one.
 #[derive(Drop)]
 pub struct FileRef<'t, A: Allocator> {
-    lines: &'t Vec<Bytes<A>, A>,
+    file: &'t File<A>,
 }
 
 impl<'t, A: Allocator> Model for FileRef<'t, A> {
@@ -26,24 +26,24 @@ impl<'t, A: Allocator> Model for FileRef<'t, A> {
 
     ghost Value = { List (List ℕ) };
 
-    ghost view = { λ a. a.lines.now.items };
+    ghost view = { λ a. a.file.now };
 
-    ghost invariant = { λ a. 0 < length a.lines.now.items };
+    ghost invariant = { λ a. 0 < length a.file.now };
 }
 
 impl<'t, A: Allocator> FileRef<'t, A> {
-    pub(crate) fn new(lines: &'t Vec<Bytes<A>, A>) -> FileRef<'t, A>
-        requires { 0 < length lines.now.items }
-        ensures { result ≡ lines.now.items }
+    pub(crate) fn new(file: &'t File<A>) -> FileRef<'t, A>
+        requires { 0 < length file.now }
+        ensures { result ≡ file.now }
     {
-        FileRef { lines }
+        FileRef { file }
     }
 
     /// The count of lines, at least one.
     pub fn count(&self) -> usize
         ensures { result ≡ length self.now }
     {
-        self.lines.len()
+        self.file.len()
     }
 
     /// The line at a place, from 0, borrowed.
@@ -51,25 +51,13 @@ impl<'t, A: Allocator> FileRef<'t, A> {
         requires { i < length self.now }
         ensures { result.now ≡ slice_index_or self.now i [] }
     {
-        self.lines[i].as_slice()
+        self.file.line(i)
     }
 
     /// The size of the file in bytes: its lines, and a newline between each two.
     pub fn bytes(&self) -> u128
         ensures { result ≡ file_size self.now }
     {
-        size(self.lines)
+        self.file.bytes()
     }
-}
-
-/// The size in bytes of a file of these lines.
-pub(crate) fn size<A: Allocator>(lines: &[Bytes<A>]) -> u128
-    requires { 0 < length lines.now }
-    ensures { result ≡ file_size lines.now }
-{
-    let mut total: u128 = 0;
-    for line in lines {
-        total += line.as_slice().len() as u128;
-    }
-    total + (lines.len() - 1) as u128
 }

@@ -13,19 +13,24 @@
 #![tactic(auto)]
 
 mod bytes;
+mod chain;
 mod edit;
+mod ends;
 mod entry;
 mod fault;
+mod file;
+mod gap;
 pub mod laws;
 mod lines;
 mod listing;
 mod node;
+mod parts;
 mod path;
 mod rename;
-mod replace;
 #[cfg(test)]
 mod tests;
 mod text;
+mod text_ref;
 mod tree;
 
 pub use entry::{Entry, FileRef};

@@ -4,7 +4,6 @@ ghost use Rattle.dm_tree.specs.Children.{IsRising, all, below, flatten};
 ghost use Rattle.dm_tree.specs.Walks.{AreGood, InOrder, listed};
 
 use crate::bytes::{Bytes, copy_all};
-use crate::entry::size;
 use crate::node::{Body, Node};
 use crate::path::Path;
 use std::alloc::{AllocError, Allocator};
@@ -53,9 +52,9 @@ fn list_node<A: Allocator, B: Allocator + Copy>(
     ensures sorted { IfOk result (λ _. InOrder (all node.now)) }
 {
     match &node.body {
-        Body::Text(lines) => {
+        Body::Text(file) => {
             let names = path_under(alloc, above, node.name())?;
-            let kind = Kind::File(size(lines));
+            let kind = Kind::File(file.bytes());
             out.push(Listed {
                 path: Path::from_names(names),
                 kind,

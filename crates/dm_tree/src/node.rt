@@ -8,7 +8,8 @@ ghost use Rattle.dm_tree.specs.Children.{IsRising, IsAt, IsGap, look};
 ghost use Rattle.dm_tree.specs.Nested.{IsGood, entry_of};
 ghost use Rattle.dm_tree.specs.Walks.{Grafts, SetsAt, leaf_entry, nothing, part_of};
 
-use crate::bytes::{Bytes, copy_all};
+use crate::bytes::Bytes;
+use crate::file::File;
 use std::alloc::{AllocError, Allocator};
 use std::marker::Model;
 
@@ -24,7 +25,7 @@ pub(crate) struct Node<A: Allocator> {
 #[cycle(node)]
 #[derive(Drop)]
 pub(crate) enum Body<A: Allocator> {
-    Text(Vec<Bytes<A>, A>),
+    Text(File<A>),
     Children(Vec<Node<A>, A>),
 }
 
@@ -119,11 +120,7 @@ fn make_leaf<A: Allocator + Copy>(alloc: A, name: &[u8], leaf: Leaf) -> Result<N
     let name = Bytes::from_slice(alloc, name)?;
     let body = match leaf {
         Leaf::Folder => Body::Children(Vec::new(alloc)),
-        Leaf::Empty => {
-            let mut lines = Vec::with_capacity(alloc, 1)?;
-            lines.push(Bytes::new(alloc))?;
-            Body::Text(lines)
-        }
+        Leaf::Empty => Body::Text(File::blank(alloc)?),
     };
     Ok(Node { name, body })
 }
@@ -236,21 +233,15 @@ fn copy_node<A: Allocator, B: Allocator + Copy>(
     ensures { IfOk result (λ k. k ≡ node.now) }
 {
     match &node.body {
-        Body::Text(lines) => {
-            let lines = copy_all(alloc, lines)?;
+        Body::Text(file) => {
+            let body = Body::Text(file.copy_into(alloc)?);
             let name = Bytes::from_slice(alloc, node.name())?;
-            Ok(Node {
-                name,
-                body: Body::Text(lines),
-            })
+            Ok(Node { name, body })
         }
         Body::Children(children) => {
-            let children = copy_children(alloc, children)?;
+            let body = Body::Children(copy_children(alloc, children)?);
             let name = Bytes::from_slice(alloc, node.name())?;
-            Ok(Node {
-                name,
-                body: Body::Children(children),
-            })
+            Ok(Node { name, body })
         }
     }
 }

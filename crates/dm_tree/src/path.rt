@@ -1,6 +1,6 @@
 //! The path of an entry: 1 to 32 names.
-ghost use Rattle.std.specs.Prelude.{◌≡◌, ◌<◌, ◌≤◌, ◌↔◌, [], length, map, IfOk, IfSome, IsTrue, MatchOption, Some, slice_index_or};
-ghost use Rattle.dm_tree.specs.Validity.{AnswersPath, IsGoodPath, is_bad_name, path_fault, path_fault_of};
+ghost use Rattle.std.specs.Prelude.{◌≡◌, ◌<◌, ◌≤◌, ◌↔◌, ◌∷◌, [], length, map, IfOk, IfSome, IsTrue, MatchOption, Some, slice_index_or};
+ghost use Rattle.dm_tree.specs.Validity.{AnswersPath, IsGoodPath, is_bad_name, names_fault, path_fault, path_fault_of};
 ghost use Rattle.dm_tree.specs.Paths.{Inside, Under, forward};
 
 use crate::bytes::{Bytes, copy_all, is_same, push_all};
@@ -42,6 +42,20 @@ impl<A: Allocator + Copy> Path<A> {
         let names = copy_names(alloc, parts)?;
         Ok(Path { names })
     }
+
+    /// A path of these names: it takes them over, and no name is copied.
+    ///
+    /// The first fault decides, as in [`Path::from_parts`].
+    pub fn from_owned(names: Vec<Vec<u8, A>, A>) -> Result<Path<A>, PathFault>
+        ensures fault { AnswersPath result (path_fault (map (λ v. v.items) names.items)) }
+        ensures parts { IfOk result (λ r. r ≡ map (λ v. v.items) names.items) }
+    {
+        if let Some(fault) = refused_owned(&names) {
+            return Err(fault);
+        }
+        let names = own_names(names)?;
+        Ok(Path { names })
+    }
 }
 
 /// The first fault of the names.
@@ -56,12 +70,42 @@ fn refused(parts: &[&[u8]]) -> Option<PathFault>
         return Some(PathFault::TooDeep);
     }
     for part in parts {
-        if is_bad(part) {
-            return Some(PathFault::BadName);
+        if let Some(fault) = refused_name(part) {
+            return Some(fault);
         }
-        if part.len() > 255 {
-            return Some(PathFault::TooLong);
+    }
+    None
+}
+
+/// The first fault of names that are owned.
+fn refused_owned<A: Allocator>(names: &[Vec<u8, A>]) -> Option<PathFault>
+    ensures fault { result ≡ path_fault (map (λ v. v.items) names.now) }
+    ensures named { IfSome result (λ e. path_fault_of e ≡ Some e) }
+{
+    if names.is_empty() {
+        return Some(PathFault::Empty);
+    }
+    if names.len() > 32 {
+        return Some(PathFault::TooDeep);
+    }
+    for name in names {
+        if let Some(fault) = refused_name(name.as_slice()) {
+            return Some(fault);
         }
+    }
+    None
+}
+
+/// The fault of a name.
+fn refused_name(name: &[u8]) -> Option<PathFault>
+    ensures fault { result ≡ names_fault (name.now ∷ []) }
+    ensures named { IfSome result (λ e. path_fault_of e ≡ Some e) }
+{
+    if is_bad(name) {
+        return Some(PathFault::BadName);
+    }
+    if name.len() > 255 {
+        return Some(PathFault::TooLong);
     }
     None
 }
@@ -89,6 +133,17 @@ fn copy_names<A: Allocator + Copy>(
         names.push(Bytes::from_slice(alloc, part)?)?;
     }
     Ok(names)
+}
+
+/// The same names, none of them copied.
+fn own_names<A: Allocator + Copy>(names: Vec<Vec<u8, A>, A>) -> Result<Vec<Bytes<A>, A>, AllocError>
+    ensures { IfOk result (λ r. r.items ≡ map (λ v. v.items) names.items) }
+{
+    let mut owned = Vec::with_capacity(*names.allocator(), names.len())?;
+    for name in names {
+        owned.push(Bytes::from_vec(name))?;
+    }
+    Ok(owned)
 }
 
 impl<A: Allocator> Path<A> {

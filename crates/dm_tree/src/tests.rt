@@ -1,5 +1,6 @@
 //! The same rows over the heap, with copies into an arena, and over an arena, with copies into the heap.
 
+mod files;
 mod lines;
 mod memory;
 mod paths;
@@ -50,6 +51,7 @@ fn all<A: Allocator + Copy, B: Allocator + Copy>(
     alloc: A,
     other: B,
 ) -> Result<(), Fail> {
+    files::all(rt, alloc, other)?;
     lines::all(rt, alloc, other)?;
     paths::all(rt, alloc, other)?;
     trees::all(rt, alloc, other)

@@ -1,7 +1,11 @@
 //! A list of lines as one run of bytes, with the place where each line ends.
-ghost use Rattle.std.specs.Prelude.{◌≡◌, ◌+◌, ◌<◌, ◌≤◌, ◌==◌, ◌++◌, ◌∷◌, [], length, IfOk, OnOk, OnErr, slice_index_or};
+ghost use Rattle.std.specs.Prelude.{◌≡◌, ◌+◌, ◌<◌, ◌≤◌, ◌==◌, ◌++◌, ◌∷◌, [], length, IfOk, OnOk, OnErr, slice_index_or, sum_by};
+ghost use Rattle.std.specs.List.{splice};
 ghost use Rattle.dm_tree.specs.Texts.{begin_of};
 
+use crate::ends::replace_ends;
+use crate::gap::replace_bytes;
+use crate::text_ref::TextRef;
 use std::alloc::{AllocError, Allocator};
 use std::marker::Model;
 
@@ -89,6 +93,64 @@ impl<A: Allocator> Text<A> {
         let Ok(()) = self.ends.push(self.bytes.len()) else {
             unreachable!()
         };
+        Ok(())
+    }
+
+    /// All lines, borrowed.
+    pub(crate) fn all(&self) -> TextRef<'_>
+        ensures { result ≡ self.now }
+    {
+        TextRef::new(&self.bytes, &self.ends)
+    }
+
+    /// The count of bytes of all lines together.
+    pub(crate) fn size(&self) -> usize
+        ensures { result ≡ sum_by length self.now }
+    {
+        self.bytes.len()
+    }
+
+    /// Appends copies of the lines.
+    pub(crate) fn append(&mut self, lines: &TextRef<'_>) -> Result<(), AllocError>
+        ensures ok { OnOk result (self.new ≡ self.old ++ lines.now) }
+        ensures err { OnErr result (self.new ≡ self.old) }
+    {
+        let begin = self.bytes.len();
+        self.ends.reserve(lines.len())?;
+        self.bytes.extend_from_slice(lines.bytes())?;
+        lines.copy_ends(&mut self.ends, begin);
+        Ok(())
+    }
+
+    /// Puts copies of the fresh lines in place of those from `start` to before `end`, in one move
+    /// of the bytes behind.
+    pub(crate) fn splice<B: Allocator>(
+        &mut self,
+        start: usize,
+        end: usize,
+        fresh: &Text<B>,
+    ) -> Result<(), AllocError>
+        requires order { start ≤ end }
+        requires within { end ≤ length self.old }
+        ensures ok { OnOk result (self.new ≡ splice self.old start end fresh.now) }
+        ensures err { OnErr result (self.new ≡ self.old) }
+    {
+        let from = self.begin(start);
+        let to = self.begin(end);
+        self.ends
+            .reserve(fresh.ends.len().saturating_sub(end - start))?;
+        self.bytes
+            .reserve(fresh.bytes.len().saturating_sub(to - from))?;
+        replace_bytes(&mut self.bytes, from, to, &fresh.bytes);
+        replace_ends(
+            &mut self.ends,
+            start,
+            end,
+            &fresh.ends,
+            from,
+            to,
+            fresh.bytes.len(),
+        );
         Ok(())
     }
 

@@ -11,7 +11,7 @@ ghost use Rattle.dm_tree.specs.Seen.{seen};
 ghost use Rattle.dm_tree.specs.Nested.{entry_of};
 ghost use Rattle.dm_tree.specs.Walks.{leaf_entry, part_of};
 
-use crate::edit::{edit_at, edit_refused, is_blank};
+use crate::edit::{edit_at, edit_refused};
 use crate::entry::{Entry, FileRef};
 use crate::fault::TreeFault;
 use crate::lines::Lines;
@@ -84,8 +84,8 @@ impl<A: Allocator + Copy> Tree<A> {
         match self.stands(path) {
             None => return Err(TreeFault::Missing),
             Some(Body::Children(_)) => return Err(TreeFault::NotFile),
-            Some(Body::Text(lines)) => {
-                if !is_blank(lines) {
+            Some(Body::Text(file)) => {
+                if !file.is_blank() {
                     return Err(TreeFault::NotEmpty);
                 }
             }
@@ -169,8 +169,8 @@ impl<A: Allocator + Copy> Tree<A> {
         match self.stands(path) {
             None => return Err(TreeFault::Missing),
             Some(Body::Children(_)) => return Err(TreeFault::NotFile),
-            Some(Body::Text(lines)) => {
-                if let Some(fault) = edit_refused(lines, line, old.text(), new.text()) {
+            Some(Body::Text(file)) => {
+                if let Some(fault) = edit_refused(file, line, old.text(), new.text()) {
                     return Err(fault);
                 }
             }
@@ -204,7 +204,7 @@ impl<A: Allocator> Tree<A> {
         match find(&self.children, path.names()) {
             None => None,
             Some(Body::Children(_)) => Some(Entry::Dir),
-            Some(Body::Text(lines)) => Some(Entry::File(FileRef::new(lines))),
+            Some(Body::Text(file)) => Some(Entry::File(FileRef::new(file))),
         }
     }
 

@@ -3,7 +3,7 @@
 use super::*;
 
 /// What the row shows, a question and its answer. Paths have a slash between names. `relate` tells whether a path is the
-/// other or is inside it; `forward` where a path is once what is at the second has moved to the third.
+/// other or is inside it; `forward` where a path is once what is at the second has moved to the third. `own` makes a path of names that are owned.
 pub(super) const PATHS: &str = "\
 no name: path  => Empty
 32 names: path a/a/a/a/a/a/a/a/a/a/a/a/a/a/a/a/a/a/a/a/a/a/a/a/a/a/a/a/a/a/a/a => Ok
@@ -22,6 +22,10 @@ a path inside moves along: forward d/f d x/y => x/y/f
 another path stays: forward x/y d x/y => x/y
 a move to 33 names: forward d/d/d/d/d/d/d/d/d/d/d/d/d/d/d/d/d/d/d/d/d/d/d/d/d/d/d/d/d/d/d/d d x/y => none
 a copy of a path: copy d/f => d/f
+names that are taken over: own d/f/g => d/f/g
+no name, taken over: own  => Empty
+33 names, taken over: own a/a/a/a/a/a/a/a/a/a/a/a/a/a/a/a/a/a/a/a/a/a/a/a/a/a/a/a/a/a/a/a/a => TooDeep
+a bad name, taken over: own d/_darcs => BadName
 ";
 
 /// The name of a fault of a path.
@@ -61,6 +65,22 @@ fn forward<A: Allocator + Copy, B: Allocator + Copy>(
     }
 }
 
+/// What a path takes over of owned names.
+fn taken_over<A: Allocator + Copy, B: Allocator + Copy>(
+    alloc: A,
+    other: B,
+    names: &str,
+) -> Result<Vec<u8, B>, Fail> {
+    let mut owned = Vec::new(alloc);
+    for name in &names_of(other, names)? {
+        owned.push(Vec::from_slice(alloc, name)?)?;
+    }
+    match Path::from_owned(owned) {
+        Ok(path) => text(other, &path),
+        Err(fault) => Ok(Vec::from_slice(other, path_word(fault).as_bytes())?),
+    }
+}
+
 /// What a question of the table of paths answers.
 fn answer<A: Allocator + Copy, B: Allocator + Copy>(
     alloc: A,
@@ -68,6 +88,9 @@ fn answer<A: Allocator + Copy, B: Allocator + Copy>(
     question: &str,
 ) -> Result<Vec<u8, B>, Fail> {
     let (word, names) = question.split_once(" ").ok_or("a path")?;
+    if word == "own" {
+        return taken_over(alloc, other, names);
+    }
     let (first, more) = names.split_once(" ").unwrap_or((names, ""));
     let first = match made(alloc, first)? {
         Ok(first) => first,

@@ -38,18 +38,18 @@ edit_at-requires g t c κs within =
 pub unreachable-requires-then-not-is_empty : goal.unreachable-requires-then-not-is_empty
 unreachable-requires-then-not-is_empty g t c =
     let some = some_rest c.in-Some.rest.now (sym c.is_empty-in-Text.ensures ∙ c.if-not-is_empty.true) in
-    let view : leaf_child c.child.inside.name (File c.in-Text.lines.items) ≡ c.index_mut-child.result.now = rw c.in-Text.is at c.child.view_is in
-    subst (λ x. CanSplice x c.args.start c.args.end c.args.fresh.now) (look_text c.in-Some.name.now _ c.args.children.now.items _ c.in-Ok.i c.index_mut-child.result.now c.child.inside.name c.in-Text.lines.items c.args.path.now c.in-Some.rest.now c.requires.rising c.as_slice.ensures c.deref.ensures.value c.in-Ok.ensures.found c.index_mut-child.ensures.value view c.in-Some.ensures.cases.0 some) c.requires.may
+    let view : leaf_child c.child.inside.name (File c.in-Text.file) ≡ c.index_mut-child.result.now = rw c.in-Text.is at c.child.view_is in
+    subst (λ x. CanSplice x c.args.start c.args.end c.args.fresh.now) (look_text c.in-Some.name.now _ c.args.children.now.items _ c.in-Ok.i c.index_mut-child.result.now c.child.inside.name c.in-Text.file c.args.path.now c.in-Some.rest.now c.requires.rising c.as_slice.ensures c.deref.ensures.value c.in-Ok.ensures.found c.index_mut-child.ensures.value view c.in-Some.ensures.cases.0 some) c.requires.may
 
-pub replace_lines-requires : goal.replace_lines-requires
-replace_lines-requires g t c =
+pub splice-requires : goal.splice-requires
+splice-requires g t c =
     let ks = c.args.children.now.items in
     let name = c.in-Some.name.now in
     let at = at_of name _ ks _ c.in-Ok.i c.as_slice.ensures c.deref.ensures.value c.in-Ok.ensures.found in
-    let view : leaf_child c.child.inside.name (File c.in-Text.lines.items) ≡ c.index_mut-child.result.now = rw c.in-Text.is at c.child.view_is in
-    let seen_file = seen name ks c.in-Ok.i c.index_mut-child.result.now (leaf_child c.child.inside.name (File c.in-Text.lines.items)) at c.index_mut-child.ensures.value view in
+    let view : leaf_child c.child.inside.name (File c.in-Text.file) ≡ c.index_mut-child.result.now = rw c.in-Text.is at c.child.view_is in
+    let seen_file = seen name ks c.in-Ok.i c.index_mut-child.result.now (leaf_child c.child.inside.name (File c.in-Text.file)) at c.index_mut-child.ensures.value view in
     let none = no_rest c.in-Some.rest.now (sym c.is_empty-in-Text.ensures ∙ c.if-not-is_empty.false) in
-    let may : CanSplice (Some (File c.in-Text.lines.items)) c.args.start c.args.end c.args.fresh.now = subst (λ x. CanSplice x c.args.start c.args.end c.args.fresh.now) (look_here name ks c.child.inside.name c.in-Text.lines.items c.args.path.now c.in-Some.rest.now c.requires.rising seen_file c.in-Some.ensures.cases.0 none) c.requires.may in
+    let may : CanSplice (Some (File c.in-Text.file)) c.args.start c.args.end c.args.fresh.now = subst (λ x. CanSplice x c.args.start c.args.end c.args.fresh.now) (look_here name ks c.child.inside.name c.in-Text.file c.args.path.now c.in-Some.rest.now c.requires.rising seen_file c.in-Some.ensures.cases.0 none) c.requires.may in
     record { order = may.0; within = may.1.0 }
 
 pub invariant_of-child-in-Text : goal.invariant_of-child-in-Text
@@ -57,12 +57,12 @@ invariant_of-child-in-Text g t c =
     let ks = c.args.children.now.items in
     let name = c.in-Some.name.now in
     let at = at_of name _ ks _ c.in-Ok.i c.as_slice.ensures c.deref.ensures.value c.in-Ok.ensures.found in
-    let view : leaf_child c.child.inside.name (File c.in-Text.lines.items) ≡ c.index_mut-child.result.now = rw c.in-Text.is at c.child.view_is in
-    let seen_file = seen name ks c.in-Ok.i c.index_mut-child.result.now (leaf_child c.child.inside.name (File c.in-Text.lines.items)) at c.index_mut-child.ensures.value view in
+    let view : leaf_child c.child.inside.name (File c.in-Text.file) ≡ c.index_mut-child.result.now = rw c.in-Text.is at c.child.view_is in
+    let seen_file = seen name ks c.in-Ok.i c.index_mut-child.result.now (leaf_child c.child.inside.name (File c.in-Text.file)) at c.index_mut-child.ensures.value view in
     let none = no_rest c.in-Some.rest.now (sym c.is_empty-in-Text.ensures ∙ c.if-not-is_empty.false) in
-    let may : CanSplice (Some (File c.in-Text.lines.items)) c.args.start c.args.end c.args.fresh.now = subst (λ x. CanSplice x c.args.start c.args.end c.args.fresh.now) (look_here name ks c.child.inside.name c.in-Text.lines.items c.args.path.now c.in-Some.rest.now c.requires.rising seen_file c.in-Some.ensures.cases.0 none) c.requires.may in
-    let had : 0 < length c.in-Text.lines.items = subst IsGood c.in-Text.is c.child.invariant in
-    still_lines c.replace_lines.result c.in-Text.lines.items c.replace_lines.new.lines.items (splice c.in-Text.lines.items c.args.start c.args.end c.args.fresh.now) c.replace_lines.ensures.ok c.replace_lines.ensures.err may.1.1 had
+    let may : CanSplice (Some (File c.in-Text.file)) c.args.start c.args.end c.args.fresh.now = subst (λ x. CanSplice x c.args.start c.args.end c.args.fresh.now) (look_here name ks c.child.inside.name c.in-Text.file c.args.path.now c.in-Some.rest.now c.requires.rising seen_file c.in-Some.ensures.cases.0 none) c.requires.may in
+    let had : 0 < length c.in-Text.file = subst IsGood c.in-Text.is c.child.invariant in
+    still_lines c.splice.result c.in-Text.file c.splice.new.self (splice c.in-Text.file c.args.start c.args.end c.args.fresh.now) c.splice.ensures.ok c.splice.ensures.err may.1.1 had
 
 pub returns-else-is_empty-clause-rising : goal.returns-else-is_empty-clause-rising
 returns-else-is_empty-clause-rising g t c =
@@ -91,23 +91,23 @@ returns-else-not-is_empty-clause-rising g t c =
     let ks = c.args.children.now.items in
     let name = c.in-Some.name.now in
     let at = at_of name _ ks _ c.in-Ok.i c.as_slice.ensures c.deref.ensures.value c.in-Ok.ensures.found in
-    let view : leaf_child c.child.inside.name (File c.in-Text.lines.items) ≡ c.index_mut-child.result.now = rw c.in-Text.is at c.child.view_is in
+    let view : leaf_child c.child.inside.name (File c.in-Text.file) ≡ c.index_mut-child.result.now = rw c.in-Text.is at c.child.view_is in
     let same : c.child.inside.name ≡ name = ap (λ k. k.name) (view ∙ c.index_mut-child.ensures.value) ∙ at_name name ks c.in-Ok.i c.index_mut-child.result.now at in
-    rising-set name ks c.in-Ok.i (leaf_child c.child.inside.name (File c.replace_lines.new.lines.items)) c.requires.rising at same
+    rising-set name ks c.in-Ok.i (leaf_child c.child.inside.name (File c.splice.new.self)) c.requires.rising at same
 
 pub returns-else-not-is_empty-clause-ok : goal.returns-else-not-is_empty-clause-ok
 returns-else-not-is_empty-clause-ok g t c =
     let ks = c.args.children.now.items in
     let name = c.in-Some.name.now in
     let at = at_of name _ ks _ c.in-Ok.i c.as_slice.ensures c.deref.ensures.value c.in-Ok.ensures.found in
-    let view : leaf_child c.child.inside.name (File c.in-Text.lines.items) ≡ c.index_mut-child.result.now = rw c.in-Text.is at c.child.view_is in
+    let view : leaf_child c.child.inside.name (File c.in-Text.file) ≡ c.index_mut-child.result.now = rw c.in-Text.is at c.child.view_is in
     let same : c.child.inside.name ≡ name = ap (λ k. k.name) (view ∙ c.index_mut-child.ensures.value) ∙ at_name name ks c.in-Ok.i c.index_mut-child.result.now at in
-    let seen_file = seen name ks c.in-Ok.i c.index_mut-child.result.now (leaf_child c.child.inside.name (File c.in-Text.lines.items)) at c.index_mut-child.ensures.value view in
+    let seen_file = seen name ks c.in-Ok.i c.index_mut-child.result.now (leaf_child c.child.inside.name (File c.in-Text.file)) at c.index_mut-child.ensures.value view in
     let none = no_rest c.in-Some.rest.now (sym c.is_empty-in-Text.ensures ∙ c.if-not-is_empty.false) in
-    on_ok c.replace_lines.result _ _ (λ e. spliced_text ks c.args.path.now c.args.start c.args.end c.args.fresh.now name c.in-Ok.i c.child.inside.name c.in-Text.lines.items c.replace_lines.new.lines.items c.in-Some.rest.now c.requires.rising at same seen_file c.in-Some.ensures.cases.0 none e) c.replace_lines.ensures.ok
+    on_ok c.splice.result _ _ (λ e. spliced_text ks c.args.path.now c.args.start c.args.end c.args.fresh.now name c.in-Ok.i c.child.inside.name c.in-Text.file c.splice.new.self c.in-Some.rest.now c.requires.rising at same seen_file c.in-Some.ensures.cases.0 none e) c.splice.ensures.ok
 
 pub returns-else-not-is_empty-clause-err : goal.returns-else-not-is_empty-clause-err
 returns-else-not-is_empty-clause-err g t c =
     let ks = c.args.children.now.items in
-    let view : leaf_child c.child.inside.name (File c.in-Text.lines.items) ≡ c.index_mut-child.result.now = rw c.in-Text.is at c.child.view_is in
-    on_err c.replace_lines.result _ _ (λ s. ap (λ l. set ks c.in-Ok.i (leaf_child c.child.inside.name (File l))) s ∙ ap (set ks c.in-Ok.i) view ∙ set_same ks c.in-Ok.i c.index_mut-child.result.now c.index_mut-child.ensures.value) c.replace_lines.ensures.err
+    let view : leaf_child c.child.inside.name (File c.in-Text.file) ≡ c.index_mut-child.result.now = rw c.in-Text.is at c.child.view_is in
+    on_err c.splice.result _ _ (λ s. ap (λ l. set ks c.in-Ok.i (leaf_child c.child.inside.name (File l))) s ∙ ap (set ks c.in-Ok.i) view ∙ set_same ks c.in-Ok.i c.index_mut-child.result.now c.index_mut-child.ensures.value) c.splice.ensures.err

@@ -35,12 +35,12 @@ list_node-list_children-requires g t c κs within =
     let k = c.args.node.now in
     let view : dir_child c.node.inside.name c.in-Children.children.items ≡ k = rw c.in-Children.is at c.node.view_is in
     let under : flatten c.in-Children.children.items ≡ k.under = ap (λ (x : Child). x.under) view in
-    let children : c.deref-in-Children-2.result.now ≡ c.in-Children.children.items = c.deref-in-Children-2.ensures.value in
-    let size : length (flatten c.deref-in-Children-2.result.now) ≡ length k.under = ap (λ l. length (flatten l)) children ∙ ap (λ (u : PathEntries). length u) under in
+    let children : c.deref-in-Children.result.now ≡ c.in-Children.children.items = c.deref-in-Children.ensures.value in
+    let size : length (flatten c.deref-in-Children.result.now) ≡ length k.under = ap (λ l. length (flatten l)) children ∙ ap (λ (u : PathEntries). length u) under in
     let rising : IsRising c.in-Children.children.items = subst IsGood c.in-Children.is c.node.invariant in
-    let names = c.deref-in-Children-3.ensures.value ∙ c.in_ok-names-in-Children.ensures ∙ ap (λ n. c.args.above.now ++ n ∷ []) c.name-in-Children.ensures in
+    let names = c.deref-in-Children-2.ensures.value ∙ c.in_ok-names-in-Children.ensures ∙ ap (λ n. c.args.above.now ++ n ∷ []) c.name-in-Children.ensures in
     let good = good_below c.args.above.now k.name k.under c.requires.good.1 in
-    (omega (arith, size, c.decreases), (within.0, (within.1, (subst IsRising (sym children) rising, subst (λ p. AreGood p (flatten c.deref-in-Children-2.result.now)) (sym names) (subst (AreGood (c.args.above.now ++ k.name ∷ [])) (sym (ap flatten children ∙ under)) good)))))
+    (omega (arith, size, c.decreases), (within.0, (within.1, (subst IsRising (sym children) rising, subst (λ p. AreGood p (flatten c.deref-in-Children.result.now)) (sym names) (subst (AreGood (c.args.above.now ++ k.name ∷ [])) (sym (ap flatten children ∙ under)) good)))))
 
 pub list_node-returns-in_ok-push-in-Children-clause-ok : goal.list_node-returns-in_ok-push-in-Children-clause-ok
 list_node-returns-in_ok-push-in-Children-clause-ok g t c =
@@ -49,14 +49,14 @@ list_node-returns-in_ok-push-in-Children-clause-ok g t c =
     let under : flatten c.in-Children.children.items ≡ k.under = ap (λ (x : Child). x.under) view in
     let dir : k.entry ≡ Rattle.dm_tree.specs.Trees.Dir = sym (ap (λ (x : Child). x.entry) view) in
     let own = c.in_ok-names-in-Children.ensures ∙ ap (λ n. c.args.above.now ++ n ∷ []) c.name-in-Children.ensures in
-    let names = c.deref-in-Children-3.ensures.value ∙ own in
-    let here = c.from_names-path.ensures ∙ c.in_ok-copy_all-in-Children.ensures ∙ c.deref-in-Children.ensures.value ∙ own in
-    let rows = ap flatten c.deref-in-Children-2.ensures.value ∙ under in
-    if_ok c.list_children.result _ _ (λ x e. dir_rows c.args.out.now.items c.push-in-Children.new.self.items c.list_children.new.out.items c.args.above.now c.args.above.now c.from_names-path.result c.deref-in-Children-3.result.now k.name k.entry (flatten c.deref-in-Children-2.result.now) k.under dir here names rows c.in_ok-push-in-Children.ensures.items e) c.list_children.ensures.ok
+    let names = c.deref-in-Children-2.ensures.value ∙ own in
+    let here = c.from_names-path.ensures ∙ c.in_ok-copy_all-in-Children.ensures ∙ c.deref.ensures.value ∙ own in
+    let rows = ap flatten c.deref-in-Children.ensures.value ∙ under in
+    if_ok c.list_children.result _ _ (λ x e. dir_rows c.args.out.now.items c.push-in-Children.new.self.items c.list_children.new.out.items c.args.above.now c.args.above.now c.from_names-path.result c.deref-in-Children-2.result.now k.name k.entry (flatten c.deref-in-Children.result.now) k.under dir here names rows c.in_ok-push-in-Children.ensures.items e) c.list_children.ensures.ok
 
 pub list_node-returns-in_ok-push-in-Children-clause-sorted : goal.list_node-returns-in_ok-push-in-Children-clause-sorted
 list_node-returns-in_ok-push-in-Children-clause-sorted g t c =
     let k = c.args.node.now in
     let view : dir_child c.node.inside.name c.in-Children.children.items ≡ k = rw c.in-Children.is at c.node.view_is in
     let under : k.under ≡ flatten c.in-Children.children.items = sym (ap (λ (x : Child). x.under) view) in
-    if_ok c.list_children.result _ _ (λ x o. dir_sorted k c.in-Children.children.items c.deref-in-Children-2.result.now under c.deref-in-Children-2.ensures.value o) c.list_children.ensures.sorted
+    if_ok c.list_children.result _ _ (λ x o. dir_sorted k c.in-Children.children.items c.deref-in-Children.result.now under c.deref-in-Children.ensures.value o) c.list_children.ensures.sorted

@@ -45,9 +45,9 @@ unreachable-requires-in-Text g t c =
     let ks = c.args.children.now.items in
     let at = at_of name _ ks _ c.in-Ok.i c.as_slice.ensures c.deref.ensures.value c.in-Ok.ensures.found in
     let some = some_rest c.in-Some.rest.now (sym c.is_empty.ensures ∙ c.if-is_empty.false) in
-    let view : leaf_child c.child.inside.name (File c.in-Text.field-0.items) ≡ c.index_mut-child.result.now = rw c.in-Text.is at c.child.view_is in
-    let seen_file = seen name ks c.in-Ok.i c.index_mut-child.result.now (leaf_child c.child.inside.name (File c.in-Text.field-0.items)) at c.index_mut-child.ensures.value view in
-    parent_file ks c.requires.rising name c.child.inside.name c.in-Text.field-0.items seen_file c.args.path.now c.in-Some.rest.now c.in-Some.ensures.cases.0 some c.requires.parent
+    let view : leaf_child c.child.inside.name (File c.in-Text.field-0) ≡ c.index_mut-child.result.now = rw c.in-Text.is at c.child.view_is in
+    let seen_file = seen name ks c.in-Ok.i c.index_mut-child.result.now (leaf_child c.child.inside.name (File c.in-Text.field-0)) at c.index_mut-child.ensures.value view in
+    parent_file ks c.requires.rising name c.child.inside.name c.in-Text.field-0 seen_file c.args.path.now c.in-Some.rest.now c.in-Some.ensures.cases.0 some c.requires.parent
 
 pub returns-in-Children-clause-rising : goal.returns-in-Children-clause-rising
 returns-in-Children-clause-rising g t c =

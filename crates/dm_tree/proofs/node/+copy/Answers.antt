@@ -10,18 +10,18 @@ pub copy_node-copy_children-requires : goal.copy_node-copy_children-requires
 copy_node-copy_children-requires g t c κs within =
     let view : dir_child c.node.inside.name c.in-Children.children.items ≡ c.args.node.now = rw c.in-Children.is at c.node.view_is in
     let under : length (flatten c.in-Children.children.items) ≡ length c.args.node.now.under = ap (λ k. length k.under) view in
-    let same : length (flatten c.deref-in-Children.result.now) ≡ length (flatten c.in-Children.children.items) = ap (λ l. length (flatten l)) c.deref-in-Children.ensures.value in
+    let same : length (flatten c.deref.result.now) ≡ length (flatten c.in-Children.children.items) = ap (λ l. length (flatten l)) c.deref.ensures.value in
     (omega (arith, under, same, c.decreases), (within.0, within.1))
 
 pub copy_node-invariant_of-result : goal.copy_node-invariant_of-result
 copy_node-invariant_of-result g t c =
-    let good : 0 < length c.in-Text.lines.items = subst IsGood c.in-Text.is c.node.invariant in
-    subst (λ (l : List (List ℕ)). 0 < length l) (sym (c.in_ok-lines-in-Text.ensures ∙ c.deref.ensures.value)) good
+    let good : 0 < length c.in-Text.file = subst IsGood c.in-Text.is c.node.invariant in
+    subst (λ (l : List (List ℕ)). 0 < length l) (sym (c.in_ok-copy_into-in-Text.ensures)) good
 
 pub copy_node-invariant_of-result-in-Children : goal.copy_node-invariant_of-result-in-Children
 copy_node-invariant_of-result-in-Children g t c =
     let good : IsRising c.in-Children.children.items = subst IsGood c.in-Children.is c.node.invariant in
-    subst IsRising (sym (c.in_ok-children-in-Children.ensures ∙ c.deref-in-Children.ensures.value)) good
+    subst IsRising (sym (c.in_ok-copy_children-in-Children.ensures ∙ c.deref.ensures.value)) good
 
 pub copy_children-copy_node-requires : goal.copy_children-copy_node-requires
 copy_children-copy_node-requires g t c κs within =

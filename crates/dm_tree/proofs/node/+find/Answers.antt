@@ -42,10 +42,10 @@ returns-in-Text-clause-value g t c =
     let ks = c.args.children.now in
     let at = at_of name _ ks _ c.in-Ok.i c.as_slice.ensures refl c.in-Ok.ensures.found in
     let some = some_rest rest (sym c.is_empty.ensures ∙ c.if-is_empty.false) in
-    let file = leaf_child c.child.inside.name (File c.in-Text.field-0.items) in
+    let file = leaf_child c.child.inside.name (File c.in-Text.field-0) in
     let view : file ≡ c.index-children-i.result = rw c.in-Text.is at c.child.view_is in
     let seen_file = seen name ks c.in-Ok.i c.index-children-i.result file at c.index-children-i.is view in
-    sym (ap (look ks) c.in-Some.ensures.cases.0 ∙ find-flatten ks c.requires.rising name rest ∙ ap (λ x. look_in x rest) seen_file ∙ look_file c.child.inside.name c.in-Text.field-0.items rest some)
+    sym (ap (look ks) c.in-Some.ensures.cases.0 ∙ find-flatten ks c.requires.rising name rest ∙ ap (λ x. look_in x rest) seen_file ∙ look_file c.child.inside.name c.in-Text.field-0 rest some)
 
 pub returns-then-is_empty-clause-part : goal.returns-then-is_empty-clause-part
 returns-then-is_empty-clause-part g t c = λ q.

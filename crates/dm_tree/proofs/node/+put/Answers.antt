@@ -47,8 +47,8 @@ put-requires g t c κs within =
 pub unreachable-requires-in-Text : goal.unreachable-requires-in-Text
 unreachable-requires-in-Text g t c =
     let some = some_rest c.in-Some.rest.now (sym c.is_empty.ensures ∙ c.if-is_empty.false) in
-    let view : leaf_child c.child-2.inside.name (File c.in-Text.field-0.items) ≡ c.index_mut-child.result.now = rw c.in-Text.is at c.child-2.view_is in
-    not_there _ (look_text c.in-Some.name.now _ c.args.children.now.items _ c.in-Ok.i c.index_mut-child.result.now c.child-2.inside.name c.in-Text.field-0.items c.args.path.now c.in-Some.rest.now c.requires.rising c.as_slice.ensures c.deref.ensures.value c.in-Ok.ensures.found c.index_mut-child.ensures.value view c.in-Some.ensures.cases.0 some) c.requires.there
+    let view : leaf_child c.child-2.inside.name (File c.in-Text.field-0) ≡ c.index_mut-child.result.now = rw c.in-Text.is at c.child-2.view_is in
+    not_there _ (look_text c.in-Some.name.now _ c.args.children.now.items _ c.in-Ok.i c.index_mut-child.result.now c.child-2.inside.name c.in-Text.field-0 c.args.path.now c.in-Some.rest.now c.requires.rising c.as_slice.ensures c.deref.ensures.value c.in-Ok.ensures.found c.index_mut-child.ensures.value view c.in-Some.ensures.cases.0 some) c.requires.there
 
 pub returns-clause-rising : goal.returns-clause-rising
 returns-clause-rising g t c =

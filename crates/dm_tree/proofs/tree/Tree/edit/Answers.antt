@@ -1,4 +1,4 @@
-use Rattle.std.proofs.Common.{sym, ap, subst, ◌∙◌, ◌≡◌, ◌+◌, ◌-◌, length, Some, None}
+use Rattle.std.proofs.Common.{refl, sym, ap, subst, ◌∙◌, ◌≡◌, ◌+◌, ◌-◌, length, Some, None}
 use Rattle.std.specs.FinMap.{get, insert}
 use Rattle.std.specs.List.{splice}
 use Rattle.dm_tree.specs.Trees.{Lines, File}
@@ -21,22 +21,22 @@ pub returns-in-Some-clause-fault : goal.returns-in-Some-clause-fault
 returns-in-Some-clause-fault g c =
     let p = c.args.path.now in
     let n = c.args.line in
-    let ls = c.in-Some-Text.lines.items in
+    let ls = c.in-Some-Text.file in
     let old = c.args.old.now in
     let new = c.args.new.now in
     let at_file : get c.args.self.now p ≡ Some (File ls) = sym c.in-Some-Text.ensures.value ∙ ap (λ b. Some (entry_of b)) c.in-Some-Text.field-0-is in
-    edit_refused (get c.args.self.now) p n old new ls at_file c.in-Some.fault (refuses_edit_of ls _ n old _ new _ (Some c.in-Some.fault) c.deref.ensures.value c.text.ensures.value c.text-in-Some-Text.ensures.value c.in-Some.ensures)
+    edit_refused (get c.args.self.now) p n old new ls at_file c.in-Some.fault (refuses_edit_of ls _ n old _ new _ (Some c.in-Some.fault) refl c.text.ensures.value c.text-in-Some-Text.ensures.value c.in-Some.ensures.fault)
 
 pub edit_at-requires-clause-may : goal.edit_at-requires-clause-may
 edit_at-requires-clause-may g c =
     let ks = c.self.inside.children.items in
     let p = c.args.path.now in
     let n = c.args.line in
-    let ls = c.in-Some-Text.lines.items in
+    let ls = c.in-Some-Text.file in
     let old = c.args.old.now in
     let new = c.args.new.now in
     let at_file : get c.args.self.now p ≡ Some (File ls) = sym c.in-Some-Text.ensures.value ∙ ap (λ b. Some (entry_of b)) c.in-Some-Text.field-0-is in
-    let edits = refuses_edit_of ls _ n old _ new _ None c.deref.ensures.value c.text.ensures.value c.text-in-Some-Text.ensures.value c.in_default.ensures in
+    let edits = refuses_edit_of ls _ n old _ new _ None refl c.text.ensures.value c.text-in-Some-Text.ensures.value c.in_default.ensures.fault in
     let is_map : look ks ≡ get c.args.self.now = sym (get-tree_of ks) ∙ ap get c.self.view_is in
     let file : look ks p ≡ Some (File ls) = ap (λ m. m p) is_map ∙ at_file in
     let end_is : c.len.result ≡ length old = c.len.ensures.value in
@@ -49,11 +49,11 @@ pub returns-in_err-edit_at-clause-fault : goal.returns-in_err-edit_at-clause-fau
 returns-in_err-edit_at-clause-fault g c =
     let p = c.args.path.now in
     let n = c.args.line in
-    let ls = c.in-Some-Text.lines.items in
+    let ls = c.in-Some-Text.file in
     let old = c.args.old.now in
     let new = c.args.new.now in
     let at_file : get c.args.self.now p ≡ Some (File ls) = sym c.in-Some-Text.ensures.value ∙ ap (λ b. Some (entry_of b)) c.in-Some-Text.field-0-is in
-    let edits = refuses_edit_of ls _ n old _ new _ None c.deref.ensures.value c.text.ensures.value c.text-in-Some-Text.ensures.value c.in_default.ensures in
+    let edits = refuses_edit_of ls _ n old _ new _ None refl c.text.ensures.value c.text-in-Some-Text.ensures.value c.in_default.ensures.fault in
     err_memory (EditAnswers (get c.args.self.now) p n old new) c.from_residual.result c.from_residual.ensures.1 (ls, edits.0, at_file, edits.1)
 
 pub invariant_of-self-2 : goal.invariant_of-self-2
@@ -61,11 +61,11 @@ invariant_of-self-2 g c =
     let ks = c.self.inside.children.items in
     let p = c.args.path.now in
     let n = c.args.line in
-    let ls = c.in-Some-Text.lines.items in
+    let ls = c.in-Some-Text.file in
     let old = c.args.old.now in
     let new = c.args.new.now in
     let at_file : get c.args.self.now p ≡ Some (File ls) = sym c.in-Some-Text.ensures.value ∙ ap (λ b. Some (entry_of b)) c.in-Some-Text.field-0-is in
-    let edits = refuses_edit_of ls _ n old _ new _ None c.deref.ensures.value c.text.ensures.value c.text-in-Some-Text.ensures.value c.in_default.ensures in
+    let edits = refuses_edit_of ls _ n old _ new _ None refl c.text.ensures.value c.text-in-Some-Text.ensures.value c.in_default.ensures.fault in
     let is_map : look ks ≡ get c.args.self.now = sym (get-tree_of ks) ∙ ap get c.self.view_is in
     let file : look ks p ≡ Some (File ls) = ap (λ m. m p) is_map ∙ at_file in
     let end_is : c.len.result ≡ length old = c.len.ensures.value in
@@ -81,11 +81,11 @@ pub returns-clause-fault : goal.returns-clause-fault
 returns-clause-fault g c =
     let p = c.args.path.now in
     let n = c.args.line in
-    let ls = c.in-Some-Text.lines.items in
+    let ls = c.in-Some-Text.file in
     let old = c.args.old.now in
     let new = c.args.new.now in
     let at_file : get c.args.self.now p ≡ Some (File ls) = sym c.in-Some-Text.ensures.value ∙ ap (λ b. Some (entry_of b)) c.in-Some-Text.field-0-is in
-    let edits = refuses_edit_of ls _ n old _ new _ None c.deref.ensures.value c.text.ensures.value c.text-in-Some-Text.ensures.value c.in_default.ensures in
+    let edits = refuses_edit_of ls _ n old _ new _ None refl c.text.ensures.value c.text-in-Some-Text.ensures.value c.in_default.ensures.fault in
     (ls, edits.0, at_file, edits.1)
 
 pub returns-clause-ok : goal.returns-clause-ok
@@ -93,11 +93,11 @@ returns-clause-ok g c =
     let ks = c.self.inside.children.items in
     let p = c.args.path.now in
     let n = c.args.line in
-    let ls = c.in-Some-Text.lines.items in
+    let ls = c.in-Some-Text.file in
     let old = c.args.old.now in
     let new = c.args.new.now in
     let at_file : get c.args.self.now p ≡ Some (File ls) = sym c.in-Some-Text.ensures.value ∙ ap (λ b. Some (entry_of b)) c.in-Some-Text.field-0-is in
-    let edits = refuses_edit_of ls _ n old _ new _ None c.deref.ensures.value c.text.ensures.value c.text-in-Some-Text.ensures.value c.in_default.ensures in
+    let edits = refuses_edit_of ls _ n old _ new _ None refl c.text.ensures.value c.text-in-Some-Text.ensures.value c.in_default.ensures.fault in
     let is_map : look ks ≡ get c.args.self.now = sym (get-tree_of ks) ∙ ap get c.self.view_is in
     let file : look ks p ≡ Some (File ls) = ap (λ m. m p) is_map ∙ at_file in
     let end_is : c.len.result ≡ length old = c.len.ensures.value in

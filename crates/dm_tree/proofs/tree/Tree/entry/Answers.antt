@@ -10,7 +10,7 @@ use Rattle.dm_tree.proofs.tree.Tree.entry.Goals as goal
 pub new-requires : goal.new-requires
 new-requires g c =
     let ks = c.self.inside.children.items in
-    let ls = c.in-Some-Text.lines.items in
+    let ls = c.in-Some-Text.file in
     let at : look ks c.args.path.now ≡ Some (File ls) =
     sym (sym (ap (λ b. Some (entry_of b)) c.in-Some-Text.field-0-is) ∙ c.in-Some-Text.ensures.value ∙ ap (look c.deref.result.now) c.names.ensures.value ∙ ap (λ k. look k c.args.path.now) c.deref.ensures.value) in
     some_lines ls (c.self.invariant.lawful.lines c.args.path.now ls at)

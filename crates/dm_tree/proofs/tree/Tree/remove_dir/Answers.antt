@@ -14,7 +14,7 @@ pub returns-in-None-clause-fault : goal.returns-in-None-clause-fault
 returns-in-None-clause-fault g c = sym c.in-None.ensures.value
 
 pub returns-in-Some-Text-clause-fault : goal.returns-in-Some-Text-clause-fault
-returns-in-Some-Text-clause-fault g c = (c.in-Some-Text.field-0-0.items, sym c.in-Some-Text.ensures.value ∙ ap (λ b. Some (entry_of b)) c.in-Some-Text.field-0-is)
+returns-in-Some-Text-clause-fault g c = (c.in-Some-Text.field-0-0, sym c.in-Some-Text.ensures.value ∙ ap (λ b. Some (entry_of b)) c.in-Some-Text.field-0-is)
 
 pub returns-then-not-is_empty-clause-fault : goal.returns-then-not-is_empty-clause-fault
 returns-then-not-is_empty-clause-fault g c =

@@ -19,9 +19,9 @@ returns-in-Some-Children-clause-fault g c = sym c.in-Some-Children.ensures.value
 
 pub returns-then-not-is_blank-clause-fault : goal.returns-then-not-is_blank-clause-fault
 returns-then-not-is_blank-clause-fault g c = (
-  c.in-Some-Text.lines.items,
+  c.in-Some-Text.file,
   sym c.in-Some-Text.ensures.value ∙ ap (λ b. Some (entry_of b)) c.in-Some-Text.field-0-is,
-  λ e. refuted c.if-not-is_blank.ensures (c.deref.ensures.value ∙ e),
+  λ e. refuted c.if-not-is_blank.ensures e,
 )
 
 pub cut-requires-clause-there : goal.cut-requires-clause-there
@@ -29,7 +29,7 @@ cut-requires-clause-there g c =
     let ks = c.self.inside.children.items in
     let p = c.args.path.now in
     let is_map : look ks ≡ get c.args.self.now = sym (get-tree_of ks) ∙ ap get c.self.view_is in
-    let file : look ks p ≡ Some (File c.in-Some-Text.lines.items) = ap (λ m. m p) is_map ∙ sym c.in-Some-Text.ensures.value ∙ ap (λ b. Some (entry_of b)) c.in-Some-Text.field-0-is in
+    let file : look ks p ≡ Some (File c.in-Some-Text.file) = ap (λ m. m p) is_map ∙ sym c.in-Some-Text.ensures.value ∙ ap (λ b. Some (entry_of b)) c.in-Some-Text.field-0-is in
     subst IsSome (sym (ap (look ks) c.names.ensures.value ∙ file)) refl
 
 pub invariant_of-self : goal.invariant_of-self
@@ -41,7 +41,7 @@ invariant_of-self g c =
 
 pub returns-clause-fault : goal.returns-clause-fault
 returns-clause-fault g c =
-    sym c.in-Some-Text.ensures.value ∙ ap (λ b. Some (entry_of b)) c.in-Some-Text.field-0-is ∙ ap (λ (l : Lines). Some (File l)) (sym c.deref.ensures.value ∙ c.if-not-is_blank.ensures.0 refl)
+    sym c.in-Some-Text.ensures.value ∙ ap (λ b. Some (entry_of b)) c.in-Some-Text.field-0-is ∙ ap (λ (l : Lines). Some (File l)) (c.if-not-is_blank.ensures.0 refl)
 
 pub returns-clause-ok : goal.returns-clause-ok
 returns-clause-ok g c =

@@ -1,0 +1,16 @@
+-- The lines of a file held in parts, one after another.
+use Rattle.std.specs.Prelude.{◌≡◌, ℕ, ◌+◌, ◌<◌, ◌≤◌, List, [], ◌∷◌, ◌++◌, take, length, slice_index_or}
+use Rattle.dm_tree.specs.Trees.{Lines}
+
+-- the lines of the parts
+abbrev pub joined : List Lines → Lines
+joined [] = []
+joined (p ∷ ps) = p ++ joined ps
+
+-- the place `at` of all lines is the one at `line` of part k, or right behind that part's last line
+abbrev pub Locates : List Lines → ℕ → ℕ → ℕ → Type 0
+Locates ps at k line = (k < length ps) × (line ≤ length (slice_index_or ps k [])) × (at ≡ length (joined (take k ps)) + line)
+
+-- the line at the place `at` of all lines is the one at `line` of part k
+abbrev pub HasLine : List Lines → ℕ → ℕ → ℕ → Type 0
+HasLine ps at k line = (k < length ps) × (line < length (slice_index_or ps k [])) × (at ≡ length (joined (take k ps)) + line)
