@@ -13,6 +13,16 @@ pub record PatchInfo : Type 0 where
 abbrev pub info_from : List ℕ → List ℕ → List ℕ → List (List ℕ) → PatchInfo
 info_from name author date log = record { name = name; author = author; date = date; log = log }
 
+-- the parts that stand before the log
+pub record FirstParts : Type 0 where
+  pub name : List ℕ
+  pub author : List ℕ
+  pub date : List ℕ
+
+-- the patch info that these parts and a log give
+abbrev pub info_with : FirstParts → List (List ℕ) → PatchInfo
+info_with parts log = info_from parts.name parts.author parts.date log
+
 -- no byte of the text passes the test
 abbrev pub Free : (ℕ → Bool) → List ℕ → Type 0
 Free test xs = AllByRecursion (λ x. test x ≡ false) xs

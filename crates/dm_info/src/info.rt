@@ -1,7 +1,7 @@
 //! The patch info of a patch: its name, author, date and log.
 
 ghost use Rattle.std.specs.Prelude.{◌≡◌, ◌↔◌, ◌<◌, [], length, slice_index_or, map, IsTrue, IfOk, IfErr, OnOk};
-ghost use Rattle.dm_info.specs.PatchInfo.{IsInfo, info_from};
+ghost use Rattle.dm_info.specs.PatchInfo.{IsInfo, info_from, info_with};
 ghost use Rattle.dm_info.specs.Refusals.{IsRefusedFor};
 ghost use Rattle.std.proofs.Common.{rules};
 ghost use Rattle.std.specs.Cmp.{partial_order_from_own_ties};
@@ -12,6 +12,7 @@ ghost use Rattle.dm_info.specs.Compared.{text_eq, info_eq, info_cmp, info_writes
 ghost use Rattle.dm_info.specs.ComparedLaws.{info_ties, info_alike};
 
 use crate::fault::InfoFault;
+use crate::opening::Opening;
 use crate::validity::{copied_lines, copied_slices, fault_of};
 use std::alloc::{AllocError, Allocator};
 use std::cmp::Ordering;
@@ -22,21 +23,19 @@ use std::marker::Model;
 /// Darcs' `Patch.Info`.
 #[derive(Drop)]
 pub struct Info<A: Allocator> {
-    name: Vec<u8, A>,
-    author: Vec<u8, A>,
-    date: Vec<u8, A>,
+    opening: Opening<A>,
     log: Vec<Vec<u8, A>, A>,
 }
 
 impl<A: Allocator> Model for Info<A> {
     ghost use Rattle.std.specs.Prelude.{map};
-    ghost use Rattle.dm_info.specs.PatchInfo.{PatchInfo, IsInfo, info_from};
+    ghost use Rattle.dm_info.specs.PatchInfo.{PatchInfo, IsInfo, info_with};
 
     ghost Value = { PatchInfo };
 
-    ghost view = { λ i. info_from i.name.items i.author.items i.date.items (map (λ line. line.items) i.log.items) };
+    ghost view = { λ i. info_with i.opening (map (λ line. line.items) i.log.items) };
 
-    ghost invariant = { λ i. IsInfo (info_from i.name.items i.author.items i.date.items (map (λ line. line.items) i.log.items)) };
+    ghost invariant = { λ i. IsInfo (info_with i.opening (map (λ line. line.items) i.log.items)) };
 }
 
 impl<A: Allocator + Copy> Info<A> {
@@ -57,52 +56,40 @@ impl<A: Allocator + Copy> Info<A> {
         if let Some(fault) = fault_of(name, author, date, log) {
             return Err(fault);
         }
-        let name = Vec::from_slice(alloc, name)?;
-        let author = Vec::from_slice(alloc, author)?;
-        let date = Vec::from_slice(alloc, date)?;
+        let opening = Opening::from_parts(alloc, name, author, date)?;
         let log = copied_slices(alloc, log)?;
-        Ok(Info::of_parts(name, author, date, log))
+        Ok(Info::of_parts(opening, log))
     }
 }
 
 impl<A: Allocator> Info<A> {
     /// The patch info of these parts.
-    pub(crate) fn of_parts(
-        name: Vec<u8, A>,
-        author: Vec<u8, A>,
-        date: Vec<u8, A>,
-        log: Vec<Vec<u8, A>, A>,
-    ) -> Self
-        requires { IsInfo (info_from name.items author.items date.items (map (λ line. line.items) log.items)) }
-        ensures { result ≡ info_from name.items author.items date.items (map (λ line. line.items) log.items) }
+    pub(crate) fn of_parts(opening: Opening<A>, log: Vec<Vec<u8, A>, A>) -> Self
+        requires { IsInfo (info_with opening (map (λ line. line.items) log.items)) }
+        ensures { result ≡ info_with opening (map (λ line. line.items) log.items) }
     {
-        Info {
-            name,
-            author,
-            date,
-            log,
-        }
+        Info { opening, log }
     }
 
     /// What the patch is called: one line.
     pub fn name(&self) -> &[u8]
         ensures { result.now ≡ self.now.name }
     {
-        self.name.as_slice()
+        self.opening.name()
     }
 
     /// Who recorded the patch.
     pub fn author(&self) -> &[u8]
         ensures { result.now ≡ self.now.author }
     {
-        self.author.as_slice()
+        self.opening.author()
     }
 
     /// When the patch was recorded: mostly fourteen digits in UTC, which nothing here checks.
     pub fn date(&self) -> &[u8]
         ensures { result.now ≡ self.now.date }
     {
-        self.date.as_slice()
+        self.opening.date()
     }
 
     /// How many lines the log has.
@@ -126,11 +113,9 @@ impl<A: Allocator> Info<A> {
     pub fn copy_into<B: Allocator + Copy>(&self, alloc: B) -> Result<Info<B>, AllocError>
         ensures { IfOk result (λ copy. copy ≡ self.now) }
     {
-        let name = Vec::from_slice(alloc, &self.name)?;
-        let author = Vec::from_slice(alloc, &self.author)?;
-        let date = Vec::from_slice(alloc, &self.date)?;
+        let opening = self.opening.copy_into(alloc)?;
         let log = copied_lines(alloc, &self.log)?;
-        Ok(Info::of_parts(name, author, date, log))
+        Ok(Info::of_parts(opening, log))
     }
 
     /// Whether two patch infos have the same four parts, wherever they lie.
@@ -190,10 +175,10 @@ impl<A: Allocator> Ord for Info<A> {
     ghost matches_eq = { info_ties };
 
     fn cmp(&self, other: &Self) -> Ordering {
-        self.name
-            .cmp(&other.name)
-            .then(self.author.cmp(&other.author))
-            .then(self.date.cmp(&other.date))
+        self.name()
+            .cmp(other.name())
+            .then(self.author().cmp(other.author()))
+            .then(self.date().cmp(other.date()))
             .then(self.log.cmp(&other.log))
     }
 }
@@ -214,9 +199,9 @@ impl<A: Allocator> Hash for Info<A> {
     ghost respects_eq = { info_alike };
 
     fn hash<H: Hasher>(&self, state: &mut H) {
-        self.name.hash(state);
-        self.author.hash(state);
-        self.date.hash(state);
+        self.name().hash(state);
+        self.author().hash(state);
+        self.date().hash(state);
         self.log.hash(state);
     }
 }

@@ -10,6 +10,7 @@
 mod fault;
 mod info;
 pub mod laws;
+mod opening;
 mod reading;
 #[cfg(test)]
 mod tests;
@@ -19,4 +20,4 @@ mod writing;
 pub use fault::{InfoFault, InfoReadFault};
 pub use info::Info;
 pub use reading::read_info;
-pub use writing::write_info;
+pub use writing::{push_info, write_info};

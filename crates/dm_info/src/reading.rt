@@ -9,6 +9,7 @@ ghost use Rattle.dm_info.specs.Reading.{Gives, Lacks, Cut, cut, after, star_afte
 
 use crate::fault::InfoReadFault;
 use crate::info::Info;
+use crate::opening::Opening;
 use memchr::{memchr, memchr2};
 use std::alloc::Allocator;
 
@@ -123,10 +124,8 @@ fn info_of<A: Allocator + Copy>(alloc: A, text: &[u8]) -> Result<(Info<A>, &[u8]
     let (author, rest) = author_of(rest)?;
     let (date, mark, rest) = cut_of(b']', b'\n', rest)?;
     let (log, rest) = end_of(alloc, mark, rest)?;
-    let name = Vec::from_slice(alloc, name)?;
-    let author = Vec::from_slice(alloc, author)?;
-    let date = Vec::from_slice(alloc, date)?;
-    Ok((Info::of_parts(name, author, date, log), rest))
+    let opening = Opening::from_parts(alloc, name, author, date)?;
+    Ok((Info::of_parts(opening, log), rest))
 }
 
 /// The text from a place on: nothing past the end.

@@ -42,16 +42,20 @@ fn push_end<A: Allocator, B: Allocator>(
     Ok(())
 }
 
-/// The canonical text, on its own.
-fn text_of<A: Allocator, B: Allocator>(alloc: B, info: &Info<A>) -> Result<Vec<u8, B>, AllocError>
-    ensures text { IfOk result (λ text. text.items ≡ canonical info.now) }
+/// Appends the canonical text straight away: where a growth is refused a part of it may stand there.
+/// For a writer that gives up its whole text then; [`write_info`] changes nothing.
+pub fn push_info<A: Allocator, B: Allocator>(
+    info: &Info<A>,
+    out: &mut Vec<u8, B>,
+) -> Result<(), AllocError>
+    ensures ok { OnOk result (out.new.items ≡ out.old.items ++ canonical info.now) }
+    // What was written is a good patch info, so its text is read again as it.
     ensures good { OnOk result (IsInfo info.now) }
 {
-    let mut text = Vec::new(alloc);
-    push_opening(info, &mut text)?;
-    push_end(info, &mut text)?;
-    text.push(b' ')?;
-    Ok(text)
+    push_opening(info, out)?;
+    push_end(info, out)?;
+    out.push(b' ')?;
+    Ok(())
 }
 
 /// Appends the canonical text. A refused growth changes nothing.
@@ -64,7 +68,8 @@ pub fn write_info<A: Allocator, B: Allocator + Copy>(
     ensures good { OnOk result (IsInfo info.now) }
     ensures err { OnErr result (out.new.items ≡ out.old.items) }
 {
-    let text = text_of(*out.allocator(), info)?;
+    let mut text = Vec::new(*out.allocator());
+    push_info(info, &mut text)?;
     out.extend_from_slice(&text)?;
     Ok(())
 }
