@@ -76,6 +76,16 @@ stuck_here mid (b ∷ more) some stuck r = stuck b r.0 r.1
 pub no_name : (text name mid : List ℕ) → Many NameByte text name mid → (length mid ≡ 0 → ⊥) → ((b : ℕ) (rest : List ℕ) → NameByte mid b rest → ⊥) → (other : List ℕ) → IsNameText text other → ⊥
 no_name text name mid r some stuck other s = let m = follows text name other mid r s in stuck_here mid m.0 some stuck m.2
 
+some_byte : (mid more : List ℕ) → (length mid ≡ 0 → ⊥) → IsNameText mid more → 0 < length more
+some_byte mid [] some r = absurd (some (ap length r))
+some_byte mid (b ∷ more) some r = omega arith
+
+-- where something is left after some bytes of a name, it has more of them
+pub more_bytes : (text name mid : List ℕ) → Many NameByte text name mid → (length mid ≡ 0 → ⊥) → (other : List ℕ) → IsNameText text other → length name < length other
+more_bytes text name mid r some other s =
+    let m = follows text name other mid r s in
+    omega (arith, some_byte mid m.0 some m.2, ap length m.1, length-append name m.0)
+
 -- ---- where no byte stands
 
 plain_not : (text inside : List ℕ) (b : ℕ) (rest : List ℕ) → text ≡ 92 ∷ inside → text ≡ b ∷ rest → b ≢ 92 → ⊥

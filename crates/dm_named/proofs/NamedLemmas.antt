@@ -1,11 +1,14 @@
 -- Lists of which elements are compared or copied one after the other.
-use Rattle.std.proofs.Common.{◌≡◌, ◌<◌, ◌+◌, ℕ, List, [], ◌∷◌, ◌++◌, length, get_or, take, map, refl, sym, ap, ◌∙◌}
+use Rattle.std.proofs.Common.{Option, Some, None, ◌≡◌, ◌<◌, ◌+◌, ℕ, List, [], ◌∷◌, ◌++◌, length, get_or, take, map, refl, sym, ap, ◌∙◌}
 use Rattle.std.proofs.lemmas.List.{take_more, map_push}
 use Rattle.std.specs.List.{AllByRecursion}
+use Rattle.dm_prim.specs.Primitives.{Prim, inv_all}
+use Rattle.dm_prim.specs.Touch.{TouchedPaths}
+use Rattle.dm_prim.proofs.TouchLemmas.{inverses_touch_the_same}
 use Rattle.dm_prim.specs.Laws.{ListLaws}
 use Rattle.dm_prim.proofs.LawProofs.{lists_back, list_laws}
 use Rattle.dm_named.specs.Patches.{Patch}
-use Rattle.dm_named.specs.Commuting.{NamedCommutes}
+use Rattle.dm_named.specs.Commuting.{NamedCommutes, IsTouchKnown}
 
 -- one more element is copied
 pub copied_more : {X Y V : Type 0} (f : X → V) (g : Y → V) (xs : List X) (ys ys' : List Y) (i : ℕ) (x : X) (y : Y) → i < length xs → x ≡ get_or xs i x → g y ≡ f x → ys' ≡ ys ++ y ∷ [] → map g ys ≡ map f (take i xs) → map g ys' ≡ map f (take (i + 1) xs)
@@ -43,3 +46,8 @@ pub all_more_of : {X V : Type 0} (P : V → Type 0) (f : X → V) (xs : List X) 
 all_more_of P f xs i x lt is here all =
     let next : take (i + 1) xs ≡ take i xs ++ x ∷ [] = take_more xs i x lt ∙ ap (λ z. take i xs ++ z ∷ []) (sym is) in
     rw (next, map_push f (take i xs) x) (all_push P (map f (take i xs)) (f x) all here)
+
+-- what a patch touches its inverse touches
+pub known_undone : (ps qs : List Prim) (t : Option TouchedPaths) → qs ≡ inv_all ps → IsTouchKnown ps t → IsTouchKnown qs t
+known_undone ps qs None e h = tt
+known_undone ps qs (Some t) e h = rw e (inverses_touch_the_same ps t h)

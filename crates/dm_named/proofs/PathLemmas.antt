@@ -1,10 +1,15 @@
 -- A path's text is cut in one way.
-use Rattle.std.proofs.Common.{◌≡◌, ◌<◌, ◌+◌, ℕ, suc, true, false, List, [], ◌∷◌, ◌++◌, length, get_or, take, drop, refl, sym, ap, subst, ◌∙◌, arith, length-append, inl, inr, Some, None, ◌==◌}
+use Rattle.std.proofs.Common.{◌≡◌, ◌<◌, ◌+◌, ℕ, suc, true, false, List, [], ◌∷◌, ◌++◌, length, get_or, take, drop, refl, sym, ap, subst, ◌∙◌, arith, length-append, inl, inr, Option, Some, None, Bool, cond, nat_lt, ◌≤◌, ◌==◌}
 use Rattle.std.proofs.lemmas.Bool.{false≢true}
+use Rattle.std.proofs.lemmas.Bool.Decides.{nat_tests}
 use Rattle.std.proofs.lemmas.List.{take-append-drop, drop_more}
 use Rattle.memchr.specs.Find.{IsFirstByte, is_byte}
 use Rattle.dm_info.proofs.Cuts.{cut_found, cut_takes, byte_is, false_is}
 use Rattle.dm_tree.specs.Paths.{Path}
+use Rattle.dm_tree.specs.Validity.{IsGoodPath, is_bad_name, names_fault}
+use Rattle.dm_tree.specs.declared.fault.PathFault.{PathFault}
+use Rattle.dm_tree.specs.declared.fault.PathFault.TheVariants.{BadName, TooLong}
+use Rattle.dm_tree.proofs.ValidityLemmas.{good_parts, names_right}
 use Rattle.dm_named.specs.Words.{skipped, Word}
 use Rattle.dm_named.specs.Many.{Many}
 use Rattle.dm_named.specs.Paths.{NoSlash, EndsPiece, Piece, SlashName, IsNameText, IsPathText, PathWord}
@@ -58,11 +63,11 @@ one_piece text w v r s a b = one_front w v r s a.free b.free a.ends b.ends (sym 
 inside_same : (text x y : List ℕ) → text ≡ 47 ∷ x → text ≡ 47 ∷ y → x ≡ y
 inside_same text x y e f = let both : 47 ∷ x ≡ 47 ∷ y = sym e ∙ f in cc
 
-pub no_name_at : (text inside piece rest : List ℕ) → text ≡ 47 ∷ inside → Piece inside piece rest → ((name : List ℕ) → IsNameText piece name → ⊥) → (name r : List ℕ) → SlashName text name r → ⊥
-no_name_at text inside piece rest e p none name r n =
+pub long_name_at : (text inside piece rest : List ℕ) → text ≡ 47 ∷ inside → Piece inside piece rest → ((name : List ℕ) → IsNameText piece name → 255 < length name) → (name r : List ℕ) → SlashName text name r → 255 < length name
+long_name_at text inside piece rest e p long name r n =
     let same = inside_same text n.inside inside n.slash e in
     let one = one_piece inside n.piece piece r rest (subst (λ (t : List ℕ). Piece t n.piece r) same n.cut) p in
-    none name (subst (λ (t : List ℕ). IsNameText t name) one.0 n.spelled)
+    long name (subst (λ (t : List ℕ). IsNameText t name) one.0 n.spelled)
 
 pub one_name_at : (text n m r s : List ℕ) → SlashName text n r → SlashName text m s → (n ≡ m) × (r ≡ s)
 one_name_at text n m r s a b =
@@ -76,14 +81,28 @@ closed_end v after a = let e : [] ≡ 47 ∷ a.inside = a.slash in cc
 pub one_names : (text : List ℕ) (ns ms : Path) → Many SlashName text ns [] → Many SlashName text ms [] → ns ≡ ms
 one_names text ns ms a b = (one_many SlashName one_name_at text ns ms [] [] a b closed_end closed_end).0
 
-stuck : (mid : List ℕ) (more : Path) → (length mid ≡ 0 → ⊥) → ((name rest : List ℕ) → SlashName mid name rest → ⊥) → Many SlashName mid more [] → ⊥
-stuck mid [] some none r = some (ap length r)
-stuck mid (n ∷ ns) some none r = none n r.0 r.1
+not_long : (s t : Bool) (f : Option PathFault) → cond s (Some BadName) (cond t (Some TooLong) f) ≡ None → t ≡ false
+not_long true t f h = cc
+not_long false true f h = cc
+not_long false false f h = refl
 
-pub no_names : (text : List ℕ) (ns : Path) (mid : List ℕ) → Many SlashName text ns mid → (length mid ≡ 0 → ⊥) → ((name rest : List ℕ) → SlashName mid name rest → ⊥) → (ms : Path) → Many SlashName text ms [] → ⊥
-no_names text ns mid r some none ms s =
+-- a path with a name of more than 255 bytes is none
+long_none : (front : Path) (n : List ℕ) (more : Path) → 255 < length n → IsGoodPath (front ++ n ∷ more) → ⊥
+long_none front n more long good =
+    let named = names_right front (n ∷ more) (good_parts (front ++ n ∷ more) good).named in
+    let short : nat_lt 255 (length n) ≡ false = not_long (is_bad_name n) (nat_lt 255 (length n)) (names_fault more) named in
+    let le : length n ≤ 255 = grind (arith, nat_tests, short) in
+    omega (arith, le, long)
+
+stuck : (front : Path) (mid : List ℕ) (more : Path) → (length mid ≡ 0 → ⊥) → ((name rest : List ℕ) → SlashName mid name rest → 255 < length name) → Many SlashName mid more [] → IsGoodPath (front ++ more) → ⊥
+stuck front mid [] some long r good = some (ap length r)
+stuck front mid (n ∷ more) some long r good = long_none front n more (long n r.0 r.1) good
+
+-- where a name that is too long, or none, stands after some names, they go on to no path
+pub no_names : (text : List ℕ) (ns : Path) (mid : List ℕ) → Many SlashName text ns mid → (length mid ≡ 0 → ⊥) → ((name rest : List ℕ) → SlashName mid name rest → 255 < length name) → (ms : Path) → Many SlashName text ms [] → IsGoodPath ms → ⊥
+no_names text ns mid r some long ms s good =
     let m = many_follows SlashName one_name_at text ns ms mid [] r s closed_end in
-    stuck mid m.0 some none m.2
+    stuck ns mid m.0 some long m.2 (subst IsGoodPath m.1 good)
 
 some_more : (mid : List ℕ) (more : Path) → (length mid ≡ 0 → ⊥) → Many SlashName mid more [] → 0 < length more
 some_more mid [] some r = absurd (some (ap length r))

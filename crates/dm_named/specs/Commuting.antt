@@ -1,5 +1,7 @@
 -- When named patches commute (Darcs.Patch.Named).
-use Rattle.std.specs.Prelude.{◌≡◌, Option, Some, None, Contains}
+use Rattle.std.specs.Prelude.{◌≡◌, List, Option, Some, None, Contains}
+use Rattle.dm_prim.specs.Primitives.{Prim}
+use Rattle.dm_prim.specs.Touch.{TouchedPaths, Touches}
 use Rattle.dm_prim.specs.Commuting.{ListsCommute}
 use Rattle.dm_prim.specs.Laws.{ListLaws}
 use Rattle.dm_named.specs.Patches.{Patch}
@@ -31,3 +33,8 @@ NamedLawsHold x y (Some r) = ListLaws x.prims y.prims r.0.prims r.1.prims
 abbrev pub NamedCommutesBack : Patch → Patch → Option (Patch × Patch) → Type 0
 NamedCommutesBack x y None = Unit {0}
 NamedCommutesBack x y (Some r) = NamedCommutes r.0 r.1 x y
+
+-- what these primitives touch, if it is known
+abbrev pub IsTouchKnown : List Prim → Option TouchedPaths → Type 0
+IsTouchKnown ps None = Unit {0}
+IsTouchKnown ps (Some t) = Touches ps t

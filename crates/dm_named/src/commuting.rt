@@ -3,17 +3,17 @@
 ghost use Rattle.std.specs.Prelude.{IfOk, List, MatchBool};
 ghost use Rattle.dm_prim.specs.Primitives.{Prim};
 ghost use Rattle.dm_prim.specs.Commuting.{ListsCommute};
-ghost use Rattle.dm_named.specs.Patches.{Patch};
-ghost use Rattle.dm_named.specs.Commuting.{NamedCommutes, NamedCommutesTo, NamedLawsHold, NamedCommutesBack, Stays};
+ghost use Rattle.dm_named.specs.Commuting.{NamedCommutesTo, NamedLawsHold, NamedCommutesBack, Stays};
 
 use crate::named::Named;
+use crate::passing::{Passing, commute_named_in_place};
 use dm_prim::commute_lists_owned;
 use std::alloc::{AllocError, Allocator};
 
 /// The primitives of `x` then those of `y` become those of `y` then those of `x`, in place, and the answer says whether they
 /// commute; names and dependencies aren't asked. What doesn't change is moved. Where they don't commute, or memory runs out,
 /// both are left without primitives.
-pub fn commute_prims_in_place<A: Allocator + Copy>(
+pub(crate) fn commute_prims<A: Allocator + Copy>(
     alloc: A,
     x: &mut Named<A>,
     y: &mut Named<A>,
@@ -36,30 +36,6 @@ pub fn commute_prims_in_place<A: Allocator + Copy>(
     }
 }
 
-/// `x` then `y` become, in place, the patches that do the same in the other order, and the answer says whether they commute.
-/// Where one names the other among its dependencies nothing has changed; where their primitives don't commute, or memory runs
-/// out, both are left without primitives.
-pub fn commute_named_in_place<A: Allocator + Copy>(
-    alloc: A,
-    x: &mut Named<A>,
-    y: &mut Named<A>,
-) -> Result<bool, AllocError>
-    ensures x_stays { Stays x.old x.new }
-    ensures y_stays { Stays y.old y.new }
-    ensures commutes { IfOk result (λ commutes. MatchBool commutes
-        (NamedCommutes x.old y.old y.new x.new)
-        ((y' x' : Patch) → NamedCommutes x.old y.old y' x' → ⊥)) }
-{
-    if y.depends_on(x.info()) {
-        return Ok(false);
-    }
-    if x.depends_on(y.info()) {
-        return Ok(false);
-    }
-    let commutes = commute_prims_in_place(alloc, x, y)?;
-    Ok(commutes)
-}
-
 /// For `x` then `y` the pair `y'` and `x'` that does the same in that order, or none. The answer is a copy: both patches keep
 /// their patch infos and their dependencies, and their primitives are commuted.
 pub fn commute_named<A: Allocator, B: Allocator, C: Allocator + Copy>(
@@ -71,10 +47,12 @@ pub fn commute_named<A: Allocator, B: Allocator, C: Allocator + Copy>(
     ensures laws { IfOk result (NamedLawsHold x.now y.now) }
     ensures back { IfOk result (NamedCommutesBack x.now y.now) }
 {
-    let mut first = x.copy_into(alloc)?;
-    let mut second = y.copy_into(alloc)?;
+    let first = x.copy_into(alloc)?;
+    let second = y.copy_into(alloc)?;
+    let mut first = Passing::new(first);
+    let mut second = Passing::new(second);
     if commute_named_in_place(alloc, &mut first, &mut second)? {
-        return Ok(Some((second, first)));
+        return Ok(Some((second.into_named(), first.into_named())));
     }
     Ok(None)
 }

@@ -13,14 +13,16 @@ mod fault;
 pub mod goodness;
 pub mod laws;
 mod named;
+mod passing;
 mod reading;
 #[cfg(test)]
 mod tests;
 pub mod text;
 mod writing;
 
-pub use commuting::{commute_named, commute_named_in_place, commute_prims_in_place};
+pub use commuting::commute_named;
 pub use fault::{FaultKind, ReadFault};
 pub use named::Named;
+pub use passing::{Passing, commute_named_in_place, commute_prims_in_place};
 pub use reading::read_named;
-pub use writing::{write_named, write_path};
+pub use writing::{push_named, write_named, write_path};

@@ -13,16 +13,17 @@ ghost use Rattle.dm_named.specs.Patches.{IsGoodPatch};
 
 use crate::named::Named;
 use crate::text::is_white;
-use dm_info::{Info, write_info};
+use dm_info::{Info, push_info};
 use dm_prim::{Hunk, Prim};
 use dm_tree::{Lines, Path};
+use itoa::Buffer;
 use std::alloc::{AllocError, Allocator};
 
 fn push_number<B: Allocator + Copy>(number: u32, out: &mut Vec<u8, B>) -> Result<(), AllocError>
     ensures { OnOk result (out.new.items ≡ out.old.items ++ decimal number) }
 {
-    let text = format!(in *out.allocator(); "{number}")?;
-    out.extend_from_slice(text.as_bytes())?;
+    let mut buffer = Buffer::new();
+    out.extend_from_slice(buffer.format(number).as_bytes())?;
     Ok(())
 }
 
@@ -154,7 +155,7 @@ fn push_deps<A: Allocator, B: Allocator + Copy>(
     }
     out.extend_from_slice(b"<\n")?;
     for dep in deps {
-        write_info(dep, out)?;
+        push_info(dep, out)?;
         out.push(b'\n')?;
     }
     out.extend_from_slice(b"> ")?;
@@ -190,21 +191,6 @@ fn push_body<A: Allocator, B: Allocator + Copy>(
     Ok(())
 }
 
-/// The canonical text, on its own.
-fn text_of<A: Allocator, B: Allocator + Copy>(
-    alloc: B,
-    patch: &Named<A>,
-) -> Result<Vec<u8, B>, AllocError>
-    ensures text { IfOk result (λ text. text.items ≡ patch_text patch.now) }
-    ensures good { OnOk result (IsGoodPatch patch.now) }
-{
-    let mut text = Vec::new(alloc);
-    write_info(patch.info(), &mut text)?;
-    push_deps(patch.deps(), &mut text)?;
-    push_body(patch.prims(), &mut text)?;
-    Ok(text)
-}
-
 /// Appends the canonical text of a path. A refused growth changes nothing.
 pub fn write_path<A: Allocator, B: Allocator + Copy>(
     path: &Path<A>,
@@ -221,6 +207,22 @@ pub fn write_path<A: Allocator, B: Allocator + Copy>(
     Ok(())
 }
 
+/// Appends the canonical text of a named patch straight away: where a growth is refused a part of it may stand there. For a
+/// writer that gives up its whole text then; [`write_named`] changes nothing.
+pub fn push_named<A: Allocator, B: Allocator + Copy>(
+    patch: &Named<A>,
+    out: &mut Vec<u8, B>,
+) -> Result<(), AllocError>
+    ensures ok { OnOk result (out.new.items ≡ out.old.items ++ patch_text patch.now) }
+    // What was written is a good named patch, so its text is read again as it.
+    ensures good { OnOk result (IsGoodPatch patch.now) }
+{
+    push_info(patch.info(), out)?;
+    push_deps(patch.deps(), out)?;
+    push_body(patch.prims(), out)?;
+    Ok(())
+}
+
 /// Appends the canonical text of a named patch. A refused growth changes nothing.
 pub fn write_named<A: Allocator, B: Allocator + Copy>(
     patch: &Named<A>,
@@ -231,7 +233,8 @@ pub fn write_named<A: Allocator, B: Allocator + Copy>(
     ensures good { OnOk result (IsGoodPatch patch.now) }
     ensures err { OnErr result (out.new.items ≡ out.old.items) }
 {
-    let text = text_of(*out.allocator(), patch)?;
+    let mut text = Vec::new(*out.allocator());
+    push_named(patch, &mut text)?;
     out.extend_from_slice(&text)?;
     Ok(())
 }

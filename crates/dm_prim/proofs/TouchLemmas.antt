@@ -1,16 +1,21 @@
 -- Lists that touch nothing in common commute, and stay as they are.
-use Rattle.std.proofs.Common.{◌≡◌, ◌++◌, ◌↔◌, Bool, IsTrue, List, [], ◌∷◌, flat_map, get_or, sym, ap, subst, inl, inr, append_assoc, append-nil, arith, ◌∙◌, true, refl}
+use Rattle.std.proofs.Common.{drop, ◌≡◌, ◌≢◌, ◌<◌, ◌≤◌, ◌+◌, ℕ, length, take, false, ◌++◌, ◌↔◌, Bool, IsTrue, List, [], ◌∷◌, flat_map, get_or, sym, ap, subst, inl, inr, append_assoc, append-nil, arith, ◌∙◌, true, refl}
 use Rattle.std.specs.List.{All, Contains}
-use Rattle.std.proofs.lemmas.List.Elements.{Contains-get_or, Contains-append_left, Contains-append_right, Contains-append_cases, Contains-push, Contains-push_cases}
+use Rattle.std.proofs.Math.Bool.{beq}
+use Rattle.std.proofs.lemmas.List.Elements.{Contains-get_or, Contains-append_left, Contains-append_right, Contains-append_cases, Contains-push, Contains-push_cases, All-head, All-tail, All-cons, All-nil, All-take}
 use Rattle.std.proofs.lemmas.Grind.{flat_map-append}
 use Rattle.dm_tree.specs.Paths.{Path, Apart}
 use Rattle.dm_tree.proofs.Paths.{forward-other, apart_sym}
-use Rattle.dm_prim.specs.Primitives.{Work, Prim, At, Move}
+use Rattle.dm_prim.specs.Primitives.{Work, Prim, At, Move, inv, inv_all}
 use Rattle.dm_prim.specs.Rectangles.{CellRow, none, next, empty, row}
 use Rattle.dm_prim.specs.Table.{TableRow, two_works, work_move, move_work, two_moves, WorkThenMove, MoveThenMove}
 use Rattle.dm_prim.specs.Commuting.{IsGoodPrim, Commutes, ListsCommute}
-use Rattle.dm_prim.specs.Prims.{path_of, IsWork}
-use Rattle.dm_prim.specs.Touch.{paths_of, IsTouched, MovesOutside, TouchedPaths, Touches, IsApartFrom, AreApart, PassUnchanged}
+use Rattle.std.proofs.lemmas.List.{take_all}
+use Rattle.dm_prim.specs.Prims.{prim_of, prims_of, path_of, IsWork}
+use Rattle.dm_prim.specs.declared.primitive.Primitive as code
+use Rattle.dm_prim.proofs.ListLemmas.{count_of, prims_more, parted}
+use Rattle.dm_prim.proofs.LawProofs.{good_inv}
+use Rattle.dm_prim.specs.Touch.{paths_of, IsTouched, MovesOutside, TouchedPaths, Touches, IsApartFrom, AreApart, PassUnchanged, NamesAmong, IsNamedAmong, InversesTouchTheSame}
 use Rattle.dm_prim.proofs.Squares.{not_inside, same_under}
 
 module _ {X : Type 0} (P : X → Type 0) where
@@ -157,3 +162,147 @@ touches_none e m = record {
   paths = λ f. rw e (λ c. c, λ c. c);
   moves = rw m (λ t. λ k d l. absurd (omega (arith, l)), λ h. refl);
 }
+
+-- the inverse of a list
+touched_by_last : (qs : List Prim) (p : Prim) → flat_map paths_of (qs ++ p ∷ []) ≡ flat_map paths_of qs ++ paths_of p
+touched_by_last qs p = flat_map-append paths_of qs (p ∷ []) ∙ ap (λ z. flat_map paths_of qs ++ z) (append-nil (paths_of p))
+
+inverse_names : (p : Prim) (f : Path) → Contains (paths_of (inv p)) f ↔ Contains (paths_of p) f
+inverse_names (At g w) f = (λ c. c, λ c. c)
+inverse_names (Move a b) f = (turned b a f, turned a b f)
+  where
+    turned : (a b f : Path) → Contains (a ∷ b ∷ []) f → Contains (b ∷ a ∷ []) f
+    turned a b f c = elim (Contains-append_cases (a ∷ []) (b ∷ []) f c) [ inl d ↦ Contains-append_right (b ∷ []) (a ∷ []) f d | inr d ↦ Contains-append_left (b ∷ []) (a ∷ []) f d ]
+
+inverse_outside : (p : Prim) → MovesOutside (inv p) ↔ MovesOutside p
+inverse_outside (At f w) = (λ h. h, λ h. h)
+inverse_outside (Move a b) = (λ h. apart_sym h, λ h. apart_sym h)
+
+inverse_touched : (ps : List Prim) (f : Path) → IsTouched (inv_all ps) f ↔ IsTouched ps f
+inverse_touched [] f = (λ c. c, λ c. c)
+inverse_touched (p ∷ ps) f = rw (touched_by_last (inv_all ps) (inv p)) (
+  λ c. elim (Contains-append_cases (flat_map paths_of (inv_all ps)) (paths_of (inv p)) f c)
+      [ inl d ↦ Contains-append_right (paths_of p) (flat_map paths_of ps) f ((inverse_touched ps f).0 d) | inr d ↦ Contains-append_left (paths_of p) (flat_map paths_of ps) f ((inverse_names p f).0 d) ],
+  λ c. elim (Contains-append_cases (paths_of p) (flat_map paths_of ps) f c)
+      [ inl d ↦ Contains-append_right (flat_map paths_of (inv_all ps)) (paths_of (inv p)) f ((inverse_names p f).1 d) | inr d ↦ Contains-append_left (flat_map paths_of (inv_all ps)) (paths_of (inv p)) f ((inverse_touched ps f).1 d) ],
+)
+
+all_of_inverse : (P Q : Prim → Type 0) → ((p : Prim) → P p → Q (inv p)) → (ps : List Prim) → All P ps → All Q (inv_all ps)
+all_of_inverse P Q f [] h = λ k d l. absurd (omega (arith, l))
+all_of_inverse P Q f (p ∷ ps) h = (all_with Q (inv_all ps) (inv p)).1 (all_of_inverse P Q f ps (All-tail P p ps h), f p (All-head P p ps h))
+
+all_from_inverse : (P Q : Prim → Type 0) → ((p : Prim) → Q (inv p) → P p) → (ps : List Prim) → All Q (inv_all ps) → All P ps
+all_from_inverse P Q f [] h = λ k d l. absurd (omega (arith, l))
+all_from_inverse P Q f (p ∷ ps) h = let b = (all_with Q (inv_all ps) (inv p)).0 h in All-cons P p ps (f p b.1) (all_from_inverse P Q f ps b.0)
+
+pub inverses_touch_the_same : InversesTouchTheSame
+inverses_touch_the_same ps t h = record {
+  good = all_of_inverse IsGoodPrim IsGoodPrim good_inv ps h.good;
+  paths = λ f. (λ c. (inverse_touched ps f).1 ((h.paths f).0 c), λ c. (h.paths f).1 ((inverse_touched ps f).0 c));
+  moves = (
+    λ m. all_of_inverse MovesOutside MovesOutside (λ p. (inverse_outside p).1) ps (h.moves.0 m),
+    λ m. h.moves.1 (all_from_inverse MovesOutside MovesOutside (λ p. (inverse_outside p).0) ps m),
+  );
+}
+
+-- whether a list touches this, asked of each of its primitives and of each path
+contains_one : (g f : Path) → Contains (g ∷ []) f → g ≡ f
+contains_one g f c = elim (Contains-push_cases [] g f c) [ inl (k, l, e) ↦ absurd (omega (arith, l)) | inr e ↦ e ]
+
+pub names_work : (p : Prim) → IsWork p → (f : Path) → (path_of p ≡ f) ↔ IsTouched (p ∷ []) f
+names_work (At g w) h f = (λ e. (0, omega arith, e), contains_one g f)
+names_work (Move a b) h f = elim h [ ]
+
+pub names_first : (p : Prim) → IsTouched (p ∷ []) (path_of p)
+names_first (At g w) = (0, omega arith, refl)
+names_first (Move a b) = (0, omega arith, refl)
+
+pub names_move : (p : Prim) (a b : Path) → p ≡ Move a b → (f : Path) → (a ≢ f) → (b ≡ f) ↔ IsTouched (p ∷ []) f
+names_move p a b e f n = rw e (
+  λ i. (1, omega arith, i),
+  λ c. elim (Contains-append_cases (a ∷ []) (b ∷ []) f c) [ inl d ↦ absurd (n (contains_one a f d)) | inr d ↦ contains_one b f d ],
+)
+
+pub among_work : (paths : List Path) (p : Prim) → IsWork p → Contains paths (path_of p) → NamesAmong paths p
+among_work paths (At g w) h c = record { each = All-cons (Contains paths) g [] c (All-nil (Contains paths)) }
+among_work paths (Move a b) h c = elim h [ ]
+
+pub among_first : (paths : List Path) (p : Prim) → NamesAmong paths p → Contains paths (path_of p)
+among_first paths (At g w) h = All-head (Contains paths) g [] h.each
+among_first paths (Move a b) h = All-head (Contains paths) a (b ∷ []) h.each
+
+pub among_move : (paths : List Path) (p : Prim) (a b : Path) → p ≡ Move a b → Contains paths a → Contains paths b ↔ NamesAmong paths p
+among_move paths p a b e c = rw e (
+  λ d. record { each = All-cons (Contains paths) a (b ∷ []) c (All-cons (Contains paths) b [] d (All-nil (Contains paths))) },
+  λ h. All-head (Contains paths) b [] (All-tail (Contains paths) a (b ∷ []) h.each),
+)
+
+among_all : (paths : List Path) (ps : List Prim) → All (NamesAmong paths) ps → (f : Path) → IsTouched ps f → Contains paths f
+among_all paths [] h f (k, l, e) = absurd (omega (arith, l))
+among_all paths (p ∷ ps) h f c = elim (Contains-append_cases (paths_of p) (flat_map paths_of ps) f c)
+    [ inl d ↦ holds_of (Contains paths) (paths_of p) (All-head (NamesAmong paths) p ps h).each d | inr d ↦ among_all paths ps (All-tail (NamesAmong paths) p ps h) f d ]
+
+all_among : (paths : List Path) (ps : List Prim) → ((f : Path) → IsTouched ps f → Contains paths f) → All (NamesAmong paths) ps
+all_among paths ps h = holds_of_all (NamesAmong paths) ps (λ p c. record { each = holds_of_all (Contains paths) (paths_of p) (λ f d. h f (touched_in ps p f c d)) })
+
+-- a list that is gone through, of which each is in question
+module _ {Z : Type 0} (P : Prim → Type 0) (ps : List (code.Primitive Z)) (i : ℕ) where
+  pub all_prims_more : (p : code.Primitive Z) → i < length ps → p ≡ get_or ps i p → All P (take i (prims_of ps)) → P (prim_of p) → All P (take (i + 1) (prims_of ps))
+  all_prims_more p l e h x = rw (prims_more ps i p l e) ((all_with P (take i (prims_of ps)) (prim_of p)).1 (h, x))
+
+  pub all_prims_at : (p : code.Primitive Z) → i < length ps → p ≡ get_or ps i p → All P (prims_of ps) → P (prim_of p)
+  all_prims_at p l e h = ((all_with P (take i (prims_of ps)) (prim_of p)).0 (rw (prims_more ps i p l e) at (All-take P (i + 1) (prims_of ps) h))).1
+
+  pub all_prims : length ps ≤ i → All P (take i (prims_of ps)) → All P (prims_of ps)
+  all_prims l h = rw (take_all i (prims_of ps) (rw (count_of ps) l)) at h
+
+pub touches_where : (ps : List Prim) (paths : List Path) (moves outside : Bool) → All IsGoodPrim ps → All (NamesAmong paths) ps → All (IsNamedAmong ps) paths → IsTrue outside ↔ All MovesOutside ps →
+    outside ≡ moves → Touches ps (record { paths = paths; moves_outside = moves })
+touches_where ps paths moves outside good among named out e = record {
+  good = good;
+  paths = λ f. (λ c. (holds_of (IsNamedAmong ps) paths named c).named, among_all paths ps among f);
+  moves = rw (← e) out;
+}
+
+pub touches_among : (ps : List Prim) (t : TouchedPaths) → Touches ps t → All (NamesAmong t.paths) ps
+touches_among ps t h = all_among t.paths ps (λ f. (h.paths f).1)
+
+pub touches_named : (ps : List Prim) (t : TouchedPaths) → Touches ps t → All (IsNamedAmong ps) t.paths
+touches_named ps t h = holds_of_all (IsNamedAmong ps) t.paths (λ f c. record { named = (h.paths f).0 c })
+
+pub same_truth : (a b : Bool) {P : Type 0} → IsTrue a ↔ P → IsTrue b ↔ P → a ≡ b
+same_truth true true h k = refl
+same_truth true false h k = sym (k.1 (h.0 refl))
+same_truth false true h k = h.1 (k.0 refl)
+same_truth false false h k = refl
+
+-- one more primitive that is asked for a path
+module _ {Z : Type 0} (ps : List (code.Primitive Z)) (i : ℕ) (p : code.Primitive Z) (l : i < length ps) (e : p ≡ get_or ps i p) (f : Path) where
+  touched_by_more : flat_map paths_of (take (i + 1) (prims_of ps)) ≡ flat_map paths_of (take i (prims_of ps)) ++ paths_of (prim_of p)
+  touched_by_more = ap (flat_map paths_of) (prims_more ps i p l e) ∙ touched_by_last (take i (prims_of ps)) (prim_of p)
+
+  one_touched : IsTouched (prim_of p ∷ []) f ↔ Contains (paths_of (prim_of p)) f
+  one_touched = rw (append-nil (paths_of (prim_of p))) (λ c. c, λ c. c)
+
+  pub not_named_more : (IsTouched (take i (prims_of ps)) f → ⊥) → (IsTouched (prim_of p ∷ []) f → ⊥) → IsTouched (take (i + 1) (prims_of ps)) f → ⊥
+  not_named_more h k c = elim (Contains-append_cases (flat_map paths_of (take i (prims_of ps))) (paths_of (prim_of p)) f (rw touched_by_more at c)) [ inl d ↦ h d | inr d ↦ k (one_touched.1 d) ]
+
+  pub named_at : IsTouched (prim_of p ∷ []) f → IsTouched (prims_of ps) f
+  named_at c = rw (parted ps i p l e, flat_map-append paths_of (take i (prims_of ps)) (prim_of p ∷ drop (i + 1) (prims_of ps)))
+      (Contains-append_right (flat_map paths_of (take i (prims_of ps))) (paths_of (prim_of p) ++ flat_map paths_of (drop (i + 1) (prims_of ps))) f
+      (Contains-append_left (paths_of (prim_of p)) (flat_map paths_of (drop (i + 1) (prims_of ps))) f (one_touched.0 c)))
+
+pub named_none : {Z : Type 0} (ps : List (code.Primitive Z)) (i : ℕ) (f : Path) → length ps ≤ i → (IsTouched (take i (prims_of ps)) f → ⊥) → IsTouched (prims_of ps) f → ⊥
+named_none ps i f l h = rw (take_all i (prims_of ps) (rw (count_of ps) l)) at h
+
+pub beq_same : (a b : Bool) → IsTrue (beq a b) → a ≡ b
+beq_same true true h = refl
+beq_same true false h = sym h
+beq_same false true h = h
+beq_same false false h = refl
+
+pub beq_true : (a b : Bool) → a ≡ b → IsTrue (beq a b)
+beq_true true true e = refl
+beq_true true false e = sym e
+beq_true false true e = e
+beq_true false false e = refl

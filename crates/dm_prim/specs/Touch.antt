@@ -2,7 +2,7 @@
 use Rattle.std.specs.Prelude.{◌↔◌, Bool, IsTrue, List, [], ◌∷◌, ◌++◌, flat_map}
 use Rattle.std.specs.List.{All, Contains}
 use Rattle.dm_tree.specs.Paths.{Path, Apart}
-use Rattle.dm_prim.specs.Primitives.{Prim, At, Move}
+use Rattle.dm_prim.specs.Primitives.{Prim, At, Move, inv_all}
 use Rattle.dm_prim.specs.Commuting.{IsGoodPrim, ListsCommute}
 
 -- the paths that a primitive names
@@ -47,3 +47,15 @@ PassUnchanged t u = (xs ys : List Prim) → Touches xs t → Touches ys u → Li
 -- the list that touched the one touches the other with this primitive more
 abbrev pub TouchesMore : Prim → TouchedPaths → TouchedPaths → Type 0
 TouchesMore p t u = (ps : List Prim) → Touches ps t → Touches (ps ++ p ∷ []) u
+
+-- all that the primitive names is among these paths
+pub record NamesAmong (paths : List Path) (p : Prim) : Type 0 where
+  pub each : All (Contains paths) (paths_of p)
+
+-- a primitive of the list names the path
+pub record IsNamedAmong (ps : List Prim) (f : Path) : Type 0 where
+  pub named : IsTouched ps f
+
+-- what a list touches its inverse touches
+abbrev pub InversesTouchTheSame : Type 0
+InversesTouchTheSame = (ps : List Prim) (t : TouchedPaths) → Touches ps t → Touches (inv_all ps) t

@@ -1,6 +1,7 @@
 //! The laws of the definitions alone, for all values, whether or not they ever apply to a tree.
 //! Each call does nothing; whoever calls it knows the law from there on.
 ghost use Rattle.dm_prim.specs.Laws.{CommutedPairsEndAlike, PairsCommuteBack, PairsCommutePastAnInverse, CommutedListsEndAlike, ListsCommuteBack, ListsCommutePastAnInverse, RectanglesTurn, InversesLeadBack, ListInversesLeadBack, OneWayToApply, OneWayToCommute, OneWayToCommuteLists, ApplyingHasOneAnswer, ApplyingAListHasOneAnswer, HunkHasOneAnswer};
+ghost use Rattle.dm_prim.specs.Touch.{InversesTouchTheSame};
 
 /// Every lawful map on which two primitives apply in turn has the same end by those that they
 /// commute to.
@@ -48,6 +49,11 @@ pub fn turning_a_rectangle()
 /// A list leads from one lawful map to another exactly where its inverse leads back.
 pub fn applying_a_list_is_undone_by_its_inverse()
     ensures { ListInversesLeadBack }
+{}
+
+/// The inverse of a list touches what the list touches.
+pub fn inverses_touch_the_same()
+    ensures { InversesTouchTheSame }
 {}
 
 /// A primitive makes at most one map of a lawful map.

@@ -1,8 +1,9 @@
 //! The paths that a list of primitives touches.
 ghost use Rattle.std.specs.Prelude.{◌≡◌, ◌↔◌, ◌++◌, ◌∷◌, [], All, Contains, IfOk, OnOk, IsTrue};
 ghost use Rattle.dm_tree.specs.Paths.{Path as TreePath};
+ghost use Rattle.dm_prim.specs.Commuting.{IsGoodPrim};
 ghost use Rattle.dm_prim.specs.Prims.{prim_of, prims_of};
-ghost use Rattle.dm_prim.specs.Touch.{AreApart, IsApartFrom, PassUnchanged, Touches, TouchesMore};
+ghost use Rattle.dm_prim.specs.Touch.{AreApart, IsApartFrom, IsNamedAmong, IsTouched, MovesOutside, NamesAmong, PassUnchanged, Touches, TouchesMore};
 
 use crate::pair::are_apart;
 use crate::primitive::Primitive;
@@ -42,6 +43,22 @@ impl<A: Allocator + Copy> Touched<A> {
     }
 }
 
+impl<A: Allocator> Touched<A> {
+    /// Whether this is what a list of primitives touches: so it is after a commute that changed no path. Takes no memory.
+    pub fn is_of<B: Allocator>(&self, prims: &[Primitive<B>]) -> bool
+        ensures { IsTrue result ↔ Touches (prims_of prims.now) self.now }
+    {
+        all_tell_good(prims);
+        if !all_name_among(prims, &self.paths) {
+            return false;
+        }
+        if !are_all_named(&self.paths, prims) {
+            return false;
+        }
+        all_move_outside(prims) == self.moves_outside
+    }
+}
+
 /// Adds a path, unless it is the last one there: the primitives of a patch often work at one path in turn.
 fn add_path<A: Allocator + Copy, B: Allocator>(
     paths: &mut Vec<Path<A>, A>,
@@ -75,6 +92,106 @@ pub fn touch<A: Allocator, B: Allocator + Copy>(
         touched.add(prim)?;
     }
     Ok(touched)
+}
+
+/// Reads the parts of each, and so tells that all are good.
+fn all_tell_good<A: Allocator>(prims: &[Primitive<A>])
+    ensures { All IsGoodPrim (prims_of prims.now) }
+{
+    for prim in prims {
+        prim.tells_good();
+    }
+}
+
+/// Whether a path is one of these.
+fn is_among<A: Allocator, B: Allocator>(path: &Path<A>, paths: &[Path<B>]) -> bool
+    ensures { IsTrue result ↔ Contains paths.now path.now }
+{
+    paths.iter().any(|other| other.same(path))
+}
+
+/// Whether all that a primitive names is among these paths.
+fn names_among<A: Allocator, B: Allocator>(prim: &Primitive<A>, paths: &[Path<B>]) -> bool
+    ensures { IsTrue result ↔ NamesAmong paths.now (prim_of prim.now) }
+{
+    if !is_among(prim.path(), paths) {
+        return false;
+    }
+    match prim.target() {
+        Some(target) => is_among(target, paths),
+        None => true,
+    }
+}
+
+/// Whether all that these primitives name is among these paths.
+fn all_name_among<A: Allocator, B: Allocator>(prims: &[Primitive<A>], paths: &[Path<B>]) -> bool
+    ensures { IsTrue result ↔ All (NamesAmong paths.now) (prims_of prims.now) }
+{
+    for prim in prims {
+        if !names_among(prim, paths) {
+            return false;
+        }
+    }
+    true
+}
+
+/// Whether a primitive names a path.
+fn names<A: Allocator, B: Allocator>(prim: &Primitive<A>, path: &Path<B>) -> bool
+    ensures { IsTrue result ↔ IsTouched (prim_of prim.now ∷ []) path.now }
+{
+    if prim.path().same(path) {
+        return true;
+    }
+    match prim.target() {
+        Some(target) => target.same(path),
+        None => false,
+    }
+}
+
+/// Whether one of these primitives names a path.
+fn is_named<A: Allocator, B: Allocator>(path: &Path<A>, prims: &[Primitive<B>]) -> bool
+    ensures { IsTrue result ↔ IsNamedAmong (prims_of prims.now) path.now }
+{
+    for prim in prims {
+        if names(prim, path) {
+            return true;
+        }
+    }
+    false
+}
+
+/// Whether each of these paths is named by one of these primitives.
+fn are_all_named<A: Allocator, B: Allocator>(paths: &[Path<A>], prims: &[Primitive<B>]) -> bool
+    ensures { IsTrue result ↔ All (IsNamedAmong (prims_of prims.now)) paths.now }
+{
+    for path in paths {
+        if !is_named(path, prims) {
+            return false;
+        }
+    }
+    true
+}
+
+/// Whether a primitive is no move one of whose paths is, or contains, the other.
+fn moves_outside<A: Allocator>(prim: &Primitive<A>) -> bool
+    ensures { IsTrue result ↔ MovesOutside (prim_of prim.now) }
+{
+    match prim.target() {
+        Some(target) => are_apart(prim.path(), target),
+        None => true,
+    }
+}
+
+/// Whether no primitive of these is such a move.
+fn all_move_outside<A: Allocator>(prims: &[Primitive<A>]) -> bool
+    ensures { IsTrue result ↔ All MovesOutside (prims_of prims.now) }
+{
+    for prim in prims {
+        if !moves_outside(prim) {
+            return false;
+        }
+    }
+    true
 }
 
 /// Whether a path neither is, nor is inside, nor contains one of these.

@@ -1,6 +1,6 @@
 //! The names of a path, their escapes resolved.
 
-ghost use Rattle.std.specs.Prelude.{◌≡◌, ◌∷◌, Some, List, ℕ, IfOk, IfSome, IfNone, IfErr, MatchOption};
+ghost use Rattle.std.specs.Prelude.{◌≡◌, ◌<◌, ◌∷◌, Some, List, ℕ, length, IfOk, IfSome, IfNone, IfErr, MatchOption};
 ghost use Rattle.dm_named.specs.Paths.{IsCode, NameByte, IsNameText};
 ghost use Rattle.dm_tree.specs.Validity.{path_fault_of};
 ghost use Rattle.dm_named.specs.declared.reading.names.NameFault.TheVariants.{BadPath, NoMemory};
@@ -10,6 +10,9 @@ use crate::fault::FaultKind;
 use dm_tree::PathFault;
 use memchr::memchr;
 use std::alloc::{AllocError, AllocFailed, Allocator};
+
+/// The most bytes of a name.
+const MOST_BYTES: usize = 255;
 
 /// Why a name or a path could not be read.
 #[derive(Clone, Copy)]
@@ -108,14 +111,17 @@ fn byte_of(text: &[u8]) -> Option<(u8, &[u8])>
     Some((byte, &inside[end + 1..]))
 }
 
-/// The bytes of a name, its escapes resolved.
+/// The bytes of a name, its escapes resolved, and no more than a name of a path may have.
 pub(crate) fn name_of<A: Allocator>(alloc: A, text: &[u8]) -> Result<Vec<u8, A>, NameFault>
     ensures found { IfOk result (λ name. IsNameText text.now name.items) }
-    ensures none { IfErr result (λ e. (e ≡ NameFault.BadPath) → (name : List ℕ) → IsNameText text.now name → ⊥) }
+    ensures none { IfErr result (λ e. (e ≡ NameFault.BadPath) → (name : List ℕ) → IsNameText text.now name → 255 < length name) }
 {
-    let mut name = Vec::new(alloc);
+    let mut name = Vec::with_capacity(alloc, text.len().min(MOST_BYTES))?;
     let mut rest = text;
     while !rest.is_empty() {
+        if name.len() >= MOST_BYTES {
+            return Err(NameFault::BadPath);
+        }
         let Some((byte, next)) = byte_of(rest) else {
             return Err(NameFault::BadPath);
         };

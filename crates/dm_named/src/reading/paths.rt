@@ -1,6 +1,7 @@
 //! Paths as text.
 
 ghost use Rattle.std.specs.Prelude.{◌≡◌, ◌<◌, ◌≤◌, [], List, ℕ, length, drop, map, IfOk, IfErr};
+ghost use Rattle.dm_tree.specs.Validity.{IsGoodPath};
 ghost use Rattle.dm_named.specs.Many.{Many};
 ghost use Rattle.dm_named.specs.Paths.{Piece, SlashName, IsPathText, NextPath};
 ghost use Rattle.dm_named.specs.Faults.{PathFaultAt};
@@ -10,7 +11,7 @@ use crate::reading::names::{NameFault, name_of, strip};
 use crate::text::{skip, word_at};
 use dm_tree::Path;
 use memchr::memchr;
-use std::alloc::{AllocError, Allocator};
+use std::alloc::Allocator;
 
 /// What stands before the next slash, or the end, and the rest.
 fn piece_of(text: &[u8]) -> (&[u8], &[u8])
@@ -25,7 +26,7 @@ fn piece_of(text: &[u8]) -> (&[u8], &[u8])
 /// A slash and a name, and the rest.
 fn slash_name<A: Allocator + Copy>(alloc: A, text: &[u8]) -> Result<(Vec<u8, A>, &[u8]), NameFault>
     ensures found { IfOk result (λ x. SlashName text.now x.0.items x.1.now) }
-    ensures none { IfErr result (λ e. (e ≡ NameFault.BadPath) → (name rest : List ℕ) → SlashName text.now name rest → ⊥) }
+    ensures none { IfErr result (λ e. (e ≡ NameFault.BadPath) → (name rest : List ℕ) → SlashName text.now name rest → 255 < length name) }
 {
     let Some(inside) = strip(b'/', text) else {
         return Err(NameFault::BadPath);
@@ -38,7 +39,7 @@ fn slash_name<A: Allocator + Copy>(alloc: A, text: &[u8]) -> Result<(Vec<u8, A>,
 /// Names, each after its slash, and no more than a path may have.
 fn names_of<A: Allocator + Copy>(alloc: A, text: &[u8]) -> Result<Vec<Vec<u8, A>, A>, NameFault>
     ensures found { IfOk result (λ x. Many SlashName text.now (map (λ v. v.items) x.items) []) }
-    ensures none { IfErr result (λ e. (e ≡ NameFault.BadPath) → (names : List (List ℕ)) → Many SlashName text.now names [] → 32 < length names) }
+    ensures none { IfErr result (λ e. (e ≡ NameFault.BadPath) → (names : List (List ℕ)) → Many SlashName text.now names [] → IsGoodPath names → ⊥) }
 {
     let mut names = Vec::new(alloc);
     let mut rest = text;
@@ -53,20 +54,6 @@ fn names_of<A: Allocator + Copy>(alloc: A, text: &[u8]) -> Result<Vec<Vec<u8, A>
     Ok(names)
 }
 
-/// The names, borrowed.
-fn parts_of<A: Allocator + Copy>(
-    alloc: A,
-    names: &[Vec<u8, A>],
-) -> Result<Vec<&[u8], A>, AllocError>
-    ensures { IfOk result (λ x. map (λ b. b.now) x.items ≡ map (λ v. v.items) names.now) }
-{
-    let mut parts = Vec::with_capacity(alloc, names.len())?;
-    for name in names {
-        parts.push(name.as_slice())?;
-    }
-    Ok(parts)
-}
-
 /// The path that a word spells.
 fn path_of<A: Allocator + Copy>(alloc: A, word: &[u8]) -> Result<Path<A>, NameFault>
     ensures found { IfOk result (λ p. IsPathText word.now p) }
@@ -76,8 +63,7 @@ fn path_of<A: Allocator + Copy>(alloc: A, word: &[u8]) -> Result<Path<A>, NameFa
         return Err(NameFault::BadPath);
     };
     let names = names_of(alloc, text)?;
-    let parts = parts_of(alloc, &names)?;
-    match Path::from_parts(alloc, &parts) {
+    match Path::from_owned(names) {
         Ok(path) => Ok(path),
         Err(fault) => Err(NameFault::from(fault)),
     }

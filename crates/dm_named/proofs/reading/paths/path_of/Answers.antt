@@ -1,13 +1,12 @@
-use Rattle.std.proofs.Common.{◌≡◌, ◌∙◌, sym, subst, map, refl, List, ℕ, Some, None}
+use Rattle.std.proofs.Common.{◌≡◌, ◌∙◌, sym, subst, map, List, ℕ, Some, None}
 use Rattle.dm_tree.specs.Validity.{IsGoodPath, path_fault}
 use Rattle.dm_named.proofs.PathLemmas.{same_dot_path}
 use Rattle.dm_named.proofs.reading.paths.path_of.Goals as goal
 
-pub returns-clause-none : goal.returns-clause-none
-returns-clause-none g c = λ is p spelled.
+pub returns-in-Err-clause-none : goal.returns-in-Err-clause-none
+returns-in-Err-clause-none g c = λ is p spelled.
     let names : List (List ℕ) = map (λ v. v.items) c.in_ok-names.names.items in
     let same : p ≡ names = same_dot_path c.args.word.now c.in-Some.text.now names c.in-Some.ensures c.in_ok-names.ensures.found p spelled in
-    let parts : map (λ b. b.now) c.deref-2.result.now ≡ names = rw (c.deref-2.ensures.value, c.in_ok-parts.ensures, c.deref.ensures.value) refl in
-    let good : path_fault (map (λ b. b.now) c.deref-2.result.now) ≡ None = subst IsGoodPath (same ∙ sym parts) spelled.good in
+    let good : path_fault names ≡ None = subst IsGoodPath same spelled.good in
     let none : None ≡ Some c.in-Err.fault = sym good ∙ (c.in-Err.ensures.fault ∙ c.from.ensures is) in
     cc

@@ -1,4 +1,4 @@
-use Rattle.dm_named.proofs.commuting.commute_prims_in_place.Goals as goal
+use Rattle.dm_named.proofs.commuting.commute_prims.Goals as goal
 
 pub returns-in-None-clause-prims : goal.returns-in-None-clause-prims
 returns-in-None-clause-prims g c = rw (c.in-None.is, c.replace_prims-xs.ensures.taken, c.replace_prims-ys.ensures.taken) at c.in_ok-commute_lists_owned.ensures.answer

@@ -1,0 +1,168 @@
+//! Named patches that pass each other, and what they touch.
+
+ghost use Rattle.std.specs.Prelude.{◌≡◌, IfOk, IsTrue, List, MatchBool};
+ghost use Rattle.dm_prim.specs.Primitives.{Prim, inv_all};
+ghost use Rattle.dm_prim.specs.Commuting.{ListsCommute};
+ghost use Rattle.dm_named.specs.Patches.{Patch};
+ghost use Rattle.dm_named.specs.Commuting.{IsTouchKnown, NamedCommutes, Stays};
+
+use crate::commuting::commute_prims;
+use crate::named::Named;
+use dm_prim::{Touched, apart, invert_all, touch};
+use std::alloc::{AllocError, Allocator};
+use std::marker::Model;
+
+/// A named patch that may have to pass others. What it touches is found out when it first meets another, and kept as long
+/// as it is the same.
+#[derive(Drop)]
+pub struct Passing<A: Allocator> {
+    patch: Named<A>,
+    touched: Option<Touched<A>>,
+}
+
+impl<A: Allocator> Model for Passing<A> {
+    ghost use Rattle.dm_named.specs.Patches.{Patch};
+    ghost use Rattle.dm_named.specs.Commuting.{IsTouchKnown};
+
+    ghost Value = { Patch };
+
+    ghost view = { λ p. p.patch };
+
+    ghost invariant = { λ p. IsTouchKnown p.patch.prims p.touched };
+}
+
+impl<A: Allocator> Passing<A> {
+    /// A patch that has met no other yet.
+    pub fn new(patch: Named<A>) -> Passing<A>
+        ensures { result ≡ patch }
+    {
+        Passing {
+            patch,
+            touched: None,
+        }
+    }
+
+    /// The patch as it is now, borrowed.
+    pub fn named(&self) -> &Named<A>
+        ensures { result.now ≡ self.now }
+    {
+        &self.patch
+    }
+
+    /// The patch as it is now.
+    pub fn into_named(self) -> Named<A>
+        ensures { result ≡ self }
+    {
+        self.patch
+    }
+
+    /// Whether it is known what both touch, and nothing of it is common: then they pass each other and stay as they are.
+    fn is_apart_from(&self, other: &Passing<A>) -> bool
+        ensures { IsTrue result → ListsCommute self.now.prims other.now.prims other.now.prims self.now.prims }
+    {
+        let Some(first) = &self.touched else {
+            return false;
+        };
+        let Some(second) = &other.touched else {
+            return false;
+        };
+        apart(first, second)
+    }
+}
+
+impl<A: Allocator + Copy> Passing<A> {
+    /// The patch gets the inverse of its primitives, which touches what they did.
+    pub fn undo(&mut self, alloc: A)
+        ensures { self.new ≡ record self.old { prims = inv_all self.old.prims } }
+    {
+        let prims = self.patch.replace_prims(Vec::new(alloc));
+        let _ = self.patch.replace_prims(invert_all(prims));
+    }
+
+    /// Finds out what the patch touches, unless that is known.
+    fn find_touched(&mut self, alloc: A) -> Result<(), AllocError>
+        ensures { self.new ≡ self.old }
+    {
+        if self.touched.is_none() {
+            self.touched = Some(touch(alloc, self.patch.prims())?);
+        }
+        Ok(())
+    }
+}
+
+/// What was known of a patch before, if it is what the patch touches now.
+fn still_touched<A: Allocator>(touched: Option<Touched<A>>, patch: &Named<A>) -> Option<Touched<A>>
+    ensures { IsTouchKnown patch.now.prims result }
+{
+    let Some(before) = touched else {
+        return None;
+    };
+    if !before.is_of(patch.prims()) {
+        return None;
+    }
+    Some(before)
+}
+
+/// The primitives of both are commuted, whatever they touch; what they touch is kept where it is the same.
+fn commute_touching<A: Allocator + Copy>(
+    alloc: A,
+    x: &mut Passing<A>,
+    y: &mut Passing<A>,
+) -> Result<bool, AllocError>
+    ensures x_stays { Stays x.old x.new }
+    ensures y_stays { Stays y.old y.new }
+    ensures prims { IfOk result (λ commutes. MatchBool commutes
+        (ListsCommute x.old.prims y.old.prims y.new.prims x.new.prims)
+        ((ys' xs' : List Prim) → ListsCommute x.old.prims y.old.prims ys' xs' → ⊥)) }
+{
+    let commutes = commute_prims(alloc, &mut x.patch, &mut y.patch);
+    x.touched = still_touched(x.touched.take(), &x.patch);
+    y.touched = still_touched(y.touched.take(), &y.patch);
+    commutes
+}
+
+/// The primitives of `x` then those of `y` become those of `y` then those of `x`, in place, and the answer says whether they
+/// commute; names and dependencies aren't asked. Where they touch nothing in common nothing is commuted. Where they don't
+/// commute, or memory runs out, both may be left without primitives.
+pub fn commute_prims_in_place<A: Allocator + Copy>(
+    alloc: A,
+    x: &mut Passing<A>,
+    y: &mut Passing<A>,
+) -> Result<bool, AllocError>
+    ensures x_stays { Stays x.old x.new }
+    ensures y_stays { Stays y.old y.new }
+    ensures prims { IfOk result (λ commutes. MatchBool commutes
+        (ListsCommute x.old.prims y.old.prims y.new.prims x.new.prims)
+        ((ys' xs' : List Prim) → ListsCommute x.old.prims y.old.prims ys' xs' → ⊥)) }
+{
+    x.find_touched(alloc)?;
+    y.find_touched(alloc)?;
+    if x.is_apart_from(y) {
+        return Ok(true);
+    }
+    commute_touching(alloc, x, y)
+}
+
+/// `x` then `y` become, in place, the patches that do the same in the other order, and the answer says whether they commute.
+/// Where one names the other among its dependencies nothing has changed; where their primitives don't commute, or memory runs
+/// out, both may be left without primitives.
+pub fn commute_named_in_place<A: Allocator + Copy>(
+    alloc: A,
+    x: &mut Passing<A>,
+    y: &mut Passing<A>,
+) -> Result<bool, AllocError>
+    ensures x_stays { Stays x.old x.new }
+    ensures y_stays { Stays y.old y.new }
+    ensures commutes { IfOk result (λ commutes. MatchBool commutes
+        (NamedCommutes x.old y.old y.new x.new)
+        ((y' x' : Patch) → NamedCommutes x.old y.old y' x' → ⊥)) }
+{
+    if y.named().depends_on(x.named().info()) {
+        return Ok(false);
+    }
+    if x.named().depends_on(y.named().info()) {
+        return Ok(false);
+    }
+    let commutes = commute_prims_in_place(alloc, x, y)?;
+    Ok(commutes)
+}
