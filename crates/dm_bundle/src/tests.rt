@@ -1,7 +1,7 @@
 use super::*;
 use bumpalo::Bump;
 use dm_named::{FaultKind, Named, read_named};
-use std::alloc::Allocator;
+use std::alloc::{Allocator, Global};
 use std::process::Abort;
 use std::test::Fail;
 
@@ -321,5 +321,45 @@ fn two_faults_take_no_memory(rt: HostRuntime) -> Result<(), Fail> {
     let text = text_of(alloc, "%N(a)adddir ./d|%C")?;
     assert!(rt; read_bundle(&arena, &text).is_ok(), "a bundle");
     assert!(rt; arena.allocated_bytes() > 0, "a bundle takes memory");
+    Ok(())
+}
+
+/// Fills an arena, which then gets no more memory, but for so many bytes.
+fn filled(arena: &Bump<Global>, room: usize) -> Result<Vec<u8, &Bump<Global>>, Fail> {
+    arena.set_allocation_limit(Some(arena.allocated_bytes()));
+    let rest = arena.chunk_capacity().saturating_sub(room);
+    Ok(Vec::with_capacity(arena, rest)?)
+}
+
+#[test]
+fn each_growth_refused(rt: HostRuntime) -> Result<(), Fail> {
+    let alloc = rt.alloc();
+    let text = text_of(alloc, "%N(a)adddir ./d|(t)<|(a)|> {|}|%C(b)|")?;
+    let (mut read, mut written) = (0u32, 0u32);
+    for step in 0..1024usize {
+        let arena = Bump::try_with_capacity(alloc, 32000)?;
+        let _filled = filled(&arena, 16 * step)?;
+        if let Err(fault) = read_bundle(&arena, &text) {
+            assert_eq!(rt; fault.kind, FaultKind::NoMemory, "reading, step {step}");
+        } else {
+            read = read.saturating_add(1);
+        }
+        let Ok(bundle) = read_bundle(alloc, &text) else {
+            return Err("with enough memory it is read".into());
+        };
+        let other = Bump::try_with_capacity(alloc, 32000)?;
+        let _filled = filled(&other, 16 * step)?;
+        if let Ok(found) = write_bundle(&other, &bundle) {
+            assert_eq!(rt; found.as_slice(), text.as_slice(), "writing, step {step}");
+            written = written.saturating_add(1);
+        }
+        let again = write_bundle(alloc, &bundle)?;
+        assert_eq!(rt; again.as_slice(), text.as_slice(), "once more, step {step}");
+    }
+    assert!(rt; read > 0 && read < 1024, "reading is refused at first");
+    assert!(rt;
+        written > 0 && written < 1024,
+        "writing is refused at first"
+    );
     Ok(())
 }

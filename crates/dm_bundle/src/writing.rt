@@ -9,8 +9,8 @@ ghost use Rattle.dm_bundle.specs.Bundles.{IsGoodBundle, BundleText};
 ghost use Rattle.dm_bundle.specs.Canonical.{bundle_text};
 
 use crate::bundle::Bundle;
-use dm_info::{Info, write_info};
-use dm_named::{Named, write_named};
+use dm_info::{Info, push_info};
+use dm_named::{Named, push_named};
 use std::alloc::{AllocError, Allocator};
 
 fn push_patches<A: Allocator, B: Allocator + Copy>(
@@ -21,7 +21,7 @@ fn push_patches<A: Allocator, B: Allocator + Copy>(
     ensures good { OnOk result (AllByRecursion IsGoodPatch patches.now) }
 {
     for patch in patches {
-        write_named(patch, out)?;
+        push_named(patch, out)?;
     }
     Ok(())
 }
@@ -34,7 +34,7 @@ fn push_context<A: Allocator, B: Allocator + Copy>(
     ensures good { OnOk result (AllByRecursion IsInfo context.now) }
 {
     for info in context {
-        write_info(info, out)?;
+        push_info(info, out)?;
         out.push(b'\n')?;
     }
     Ok(())

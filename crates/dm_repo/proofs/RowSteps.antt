@@ -5,7 +5,6 @@ use Rattle.dm_prim.specs.Primitives.{Prim, inv_all}
 use Rattle.dm_prim.specs.Rectangles.{none, next, row}
 use Rattle.dm_prim.specs.Commuting.{ListsCommute}
 use Rattle.dm_repo.proofs.Inverses.{inv_all-inv_all}
-use Rattle.dm_info.specs.PatchInfo.{PatchInfo}
 use Rattle.dm_named.specs.Patches.{Patch}
 use Rattle.dm_named.specs.Commuting.{Stays, NamedCommutes}
 use Rattle.dm_repo.specs.Staircases.{Passes, PassStops}
@@ -144,15 +143,3 @@ merged_square r n n' r' s t c = record {
 
 pub no_merged_square : (r n : Placed) → ((ys xs : List Prim) → ListsCommute r.1.prims n.1.prims ys xs → ⊥) → (n' r' : Placed) → PlacedMerges (undone r) n n' r' → ⊥
 no_merged_square r n h n' r' c = h n'.1.prims (inv_all r'.1.prims) (rw (inv_all-inv_all r.1.prims) at c.merges.prims)
-
--- the primitives are taken out, inverted and put back
-pub undone_is : (x : Placed) {y z : Patch} {none ps qs : List Prim} → y ≡ record { info = x.1.info; deps = x.1.deps; prims = none } → ps ≡ x.1.prims → qs ≡ inv_all ps →
-    z ≡ record { info = y.info; deps = y.deps; prims = qs } → (x.0, z) ≡ undone x
-undone_is x {y} {z} {none} {ps} {qs} e f g h =
-    let i : y.info ≡ x.1.info = ap (λ (p : Patch). p.info) e in
-    let d : y.deps ≡ x.1.deps = ap (λ (p : Patch). p.deps) e in
-    let q : qs ≡ inv_all x.1.prims = g ∙ ap inv_all f in
-    ap (λ (p : Patch). (x.0, p)) (h ∙ same_patch i d q)
-  where
-    same_patch : {a b : PatchInfo} {c d : List PatchInfo} {e f : List Prim} → a ≡ b → c ≡ d → e ≡ f → ◌≡◌ {A = Patch} (record { info = a; deps = c; prims = e }) (record { info = b; deps = d; prims = f })
-    same_patch p q r = λ i. record { info = p i; deps = q i; prims = r i }

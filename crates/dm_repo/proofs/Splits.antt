@@ -15,6 +15,11 @@ use Rattle.dm_repo.proofs.Staircases.{split_in, split_out}
 pub whole : {X : Type 0} (xs ys : List X) (n : ℕ) → n ≡ length xs → take n (xs ++ ys) ≡ xs
 whole xs ys n e = take-append-le n xs ys (omega (arith, e)) ∙ take_all n xs (omega (arith, e))
 
+-- a list of which nothing is left was taken whole
+pub all_taken : {X : Type 0} (xs ys zs : List X) → xs ≡ ys ++ zs → length zs ≡ 0 → xs ≡ ys
+all_taken xs ys [] e l = e ∙ append-nil ys
+all_taken xs ys (z ∷ zs) e l = absurd (omega (arith, l))
+
 pub placed_from-append : (n : ℕ) (xs ys : List Patch) → placed_from n (xs ++ ys) ≡ placed_from n xs ++ placed_from (n + length xs) ys
 placed_from-append n [] ys = ap (λ k. placed_from k ys) (sym (add-zero n))
 placed_from-append n (x ∷ xs) ys =

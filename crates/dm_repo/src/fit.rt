@@ -13,7 +13,7 @@ ghost use Rattle.dm_repo.specs.Stops.{StopsAt};
 
 use crate::refusal::Refusal;
 use crate::stop::Stop;
-use dm_named::Named;
+use dm_named::{Named, Passing};
 use dm_prim::{Prim, apply};
 use dm_tree::laws::tree_is_lawful;
 use dm_tree::{Tree, TreeFault};
@@ -65,7 +65,7 @@ fn apply_patch<A: Allocator, B: Allocator + Copy>(
 
 /// Applies patches in turn, or stops at the first that leads nowhere shallowly.
 pub(crate) fn fit<A: Allocator, B: Allocator + Copy>(
-    list: &[(usize, Named<A>)],
+    list: &[(usize, Passing<A>)],
     tree: &mut Tree<B>,
 ) -> Result<(), Stop>
     ensures { (s : LawfulMap) → IsMapOf tree.old s → MatchResult result
@@ -73,7 +73,7 @@ pub(crate) fn fit<A: Allocator, B: Allocator + Copy>(
         (λ stop. StopsAt stop (FitStops IsStopped s list.now)) }
 {
     for patch in list {
-        if !apply_patch(&patch.1, tree)? {
+        if !apply_patch(patch.1.named(), tree)? {
             return Err(Stop::At(patch.0));
         }
     }
@@ -100,7 +100,7 @@ fn fit_first<A: Allocator, B: Allocator + Copy>(
 /// Applies the front from the root alone: first the patches that stayed where they are, then those that were copied.
 fn fit_front<A: Allocator, B: Allocator + Copy>(
     kept: &[Named<A>],
-    copied: &[(usize, Named<B>)],
+    copied: &[(usize, Passing<B>)],
     tree: &mut Tree<B>,
 ) -> Result<(), Stop>
     ensures { (s : LawfulMap) → IsMapOf tree.old s → MatchResult result
@@ -115,8 +115,8 @@ fn fit_front<A: Allocator, B: Allocator + Copy>(
 pub(crate) fn check_fit<A: Allocator, B: Allocator + Copy>(
     alloc: B,
     kept: &[Named<A>],
-    copied: &[(usize, Named<B>)],
-    new: &[(usize, Named<B>)],
+    copied: &[(usize, Passing<B>)],
+    new: &[(usize, Passing<B>)],
 ) -> Result<(), Refusal>
     ensures { (repo : List Patch) (b : Contents) (rest : List Placed) → IsRepo repo → IsBundleSplit repo b (placed kept.now ++ copied.now) rest new.now → MatchResult result
         (λ _. Fits repo b rest new.now)

@@ -13,29 +13,27 @@ use crate::refusal::Refusal;
 use crate::repo::Repo;
 use crate::stop::Blocked;
 use crate::weighed::Merged;
-use dm_named::Named;
-use dm_prim::invert_all;
+use dm_named::{Named, Passing};
 use std::alloc::{AllocError, Allocator};
 
 /// A repository holds at most so many patches.
 const MOST_PATCHES: usize = 100_000;
 
 /// Each patch gets the inverse of its primitives.
-fn undo_all<A: Allocator + Copy>(alloc: A, patches: &mut [(usize, Named<A>)])
+fn undo_all<A: Allocator + Copy>(alloc: A, patches: &mut [(usize, Passing<A>)])
     ensures { patches.new ≡ map undone patches.old }
 {
     for k in 0..patches.len() {
         let patch = &mut patches[k];
-        let prims = patch.1.replace_prims(Vec::new(alloc));
-        let _ = patch.1.replace_prims(invert_all(prims));
+        patch.1.undo(alloc);
     }
 }
 
 /// Each of `new`, from left to right, is merged with all of `rest`, each of which is undone.
 fn merge_all<A: Allocator + Copy>(
     alloc: A,
-    rest: &mut [(usize, Named<A>)],
-    new: &mut [(usize, Named<A>)],
+    rest: &mut [(usize, Passing<A>)],
+    new: &mut [(usize, Passing<A>)],
 ) -> Result<(), Blocked>
     ensures { MatchResult result
         (λ _. MergeRectangle PlacedMerges (map undone rest.old) new.old new.new (map undone rest.new))
@@ -65,13 +63,13 @@ pub(crate) fn is_too_many(held: usize, more: usize) -> bool
 /// The patches without their places.
 fn without_places<A: Allocator + Copy>(
     alloc: A,
-    placed: Vec<(usize, Named<A>), A>,
+    placed: Vec<(usize, Passing<A>), A>,
 ) -> Result<Vec<Named<A>, A>, AllocError>
     ensures { IfOk result (λ list. list.items ≡ patches placed.items) }
 {
     let mut list = Vec::with_capacity(alloc, placed.len())?;
     for (_, patch) in placed {
-        list.push(patch)?;
+        list.push(patch.into_named())?;
     }
     Ok(list)
 }
@@ -80,7 +78,7 @@ fn without_places<A: Allocator + Copy>(
 fn append<A: Allocator, B: Allocator + Copy>(
     alloc: B,
     repo: &Repo<A>,
-    merged: Vec<(usize, Named<B>), B>,
+    merged: Vec<(usize, Passing<B>), B>,
 ) -> Result<Merged<B>, Refusal>
     ensures { (b : Contents) (rest new : List Placed) → Fits repo.now.patches b rest new → Merge PlacedMerges rest new merged.items →
         MatchResult result
@@ -103,8 +101,8 @@ fn append<A: Allocator, B: Allocator + Copy>(
 pub(crate) fn merge<A: Allocator, B: Allocator + Copy>(
     alloc: B,
     repo: &Repo<A>,
-    rest: Vec<(usize, Named<B>), B>,
-    new: Vec<(usize, Named<B>), B>,
+    rest: Vec<(usize, Passing<B>), B>,
+    new: Vec<(usize, Passing<B>), B>,
 ) -> Result<Merged<B>, Refusal>
     ensures { (b : Contents) → Fits repo.now.patches b rest.items new.items → MatchResult result
         (λ m. IsMergeOf repo.now.patches b m.patches.items × IsTreeOf (repo.now.patches ++ m.patches.items) m.tree)
@@ -123,7 +121,7 @@ pub(crate) fn merge<A: Allocator, B: Allocator + Copy>(
 pub(crate) fn append_to_whole<A: Allocator, B: Allocator + Copy>(
     alloc: B,
     repo: &Repo<A>,
-    new: Vec<(usize, Named<B>), B>,
+    new: Vec<(usize, Passing<B>), B>,
 ) -> Result<Merged<B>, Refusal>
     ensures { (b : Contents) → IsBundleSplit repo.now.patches b (placed repo.now.patches) [] new.items → MatchResult result
         (λ m. IsMergeOf repo.now.patches b m.patches.items × IsTreeOf (repo.now.patches ++ m.patches.items) m.tree)

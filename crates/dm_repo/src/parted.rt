@@ -21,8 +21,8 @@ use crate::refusal::Refusal;
 use crate::repo::Repo;
 use crate::stop::Blocked;
 use dm_bundle::Bundle;
-use dm_named::Named;
-use std::alloc::Allocator;
+use dm_named::{Named, Passing};
+use std::alloc::{AllocError, Allocator};
 
 /// Patches in two parts, each with its place in the list that was split.
 #[derive(Drop)]
@@ -33,12 +33,33 @@ pub struct Parted<A: Allocator> {
     pub rest: Vec<(usize, Named<A>), A>,
 }
 
+/// The same, where a patch keeps what it touches as long as it may have to pass others.
+#[derive(Drop)]
+pub(crate) struct Halves<A: Allocator> {
+    pub(crate) front: Vec<(usize, Passing<A>), A>,
+    pub(crate) rest: Vec<(usize, Passing<A>), A>,
+}
+
+/// The patches, of which none passes another any more.
+fn at_rest<A: Allocator + Copy>(
+    alloc: A,
+    list: Vec<(usize, Passing<A>), A>,
+) -> Result<Vec<(usize, Named<A>), A>, AllocError>
+    ensures { IfOk result (λ patches. patches.items ≡ list.items) }
+{
+    let mut patches = Vec::with_capacity(alloc, list.len())?;
+    for (place, patch) in list {
+        patches.push((place, patch.into_named()))?;
+    }
+    Ok(patches)
+}
+
 /// Splits the patches: the marked ones in front.
 fn split_by<A: Allocator + Copy>(
     alloc: A,
     patches: Vec<Named<A>, A>,
     marks: &[bool],
-) -> Result<Parted<A>, Blocked>
+) -> Result<Halves<A>, Blocked>
     requires { length marks.now ≡ length patches.items }
     ensures { MatchResult result
         (λ parted. Split PlacedCommutes (IsMarked marks.now) (placed patches.items) parted.front.items parted.rest.items)
@@ -47,7 +68,8 @@ fn split_by<A: Allocator + Copy>(
     let mut front = Vec::new(alloc);
     let mut rest = Vec::new(alloc);
     for (k, patch) in patches.into_iter().enumerate() {
-        let mut placed = (k, patch);
+        let passing = Passing::new(patch);
+        let mut placed = (k, passing);
         if !marks[k] {
             rest.push(placed)?;
             continue;
@@ -58,7 +80,7 @@ fn split_by<A: Allocator + Copy>(
         }
         front.push(placed)?;
     }
-    Ok(Parted { front, rest })
+    Ok(Halves { front, rest })
 }
 
 /// How many patches stay where they are: those before the first that isn't marked.
@@ -81,7 +103,7 @@ fn split_after<A: Allocator, B: Allocator + Copy>(
     patches: &[Named<A>],
     marks: &[bool],
     kept: usize,
-) -> Result<Parted<B>, Blocked>
+) -> Result<Halves<B>, Blocked>
     requires marks { length marks.now ≡ length patches.now }
     requires within { kept ≤ length marks.now }
     requires marked { AreMarkedUpTo marks.now kept }
@@ -92,7 +114,9 @@ fn split_after<A: Allocator, B: Allocator + Copy>(
     let mut moved = Vec::new(alloc);
     let mut rest = Vec::new(alloc);
     for k in kept..patches.len() {
-        let mut placed = (k, patches[k].copy_into(alloc)?);
+        let copy = patches[k].copy_into(alloc)?;
+        let passing = Passing::new(copy);
+        let mut placed = (k, passing);
         if !marks[k] {
             rest.push(placed)?;
             continue;
@@ -103,7 +127,7 @@ fn split_after<A: Allocator, B: Allocator + Copy>(
         }
         moved.push(placed)?;
     }
-    Ok(Parted { front: moved, rest })
+    Ok(Halves { front: moved, rest })
 }
 
 /// Splits the repository: the common patches in front, of which the first `kept` stay where they are.
@@ -112,7 +136,7 @@ fn split_repo<A: Allocator, B: Allocator + Copy>(
     repo: &Repo<A>,
     common: &[bool],
     kept: usize,
-) -> Result<Parted<B>, Blocked>
+) -> Result<Halves<B>, Blocked>
     requires marks { length common.now ≡ length repo.now.patches }
     requires within { kept ≤ length common.now }
     requires marked { AreMarkedUpTo common.now kept }
@@ -128,7 +152,7 @@ fn split_new<A: Allocator + Copy>(
     alloc: A,
     new: Vec<Named<A>, A>,
     held: &[bool],
-) -> Result<Parted<A>, Blocked>
+) -> Result<Halves<A>, Blocked>
     requires { length held.now ≡ length new.items }
     ensures { (repo : List Patch) → AreMarksOf held.now (infos_of new.items) (Holds repo) → MatchResult result
         (λ p. Split PlacedCommutes (IsHeld repo) (placed new.items) p.front.items p.rest.items)
@@ -144,7 +168,7 @@ pub(crate) fn split_common<A: Allocator, B: Allocator + Copy>(
     repo: &Repo<A>,
     marks: &Marks<B>,
     kept: usize,
-) -> Result<Parted<B>, Refusal>
+) -> Result<Halves<B>, Refusal>
     requires marks { length marks.now.common.items ≡ length repo.now.patches }
     requires within { kept ≤ length marks.now.common.items }
     requires marked { AreMarkedUpTo marks.now.common.items kept }
@@ -163,7 +187,7 @@ pub(crate) fn split_held<A: Allocator + Copy>(
     alloc: A,
     new: Vec<Named<A>, A>,
     marks: &Marks<A>,
-) -> Result<Vec<(usize, Named<A>), A>, Refusal>
+) -> Result<Vec<(usize, Passing<A>), A>, Refusal>
     requires { length marks.now.held.items ≡ length new.items }
     ensures { (repo : List Patch) (b : Contents) (front rest : List Placed) → b.patches ≡ new.items →
         IsLookedUp repo b marks.now.common.items marks.now.held.items → IsRepoSplit repo b front rest → MatchResult result
@@ -192,7 +216,11 @@ pub fn split<A: Allocator + Copy, B: Allocator + Copy>(
 {
     let marks = common_marks(alloc, repo, bundle)?;
     match split_repo(alloc, repo, &marks.common, 0) {
-        Ok(parted) => Ok(parted),
+        Ok(halves) => {
+            let front = at_rest(alloc, halves.front)?;
+            let rest = at_rest(alloc, halves.rest)?;
+            Ok(Parted { front, rest })
+        }
         Err(blocked) => Err(blocked.context_depends()),
     }
 }

@@ -6,14 +6,14 @@ ghost use Rattle.dm_repo.specs.Squares.{PlacedCommutes, PlacedMerges, undone};
 ghost use Rattle.dm_repo.specs.Stops.{StopsAt};
 
 use crate::stop::Stop;
-use dm_named::{Named, commute_named_in_place, commute_prims_in_place};
+use dm_named::{Passing, commute_named_in_place, commute_prims_in_place};
 use std::alloc::Allocator;
 
 /// `patch` passes all of `rest`, the nearest first, which is the last.
 pub(crate) fn pass<A: Allocator + Copy>(
     alloc: A,
-    rest: &mut [(usize, Named<A>)],
-    patch: &mut (usize, Named<A>),
+    rest: &mut [(usize, Passing<A>)],
+    patch: &mut (usize, Passing<A>),
 ) -> Result<(), Stop>
     ensures { MatchResult result
         (λ _. Passes PlacedCommutes rest.old patch.old patch.new rest.new)
@@ -31,8 +31,8 @@ pub(crate) fn pass<A: Allocator + Copy>(
 /// `patch` is merged with all of `rest`, the first of them first. Each of `rest` is undone: it has the inverse primitives.
 pub(crate) fn merge_past<A: Allocator + Copy>(
     alloc: A,
-    rest: &mut [(usize, Named<A>)],
-    patch: &mut (usize, Named<A>),
+    rest: &mut [(usize, Passing<A>)],
+    patch: &mut (usize, Passing<A>),
 ) -> Result<(), Stop>
     ensures { MatchResult result
         (λ _. MergesPast PlacedMerges (map undone rest.old) patch.old patch.new (map undone rest.new))

@@ -154,6 +154,8 @@ old lines that differ: %N(a){|addfile ./f|hunk ./f 1|+u|}|%C => %N(n)hunk ./f 1|
 all held: %N(a)adddir ./d|%C => %N(a)adddir ./d|%C => nothing new
 no new patch: %N%C => %N%C => nothing new
 the rest that one new patch changed serves the next: %N%F(m)hunk ./f 5|-5|+five|%C => %N(n)hunk ./f 1|+x|+y|(o)hunk ./f 5|-3|+three|%C(a)| => taken 2 => %N%F(m)hunk ./f 5|-5|+five|(n)hunk ./f 1|+x|+y|(o)hunk ./f 5|-3|+three|%C
+patches of other paths pass as they are: %N%F(m)adddir ./d|(h)addfile ./g|%C => %N(n)adddir ./e|%C(a)|(h)| => taken 1 => %N%F(m)adddir ./d|(h)addfile ./g|(n)adddir ./e|%C
+a path that only meets once it has followed a move: %N%F(m)move ./f ./g|(o)hunk ./g 1|+x|%C => %N(n)hunk ./f 5|-5|+five|%C(a)| => taken 1 => %N%F(m)move ./f ./g|(o)hunk ./g 1|+x|(n)hunk ./g 6|-5|+five|%C
 a conflict of the second with the second of the rest: %N%F(m)adddir ./d|(o)hunk ./f 1|-1|+one|%C => %N(n)adddir ./e|(q)hunk ./f 1|-1|+uno|%C(a)| => refused conflicts 1 2
 ";
 

@@ -226,3 +226,68 @@ fn the_arena_is_reset_at_each_taking(rt: HostRuntime) -> Result<(), Fail> {
     assert_eq!(rt; arena.allocated_bytes(), used, "as after 4 takings");
     Ok(())
 }
+
+/// Fills an arena, which then gets no more memory, but for so many bytes.
+fn filled(arena: &Bump<Global>, room: usize) -> Result<Vec<u8, &Bump<Global>>, Fail> {
+    arena.set_allocation_limit(Some(arena.allocated_bytes()));
+    let rest = arena.chunk_capacity().saturating_sub(room);
+    Ok(Vec::with_capacity(arena, rest)?)
+}
+
+/// Takes `TWO` and then a text, where the heap of the trial or that of the repository has so much room for the second. Answers
+/// whether memory ran out: then nothing was appended, and the verdict comes with enough memory.
+fn is_refused(
+    rt: &impl Abort,
+    alloc: Global,
+    rooms: (usize, usize),
+    text: &[u8],
+    wanted: Verdict,
+) -> Result<bool, Fail> {
+    let held = Bump::try_with_capacity(alloc, 64000)?;
+    let tried = Bump::try_with_capacity(alloc, 64000)?;
+    let mut repo = Repo::new(&held);
+    take(&mut repo, &mut Bump::new(alloc), TWO);
+    let _held = filled(&held, rooms.0)?;
+    let _tried = filled(&tried, rooms.1)?;
+    let mut trial = Bump::new(&tried);
+    let verdict = take(&mut repo, &mut trial, text);
+    if verdict == wanted {
+        return Ok(false);
+    }
+    assert_eq!(rt;
+        verdict,
+        Verdict::Refused(Refusal::NoMemory),
+        "with {rooms:?} bytes"
+    );
+    assert_eq!(rt; repo.len(), 2, "nothing was appended with {rooms:?} bytes");
+    held.set_allocation_limit(None);
+    tried.set_allocation_limit(None);
+    assert_eq!(rt;
+        take(&mut repo, &mut trial, text),
+        wanted,
+        "with enough memory"
+    );
+    Ok(true)
+}
+
+#[test]
+fn each_growth_of_a_taking_refused(rt: HostRuntime) -> Result<(), Fail> {
+    let conflict = Verdict::Refused(Refusal::Conflicts(0, 1));
+    for (text, wanted) in [(COMMUTES, Verdict::Taken(1)), (CONFLICTS, conflict)] {
+        let (mut of_trial, mut of_repo) = (0u32, 0u32);
+        for step in 0..1024usize {
+            if is_refused(&rt, rt.alloc(), (60000, 32 * step), text, wanted)? {
+                of_trial = of_trial.saturating_add(1);
+            }
+            if is_refused(&rt, rt.alloc(), (16 * step, 60000), text, wanted)? {
+                of_repo = of_repo.saturating_add(1);
+            }
+        }
+        assert!(rt; of_trial > 0 && of_trial < 1024, "in the trial: {of_trial}");
+        assert!(rt;
+            of_repo > 0 && of_repo < 1024,
+            "in the repository: {of_repo}"
+        );
+    }
+    Ok(())
+}

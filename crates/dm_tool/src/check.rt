@@ -12,11 +12,14 @@ use dm_scratch::{Verdict, push_verdict};
 use std::alloc::{AllocError, Global};
 use std::io::{Read, Write};
 
-/// What is printed of a text, and the exit status.
-fn check_text(alloc: Global, text: &[u8]) -> Result<(Vec<u8>, u8), AllocError>
-    ensures { IfOk result (λ x. Checks text.now x.0.items x.1) }
+/// What is printed of a text, and the exit status. The text is given up once it has been read: it
+/// and what is printed may be large.
+fn check_text(alloc: Global, text: Vec<u8>) -> Result<(Vec<u8>, u8), AllocError>
+    ensures { IfOk result (λ x. Checks text.items x.0.items x.1) }
 {
-    match read_bundle(alloc, text) {
+    let read = read_bundle(alloc, &text);
+    drop(text);
+    match read {
         Ok(bundle) => Ok((write_bundle(alloc, &bundle)?, 0)),
         Err(fault) => {
             let verdict = Verdict::unread(fault);
@@ -48,7 +51,7 @@ pub fn check_over<R: Read, W: Write>(
     ensures no_base { IfErr result (λ e. (v : Verdict) → e ≢ ToolFault.BadBase v) }
 {
     let text = read_text(alloc, reader)?;
-    let (out, status) = check_text(alloc, &text)?;
+    let (out, status) = check_text(alloc, text)?;
     write_text(&out, writer)?;
     Ok(status)
 }

@@ -6,7 +6,7 @@ use Rattle.dm_named.proofs.NamedLemmas.{all_more}
 use Rattle.dm_bundle.proofs.writing.push_patches.Goals as goal
 
 pub loop-patch-preserved : goal.loop-patch-preserved
-loop-patch-preserved g c = record { text = grind (arith, common_steps); good = all_more IsGoodPatch c.args.patches.now c.loop-patch.patch-index c.patch-item.result c.loop-patch-test.true c.patch-item.is c.in_ok-write_named.ensures.good c.loop-patch.invariant.good }
+loop-patch-preserved g c = record { text = grind (arith, common_steps); good = all_more IsGoodPatch c.args.patches.now c.loop-patch.patch-index c.patch-item.result c.loop-patch-test.true c.patch-item.is c.in_ok-push_named.ensures.good c.loop-patch.invariant.good }
 
 pub returns-clause-good : goal.returns-clause-good
 returns-clause-good g c = rw (take_all c.loop-patch.patch-index c.args.patches.now c.loop-patch-test.false) at c.loop-patch.invariant.good

@@ -1,6 +1,7 @@
 use Rattle.std.proofs.Common.{◌≡◌, ◌+◌, inl, inr, refl, ◌∙◌, length}
 use Rattle.std.proofs.lemmas.Bool.{false≢true}
 use Rattle.std.proofs.lemmas.List.{length-map}
+use Rattle.std.proofs.lemmas.Result.{err_from_is_err_and}
 use Rattle.dm_repo.specs.Folds.{IsStopped}
 use Rattle.dm_repo.specs.Squares.{patches}
 use Rattle.dm_repo.specs.Weighing.{FitStops, RefusesBundle, most_patches}
@@ -44,3 +45,6 @@ returns g c = λ b rest new fits m.
       },
       (u.0, u.1, rw c.in_ok-patches.ensures (makes_on repo (patches merged) t.2 u.2)),
     )
+
+pub returns-in_err-patches : goal.returns-in_err-patches
+returns-in_err-patches g c = λ b rest new fits m. let p = err_from_is_err_and c.from_residual-in_err-patches.result c.from_residual-in_err-patches.ensures.1 in rw (p.1, p.2) tt

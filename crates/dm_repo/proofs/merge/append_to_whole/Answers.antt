@@ -1,5 +1,6 @@
 use Rattle.std.proofs.Common.{◌≡◌, ◌+◌, [], inl, inr, refl, ◌∙◌, length}
 use Rattle.std.proofs.lemmas.Bool.{false≢true}
+use Rattle.std.proofs.lemmas.Result.{err_from_is_err_and}
 use Rattle.dm_repo.specs.Folds.{IsStopped}
 use Rattle.dm_repo.specs.Squares.{patches, placed}
 use Rattle.dm_repo.specs.Weighing.{FitStops, RefusesBundle, most_patches}
@@ -37,3 +38,6 @@ returns g c = λ b chooses.
     let count : c.len-2.result ≡ length new = c.len-2.ensures ∙ c.args.new.ok.0 in
     let few = rw (c.len.ensures.value, count) at (not_below most_patches (c.len.result + c.len-2.result) (λ h. false≢true (c.if-is_too_many.ensures.1 h))) in
     (rw c.in_ok-patches.ensures (merges_whole repo b (fits_whole repo b chooses m.2 t.2) m.2 t.2 few), (t.0, t.1, rw c.in_ok-patches.ensures (makes_on repo (patches new) m.2 t.2)))
+
+pub returns-in_err-patches : goal.returns-in_err-patches
+returns-in_err-patches g c = λ b chooses. let p = err_from_is_err_and c.from_residual-in_err-patches.result c.from_residual-in_err-patches.ensures.1 in rw (p.1, p.2) tt

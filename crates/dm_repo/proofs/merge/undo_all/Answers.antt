@@ -1,14 +1,15 @@
-use Rattle.std.proofs.Common.{rules, length, ◌≤◌, get_or}
+use Rattle.std.proofs.Common.{rules, ap, length, ◌≤◌, get_or}
 use Rattle.std.proofs.lemmas.List.{take_all}
+use Rattle.dm_named.specs.Patches.{Patch}
 use Rattle.dm_repo.specs.Squares.{Placed, undone}
-use Rattle.dm_repo.proofs.RowSteps.{map_step, undone_is}
+use Rattle.dm_repo.proofs.RowSteps.{map_step}
 use Rattle.dm_repo.proofs.merge.undo_all.Goals as goal
 
 pub loop-k-preserved : goal.loop-k-preserved
 loop-k-preserved g c =
     let x : Placed = get_or c.loop-k.patches c.loop-k.k c.index-patches-k.result in
-    let e = undone_is x c.replace_prims-prims.ensures.new c.replace_prims-prims.ensures.taken c.invert_all.ensures c.replace_prims.ensures.new in
-    let s = map_step undone c.args.patches.now c.loop-k.patches c.loop-k.k c.index-patches-k.result (x.0, c.replace_prims.new.self) (search rules) (search rules) c.loop-k.invariant.ahead c.loop-k.invariant.undone_so_far e in
+    let e = ap (λ (p : Patch). (x.0, p)) c.undo.ensures in
+    let s = map_step undone c.args.patches.now c.loop-k.patches c.loop-k.k c.index-patches-k.result (x.0, c.undo.new.self) (search rules) (search rules) c.loop-k.invariant.ahead c.loop-k.invariant.undone_so_far e in
     record { undone_so_far = s.0; ahead = s.1 }
 
 pub returns : goal.returns

@@ -13,8 +13,13 @@ pub returns-in_err-marks-clause-refusal : goal.returns-in_err-marks-clause-refus
 returns-in_err-marks-clause-refusal g c =
     let p = err_from_is_err_and c.from_residual.result c.from_residual.ensures.1 in rw (p.1, p.2) (context_to_split c.args.repo.now.patches c.args.bundle.now _ c.in_err-marks.ensures)
 
+pub returns-in-Ok-clause-parts : goal.returns-in-Ok-clause-parts
+returns-in-Ok-clause-parts g c =
+    rw (c.in_ok-front-in-Ok.ensures, c.in_ok-rest-in-Ok.ensures)
+    (record { knows = c.in_ok-marks.ensures.knows; split = c.in-Ok.ensures c.args.bundle.now (rw c.deref.ensures.value c.in_ok-marks.ensures.common_is) })
+
 pub returns-in-Ok-clause-folds : goal.returns-in-Ok-clause-folds
-returns-in-Ok-clause-folds g c = λ t. split_folds c.args.repo.now.patches c.args.bundle.now _ _ (c.in-Ok.ensures c.args.bundle.now (rw c.deref.ensures.value c.in_ok-marks.ensures.common_is)) t
+returns-in-Ok-clause-folds g c = λ t. rw (c.in_ok-front-in-Ok.ensures, c.in_ok-rest-in-Ok.ensures) (split_folds c.args.repo.now.patches c.args.bundle.now _ _ (c.in-Ok.ensures c.args.bundle.now (rw c.deref.ensures.value c.in_ok-marks.ensures.common_is)) t)
 
 pub returns : goal.returns
 returns g c =

@@ -32,7 +32,7 @@ loop-k-preserved-then-not-marks-k g c =
       is_finite = tt;
       whole = rw (s.2, ← s.1) (one_taken xs c.loop-k.yielded k c.in-Some.patch left w);
       counted = rw (s.2, ← s.1) (one_counted xs c.loop-k.yielded k c.in-Some.patch left w (c.loop-k.invariant.counted ∙ sym s.1));
-      split = rw c.in_ok-push.ensures.items (split_more_out xs c.loop-k.yielded k c.in-Some.patch left w c.args.marks.now c.requires (c.loop-k.invariant.counted ∙ sym s.1) c.loop-k.invariant.split false c.if-not-marks-k.true refl);
+      split = rw (c.in_ok-push.ensures.items, c.new-passing.ensures) (split_more_out xs c.loop-k.yielded k c.in-Some.patch left w c.args.marks.now c.requires (c.loop-k.invariant.counted ∙ sym s.1) c.loop-k.invariant.split false c.if-not-marks-k.true refl);
     }
 
 pub returns-in-Err : goal.returns-in-Err
@@ -44,7 +44,7 @@ returns-in-Err g c =
     rw c.blocked.ensures
     (blocks_at (k, c.in-Some.patch) (PassStops PlacedCommutes c.as_mut_slice.result.now (k, c.in-Some.patch)) (SplitStops PlacedCommutes (IsMarked c.args.marks.now) (placed xs)) c.in-Err.stop
     (λ r p. split_stop xs c.loop-k.yielded k c.in-Some.patch c.next.new.self.iter.rest.items w c.args.marks.now c.requires (c.loop-k.invariant.counted ∙ sym s.1) c.loop-k.invariant.split false c.if-not-marks-k.false
-    (rw c.as_mut_slice.ensures.value at p)) c.in-Err.ensures)
+    (rw c.as_mut_slice.ensures.value at p)) (rw c.new-passing.ensures at c.in-Err.ensures))
 
 pub loop-k-preserved : goal.loop-k-preserved
 loop-k-preserved g c =
@@ -60,5 +60,5 @@ loop-k-preserved g c =
       whole = rw (s.2, ← s.1) (one_taken xs c.loop-k.yielded k c.in-Some.patch left w);
       counted = rw (s.2, ← s.1) (one_counted xs c.loop-k.yielded k c.in-Some.patch left w (c.loop-k.invariant.counted ∙ sym s.1));
       split = rw (c.in_ok-push-2.ensures.items, kept) (split_more_in xs c.loop-k.yielded k c.in-Some.patch left w c.args.marks.now c.requires (c.loop-k.invariant.counted ∙ sym s.1) c.loop-k.invariant.split false c.if-not-marks-k.false
-          (rw c.as_mut_slice.ensures.value at c.in-Ok.ensures) refl);
+          (rw (c.as_mut_slice.ensures.value, c.new-passing.ensures) at c.in-Ok.ensures) refl);
     }

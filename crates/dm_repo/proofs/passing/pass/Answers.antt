@@ -1,4 +1,5 @@
-use Rattle.std.proofs.Common.{rules, ◌≡◌, true, false, refl, sym, ap, length, arith}
+use Rattle.std.proofs.Common.{rules, ◌<◌, ◌≤◌, ◌-◌, ◌≡◌, true, false, refl, sym, ap, length, arith}
+use borrow.Author.Rules.{scaled_Fits}
 use Rattle.std.proofs.lemmas.List.{drop_all}
 use Rattle.dm_prim.specs.Rectangles.{empty}
 use Rattle.dm_repo.specs.Squares.{Placed, PlacedCommutes}
@@ -23,3 +24,10 @@ loop-k-preserved g c =
     let s = pass_step PlacedCommutes c.args.rest.now c.loop-k.rest c.loop-k.k c.index-rest-k.result _ (search rules) (search rules) (search rules) c.loop-k.invariant.ahead c.loop-k.invariant.passed
     (placed_square _ c.loop-k.patch c.commute_named_in_place.new.y c.commute_named_in_place.new.x (rw yes at c.in_ok-commute_named_in_place.ensures.commutes)) in
     record { passed = s.0; ahead = s.1 }
+
+pub offset_bounds-rest-k : goal.offset_bounds-rest-k
+offset_bounds-rest-k g c =
+    let o : 0 < c.loop-k.k = search rules in
+    let l : c.loop-k.k ≤ length c.args.rest.now = search rules in
+    let h : (c.loop-k.k - 1) < length c.args.rest.now = omega (arith, o, l) in
+    scaled_Fits _ _ _ h (search rules)

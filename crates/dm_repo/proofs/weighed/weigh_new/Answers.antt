@@ -1,4 +1,5 @@
-use Rattle.std.proofs.Common.{refl, [], ◌++◌, take}
+use Rattle.std.proofs.Common.{refl, sym, [], ◌++◌, ◌≤◌, length, take}
+use Rattle.std.proofs.lemmas.List.{length-take-le}
 use Rattle.std.proofs.lemmas.Result.{err_from_is_err_and}
 use Rattle.dm_repo.specs.Squares.{placed}
 use Rattle.dm_repo.proofs.Following.{parted_whole}
@@ -45,3 +46,8 @@ returns g c = λ b e found.
 
 pub split_common-requires-clause-marked : goal.split_common-requires-clause-marked
 split_common-requires-clause-marked g c = rw c.deref-2.ensures.value at c.kept_in_place-kept.ensures.marked
+
+pub slice_bounds-check_fit-end : goal.slice_bounds-check_fit-end
+slice_bounds-check_fit-end g c =
+    let within : c.kept_in_place-kept.result ≤ length c.patches.result.now = rw (c.patches.ensures.value, ← c.requires.common, ← c.deref-2.ensures.value) c.kept_in_place-kept.ensures.within in
+    sym (length-take-le c.kept_in_place-kept.result c.patches.result.now within)

@@ -1,7 +1,6 @@
 use Rattle.std.proofs.Common.{List, ℕ, take, subst}
 use Rattle.std.proofs.lemmas.Result.{err_from_is_err_and}
 use Rattle.std.specs.Io.KnownBytes.{Appends}
-use Rattle.dm_tool.specs.Checking.{Checks}
 use Rattle.dm_tool.proofs.check.check_over.Goals as goal
 
 pub returns-in_err-write_text-clause-prefix : goal.returns-in_err-write_text-clause-prefix
@@ -14,8 +13,8 @@ returns-in_err-write_text-clause-prefix g c =
       c.in_ok-out.status,
       cut.0,
       c.in_ok-text.ensures.text,
-      subst (λ (t : List ℕ). Checks t c.in_ok-out.out.items c.in_ok-out.status) c.deref.ensures.value c.in_ok-out.ensures,
-      subst (λ (t : List ℕ). Appends (g.W.Write.contents c.args.writer.now) (g.W.Write.contents c.write_text.new.writer) (take cut.0 t)) c.deref-2.ensures.value cut.1,
+      c.in_ok-out.ensures,
+      subst (λ (t : List ℕ). Appends (g.W.Write.contents c.args.writer.now) (g.W.Write.contents c.write_text.new.writer) (take cut.0 t)) c.deref.ensures.value cut.1,
     ))
 
 pub returns-clause-ok : goal.returns-clause-ok
@@ -23,6 +22,6 @@ returns-clause-ok g c = (
   c.in_ok-text.text.items,
   c.in_ok-out.out.items,
   c.in_ok-text.ensures.text,
-  subst (λ (t : List ℕ). Checks t c.in_ok-out.out.items c.in_ok-out.status) c.deref.ensures.value c.in_ok-out.ensures,
-  subst (Appends (g.W.Write.contents c.args.writer.now) (g.W.Write.contents c.write_text.new.writer)) c.deref-2.ensures.value c.in_ok-write_text.ensures.ok,
+  c.in_ok-out.ensures,
+  subst (Appends (g.W.Write.contents c.args.writer.now) (g.W.Write.contents c.write_text.new.writer)) c.deref.ensures.value c.in_ok-write_text.ensures.ok,
 )
