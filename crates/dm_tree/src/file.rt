@@ -29,13 +29,13 @@ impl<A: Allocator> Model for File<A> {
 }
 
 impl<A: Allocator + Copy> File<A> {
-    /// A file of one line with no byte.
+    /// A file of one line with no byte, with no room to spare.
     pub(crate) fn blank(alloc: A) -> Result<File<A>, AllocError>
         ensures { IfOk result (λ r. r ≡ [] ∷ []) }
     {
-        let mut text = Text::new(alloc);
+        let mut text = Text::with_room(alloc, 1, 0)?;
         text.push(&[])?;
-        let mut parts = Vec::new(alloc);
+        let mut parts = Vec::with_capacity(alloc, 1)?;
         parts.push(text)?;
         Ok(File { parts, count: 1 })
     }
