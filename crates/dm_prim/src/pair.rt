@@ -99,17 +99,14 @@ fn commute_hunks<A: Allocator>(
     ))
 }
 
-/// Whether neither path is, or is inside, the other.
+/// Whether neither path is, or is inside, the other: the longer one has to be asked alone.
 pub(crate) fn are_apart<A: Allocator, B: Allocator>(a: &Path<A>, b: &Path<B>) -> bool
     ensures { IsTrue result ↔ Apart a.now b.now }
 {
-    if a.is_under(b) {
-        return false;
+    if a.len() < b.len() {
+        return !b.is_under(a);
     }
-    if b.is_under(a) {
-        return false;
-    }
-    true
+    !a.is_under(b)
 }
 
 /// Whether work and work on two paths change places: where one is directory work, neither path may
