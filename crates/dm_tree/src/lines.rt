@@ -1,5 +1,5 @@
 //! A list of lines, none of which has a newline.
-ghost use Rattle.std.specs.Prelude.{◌≡◌, ◌↔◌, ◌<◌, ◌++◌, ◌∷◌, [], length, IsTrue, IfOk, OnOk, OnErr, slice_index_or};
+ghost use Rattle.std.specs.Prelude.{◌≡◌, ◌↔◌, ◌<◌, ◌++◌, ◌∷◌, [], length, IsTrue, IfOk, OnOk, OnErr, slice_index_or, sum_by};
 ghost use Rattle.dm_tree.specs.Validity.{AnswersLine, ArePlain, IsPlain, line_fault};
 
 use crate::fault::LineFault;
@@ -60,6 +60,13 @@ impl<A: Allocator> Lines<A> {
         ensures { IsTrue result ↔ (self.now ≡ []) }
     {
         self.text.is_empty()
+    }
+
+    /// The count of bytes of all lines together, which have no newlines.
+    pub fn size(&self) -> usize
+        ensures { result ≡ sum_by length self.now }
+    {
+        self.text.size()
     }
 
     /// The line at a place, from 0, borrowed.
