@@ -71,8 +71,9 @@ fn push_lines<A: Allocator, B: Allocator + Copy>(
 ) -> Result<(), AllocError>
     ensures { OnOk result (out.new.items ≡ out.old.items ++ lines_text byte lines.now) }
 {
-    // Their room at once: a long text would be copied again and again as it grows.
-    out.reserve(lines.size().saturating_add(lines.len().saturating_mul(2)))?;
+    // Their room at once, and an eighth for what follows: a long text would be copied again and again as it grows.
+    let room = lines.size().saturating_add(lines.len().saturating_mul(2));
+    out.reserve(room.saturating_add(room / 8))?;
     for i in 0..lines.len() {
         out.push(byte)?;
         out.extend_from_slice(lines.line(i))?;
