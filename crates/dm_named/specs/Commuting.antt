@@ -38,3 +38,7 @@ NamedCommutesBack x y (Some r) = NamedCommutes r.0 r.1 x y
 abbrev pub IsTouchKnown : List Prim → Option TouchedPaths → Type 0
 IsTouchKnown ps None = Unit {0}
 IsTouchKnown ps (Some t) = Touches ps t
+
+-- where lists that touch this commute, each touches afterwards what it did before
+abbrev pub StayKnown : Option TouchedPaths → Option TouchedPaths → Type 0
+StayKnown t u = (xs ys ys' xs' : List Prim) → IsTouchKnown xs t → IsTouchKnown ys u → ListsCommute xs ys ys' xs' → IsTouchKnown xs' t × IsTouchKnown ys' u

@@ -4,7 +4,7 @@ ghost use Rattle.std.specs.Prelude.{◌≡◌, IfOk, IsTrue, List, MatchBool};
 ghost use Rattle.dm_prim.specs.Primitives.{Prim, inv_all};
 ghost use Rattle.dm_prim.specs.Commuting.{ListsCommute};
 ghost use Rattle.dm_named.specs.Patches.{Patch};
-ghost use Rattle.dm_named.specs.Commuting.{IsTouchKnown, NamedCommutes, Stays};
+ghost use Rattle.dm_named.specs.Commuting.{IsTouchKnown, NamedCommutes, StayKnown, Stays};
 
 use crate::commuting::commute_prims;
 use crate::named::Named;
@@ -103,7 +103,21 @@ fn still_touched<A: Allocator>(touched: Option<Touched<A>>, patch: &Named<A>) ->
     Some(before)
 }
 
-/// The primitives of both are commuted, whatever they touch; what they touch is kept where it is the same.
+/// Whether it is known what both touch, and they go on touching it where they commute.
+fn stay_touched<A: Allocator>(first: &Option<Touched<A>>, second: &Option<Touched<A>>) -> bool
+    ensures { IsTrue result → StayKnown first.now second.now }
+{
+    let Some(first) = first else {
+        return false;
+    };
+    let Some(second) = second else {
+        return false;
+    };
+    first.stays_with(second)
+}
+
+/// The primitives of both are commuted, whatever they touch; what they touch is kept where it is the same. Only where a move
+/// may have changed a path is it looked for among the primitives.
 fn commute_touching<A: Allocator + Copy>(
     alloc: A,
     x: &mut Passing<A>,
@@ -115,7 +129,13 @@ fn commute_touching<A: Allocator + Copy>(
         (ListsCommute x.old.prims y.old.prims y.new.prims x.new.prims)
         ((ys' xs' : List Prim) → ListsCommute x.old.prims y.old.prims ys' xs' → ⊥)) }
 {
+    let stay = stay_touched(&x.touched, &y.touched);
     let commutes = commute_prims(alloc, &mut x.patch, &mut y.patch);
+    if stay {
+        if let Ok(true) = &commutes {
+            return commutes;
+        }
+    }
     x.touched = still_touched(x.touched.take(), &x.patch);
     y.touched = still_touched(y.touched.take(), &y.patch);
     commutes

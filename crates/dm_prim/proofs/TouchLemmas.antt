@@ -1,21 +1,21 @@
 -- Lists that touch nothing in common commute, and stay as they are.
 use Rattle.std.proofs.Common.{drop, ◌≡◌, ◌≢◌, ◌<◌, ◌≤◌, ◌+◌, ℕ, length, take, false, ◌++◌, ◌↔◌, Bool, IsTrue, List, [], ◌∷◌, flat_map, get_or, sym, ap, subst, inl, inr, append_assoc, append-nil, arith, ◌∙◌, true, refl}
 use Rattle.std.specs.List.{All, Contains}
-use Rattle.std.proofs.Math.Bool.{beq}
+use Rattle.std.proofs.Math.Bool.{beq, not}
 use Rattle.std.proofs.lemmas.List.Elements.{Contains-get_or, Contains-append_left, Contains-append_right, Contains-append_cases, Contains-push, Contains-push_cases, All-head, All-tail, All-cons, All-nil, All-take}
 use Rattle.std.proofs.lemmas.Grind.{flat_map-append}
 use Rattle.dm_tree.specs.Paths.{Path, Apart}
 use Rattle.dm_tree.proofs.Paths.{forward-other, apart_sym}
 use Rattle.dm_prim.specs.Primitives.{Work, Prim, At, Move, inv, inv_all}
 use Rattle.dm_prim.specs.Rectangles.{CellRow, none, next, empty, row}
-use Rattle.dm_prim.specs.Table.{TableRow, two_works, work_move, move_work, two_moves, WorkThenMove, MoveThenMove}
+use Rattle.dm_prim.specs.Table.{TableRow, first_above, second_above, two_works, work_move, move_work, two_moves, WorkThenMove, MoveThenMove}
 use Rattle.dm_prim.specs.Commuting.{IsGoodPrim, Commutes, ListsCommute}
 use Rattle.std.proofs.lemmas.List.{take_all}
 use Rattle.dm_prim.specs.Prims.{prim_of, prims_of, path_of, IsWork}
 use Rattle.dm_prim.specs.declared.primitive.Primitive as code
 use Rattle.dm_prim.proofs.ListLemmas.{count_of, prims_more, parted}
 use Rattle.dm_prim.proofs.LawProofs.{good_inv}
-use Rattle.dm_prim.specs.Touch.{paths_of, IsTouched, MovesOutside, TouchedPaths, Touches, IsApartFrom, AreApart, PassUnchanged, NamesAmong, IsNamedAmong, InversesTouchTheSame}
+use Rattle.dm_prim.specs.Touch.{paths_of, IsTouched, MovesOutside, TouchedPaths, Touches, IsApartFrom, AreApart, PassUnchanged, StayTouched, MoveNothing, NamesAmong, IsNamedAmong, InversesTouchTheSame}
 use Rattle.dm_prim.proofs.Squares.{not_inside, same_under}
 
 module _ {X : Type 0} (P : X → Type 0) where
@@ -122,9 +122,13 @@ paths_of_move p a b e = rw e
 pub move_moves_outside : (p : Prim) (a b : Path) → p ≡ Move a b → MovesOutside p ↔ Apart a b
 move_moves_outside p a b e = rw e (λ h. h, λ h. h)
 
+pub move_moves_something : (p : Prim) (a b : Path) → p ≡ Move a b → {P : Type 0} → IsTrue false ↔ (P × IsWork p)
+move_moves_something p a b e = rw e (λ x. absurd (cc x), λ x. elim x.1 [ ])
+
 -- one primitive more
-module _ (p : Prim) (t : TouchedPaths) (paths : List Path) (moves : Bool) (good : IsGoodPrim p)
+module _ (p : Prim) (t : TouchedPaths) (paths : List Path) (moves still : Bool) (good : IsGoodPrim p)
     (more : (f : Path) → Contains paths f ↔ Contains (t.paths ++ paths_of p) f) (outside : IsTrue moves ↔ (IsTrue t.moves_outside × MovesOutside p))
+    (work : IsTrue still ↔ (IsTrue t.moves_nothing × IsWork p))
     (ps : List Prim) (h : Touches ps t) where
   touched_more : (f : Path) → Contains (t.paths ++ paths_of p) f ↔ Contains (flat_map paths_of ps ++ paths_of p) f
   touched_more f = (
@@ -135,13 +139,17 @@ module _ (p : Prim) (t : TouchedPaths) (paths : List Path) (moves : Bool) (good 
   touched_by : flat_map paths_of (ps ++ p ∷ []) ≡ flat_map paths_of ps ++ paths_of p
   touched_by = flat_map-append paths_of ps (p ∷ []) ∙ ap (λ z. flat_map paths_of ps ++ z) (append-nil (paths_of p))
 
-  pub touches_more : Touches (ps ++ p ∷ []) (record { paths = paths; moves_outside = moves })
+  pub touches_more : Touches (ps ++ p ∷ []) (record { paths = paths; moves_outside = moves; moves_nothing = still })
   touches_more = record {
     good = (all_with IsGoodPrim ps p).1 (h.good, good);
     paths = λ f. rw touched_by (λ c. (touched_more f).0 ((more f).0 c), λ c. (more f).1 ((touched_more f).1 c));
     moves = (
       λ m. let o = outside.0 m in (all_with MovesOutside ps p).1 (h.moves.0 o.0, o.1),
       λ m. let o = (all_with MovesOutside ps p).0 m in outside.1 (h.moves.1 o.0, o.1),
+    );
+    works = (
+      λ m. let o = work.0 m in (all_with IsWork ps p).1 (h.works.0 o.0, o.1),
+      λ m. let o = (all_with IsWork ps p).0 m in work.1 (h.works.1 o.0, o.1),
     );
   }
 
@@ -156,11 +164,12 @@ two_more old one two a b h k f = rw (append_assoc old (a ∷ []) (b ∷ [])) at 
       λ c. (k f).1 (elim (Contains-append_cases (old ++ a ∷ []) (b ∷ []) f c) [ inl d ↦ Contains-append_left one (b ∷ []) f ((h f).1 d) | inr d ↦ Contains-append_right one (b ∷ []) f d ]),
     )
 
-pub touches_none : {t : TouchedPaths} → t.paths ≡ [] → t.moves_outside ≡ true → Touches [] t
-touches_none e m = record {
+pub touches_none : {t : TouchedPaths} → t.paths ≡ [] → t.moves_outside ≡ true → t.moves_nothing ≡ true → Touches [] t
+touches_none e m n = record {
   good = λ k d l. absurd (omega (arith, l));
   paths = λ f. rw e (λ c. c, λ c. c);
   moves = rw m (λ t. λ k d l. absurd (omega (arith, l)), λ h. refl);
+  works = rw n (λ t. λ k d l. absurd (omega (arith, l)), λ h. refl);
 }
 
 -- the inverse of a list
@@ -177,6 +186,10 @@ inverse_names (Move a b) f = (turned b a f, turned a b f)
 inverse_outside : (p : Prim) → MovesOutside (inv p) ↔ MovesOutside p
 inverse_outside (At f w) = (λ h. h, λ h. h)
 inverse_outside (Move a b) = (λ h. apart_sym h, λ h. apart_sym h)
+
+inverse_work : (p : Prim) → IsWork (inv p) ↔ IsWork p
+inverse_work (At f w) = (λ h. h, λ h. h)
+inverse_work (Move a b) = (λ h. h, λ h. h)
 
 inverse_touched : (ps : List Prim) (f : Path) → IsTouched (inv_all ps) f ↔ IsTouched ps f
 inverse_touched [] f = (λ c. c, λ c. c)
@@ -203,7 +216,83 @@ inverses_touch_the_same ps t h = record {
     λ m. all_of_inverse MovesOutside MovesOutside (λ p. (inverse_outside p).1) ps (h.moves.0 m),
     λ m. h.moves.1 (all_from_inverse MovesOutside MovesOutside (λ p. (inverse_outside p).0) ps m),
   );
+  works = (
+    λ m. all_of_inverse IsWork IsWork (λ p. (inverse_work p).1) ps (h.works.0 m),
+    λ m. h.works.1 (all_from_inverse IsWork IsWork (λ p. (inverse_work p).0) ps m),
+  );
 }
+
+-- lists without moves that commute: every path stays
+record Kept (ps ps' : List Prim) : Type 0 where
+  good : All IsGoodPrim ps'
+  works : All IsWork ps'
+  paths : flat_map paths_of ps' ≡ flat_map paths_of ps
+
+record KeptOne (p p' : Prim) : Type 0 where
+  good : IsGoodPrim p'
+  work : IsWork p'
+  paths : paths_of p' ≡ paths_of p
+
+row_kept : {p q q' p' : Prim} → TableRow p q q' p' → IsWork p → IsWork q → ((IsWork p' × (paths_of p' ≡ paths_of p)) × (IsWork q' × (paths_of q' ≡ paths_of q)))
+row_kept (first_above a e) h k = ((tt, refl), (tt, refl))
+row_kept (second_above a e) h k = ((tt, refl), (tt, refl))
+row_kept (two_works a) h k = ((tt, refl), (tt, refl))
+row_kept (work_move a e) h k = elim k [ ]
+row_kept (move_work a e) h k = elim h [ ]
+row_kept (two_moves a e1 e2 e3 e4) h k = elim h [ ]
+
+kept_first : {p q q' p' : Prim} → Commutes p q q' p' → IsWork p → IsWork q → KeptOne p p'
+kept_first c h k = let r = row_kept c.row h k in record { good = c.good_p'; work = r.0.0; paths = r.0.1 }
+
+kept_second : {p q q' p' : Prim} → Commutes p q q' p' → IsWork p → IsWork q → KeptOne q q'
+kept_second c h k = let r = row_kept c.row h k in record { good = c.good_q'; work = r.1.0; paths = r.1.1 }
+
+kept_more : {p p' : Prim} {ps ps' : List Prim} → KeptOne p p' → Kept ps ps' → Kept (p ∷ ps) (p' ∷ ps')
+kept_more {p} {p'} {ps} {ps'} a b = record {
+  good = All-cons IsGoodPrim p' ps' a.good b.good;
+  works = All-cons IsWork p' ps' a.work b.works;
+  paths = ap (λ z. z ++ flat_map paths_of ps') a.paths ∙ ap (λ z. paths_of p ++ z) b.paths;
+}
+
+kept_all : (ps : List Prim) → All IsGoodPrim ps → All IsWork ps → Kept ps ps
+kept_all ps h k = record { good = h; works = k; paths = refl }
+
+kept_on : {p q r : Prim} → KeptOne p q → KeptOne q r → KeptOne p r
+kept_on a b = record { good = b.good; work = b.work; paths = b.paths ∙ a.paths }
+
+kept_then : {ps qs rs : List Prim} → Kept ps qs → Kept qs rs → Kept ps rs
+kept_then a b = record { good = b.good; works = b.works; paths = b.paths ∙ a.paths }
+
+cells_kept : {x x' : Prim} {ys ys' : List Prim} → CellRow Commutes x ys ys' x' → IsGoodPrim x → IsWork x → All IsGoodPrim ys → All IsWork ys → KeptOne x x' × Kept ys ys'
+cells_kept none g h good works = (record { good = g; work = h; paths = refl }, kept_all [] good works)
+cells_kept (next {x} {y} {y'} {x1} {x'} {ys} {ys'} c s) g h good works =
+    let k = All-head IsWork y ys works in
+    let one = kept_first c h k in
+    let rest = cells_kept s one.good one.work (All-tail IsGoodPrim y ys good) (All-tail IsWork y ys works) in
+    (kept_on one rest.0, kept_more (kept_second c h k) rest.1)
+
+lists_kept : {xs ys ys' xs' : List Prim} → ListsCommute xs ys ys' xs' → All IsGoodPrim xs → All IsWork xs → All IsGoodPrim ys → All IsWork ys → Kept xs xs' × Kept ys ys'
+lists_kept (empty {ys}) g h good works = (kept_all [] g h, kept_all ys good works)
+lists_kept (row {x} {x'} {xs} {xs'} {ys} {between} {ys'} r s) g h good works =
+    let below = lists_kept r (All-tail IsGoodPrim x xs g) (All-tail IsWork x xs h) good works in
+    let above = cells_kept s (All-head IsGoodPrim x xs g) (All-head IsWork x xs h) below.1.good below.1.works in
+    (kept_more above.0 below.0, kept_then below.1 above.1)
+
+works_move_outside : (ps : List Prim) → All IsWork ps → All MovesOutside ps
+works_move_outside ps h = holds_of_all MovesOutside ps (λ p c. work_moves_outside p (holds_of IsWork ps h c))
+
+kept_touched : (ps ps' : List Prim) (t : TouchedPaths) → IsTrue t.moves_nothing → Touches ps t → Kept ps ps' → Touches ps' t
+kept_touched ps ps' t m h k = record {
+  good = k.good;
+  paths = λ f. rw k.paths (h.paths f);
+  moves = (λ _. works_move_outside ps' k.works, λ _. h.moves.1 (works_move_outside ps (h.works.0 m)));
+  works = (λ _. k.works, λ _. m);
+}
+
+pub stay_touched : (t u : TouchedPaths) → MoveNothing t u → StayTouched t u
+stay_touched t u m xs ys ys' xs' a b c =
+    let k = lists_kept c a.good (a.works.0 m.0) b.good (b.works.0 m.1) in
+    (kept_touched xs xs' t m.0 a k.0, kept_touched ys ys' u m.1 b k.1)
 
 -- whether a list touches this, asked of each of its primitives and of each path
 contains_one : (g f : Path) → Contains (g ∷ []) f → g ≡ f
@@ -256,12 +345,13 @@ module _ {Z : Type 0} (P : Prim → Type 0) (ps : List (code.Primitive Z)) (i : 
   pub all_prims : length ps ≤ i → All P (take i (prims_of ps)) → All P (prims_of ps)
   all_prims l h = rw (take_all i (prims_of ps) (rw (count_of ps) l)) at h
 
-pub touches_where : (ps : List Prim) (paths : List Path) (moves outside : Bool) → All IsGoodPrim ps → All (NamesAmong paths) ps → All (IsNamedAmong ps) paths → IsTrue outside ↔ All MovesOutside ps →
-    outside ≡ moves → Touches ps (record { paths = paths; moves_outside = moves })
-touches_where ps paths moves outside good among named out e = record {
+pub touches_where : (ps : List Prim) (paths : List Path) (moves outside still work : Bool) → All IsGoodPrim ps → All (NamesAmong paths) ps → All (IsNamedAmong ps) paths → IsTrue outside ↔ All MovesOutside ps →
+    outside ≡ moves → IsTrue work ↔ All IsWork ps → work ≡ still → Touches ps (record { paths = paths; moves_outside = moves; moves_nothing = still })
+touches_where ps paths moves outside still work good among named out e all f = record {
   good = good;
   paths = λ f. (λ c. (holds_of (IsNamedAmong ps) paths named c).named, among_all paths ps among f);
   moves = rw (← e) out;
+  works = rw (← f) all;
 }
 
 pub touches_among : (ps : List Prim) (t : TouchedPaths) → Touches ps t → All (NamesAmong t.paths) ps
@@ -306,3 +396,15 @@ beq_true true true e = refl
 beq_true true false e = sym e
 beq_true false true e = e
 beq_true false false e = refl
+
+pub beq_not : (a b : Bool) → not (beq a b) ≡ false → a ≡ b
+beq_not true true e = refl
+beq_not true false e = e
+beq_not false true e = sym e
+beq_not false false e = refl
+
+pub beq_differ : (a b : Bool) → not (beq a b) ≡ true → a ≢ b
+beq_differ true true e d = absurd (cc e)
+beq_differ true false e d = absurd (cc d)
+beq_differ false true e d = absurd (cc d)
+beq_differ false false e d = absurd (cc e)

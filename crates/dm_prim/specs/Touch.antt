@@ -4,6 +4,7 @@ use Rattle.std.specs.List.{All, Contains}
 use Rattle.dm_tree.specs.Paths.{Path, Apart}
 use Rattle.dm_prim.specs.Primitives.{Prim, At, Move, inv_all}
 use Rattle.dm_prim.specs.Commuting.{IsGoodPrim, ListsCommute}
+use Rattle.dm_prim.specs.Prims.{IsWork}
 
 -- the paths that a primitive names
 abbrev pub paths_of : Prim → List Path
@@ -25,12 +26,15 @@ pub record TouchedPaths : Type 0 where
   pub paths : List Path
   -- whether each of its moves leads outside of what it moves
   pub moves_outside : Bool
+  -- whether none of it is a move
+  pub moves_nothing : Bool
 
 -- that is known of this list, whose primitives are good
 pub record Touches (ps : List Prim) (t : TouchedPaths) : Type 0 where
   pub good : All IsGoodPrim ps
   pub paths : (f : Path) → Contains t.paths f ↔ IsTouched ps f
   pub moves : IsTrue t.moves_outside ↔ All MovesOutside ps
+  pub works : IsTrue t.moves_nothing ↔ All IsWork ps
 
 -- the path neither is, nor is inside, nor contains one of these
 pub record IsApartFrom (others : List Path) (f : Path) : Type 0 where
@@ -43,6 +47,14 @@ AreApart t u = IsTrue t.moves_outside × IsTrue u.moves_outside × All (IsApartF
 -- lists that touch this commute, and stay as they are
 abbrev pub PassUnchanged : TouchedPaths → TouchedPaths → Type 0
 PassUnchanged t u = (xs ys : List Prim) → Touches xs t → Touches ys u → ListsCommute xs ys ys xs
+
+-- none of either is a move
+abbrev pub MoveNothing : TouchedPaths → TouchedPaths → Type 0
+MoveNothing t u = IsTrue t.moves_nothing × IsTrue u.moves_nothing
+
+-- where lists that touch this commute, each touches afterwards what it did before
+abbrev pub StayTouched : TouchedPaths → TouchedPaths → Type 0
+StayTouched t u = (xs ys ys' xs' : List Prim) → Touches xs t → Touches ys u → ListsCommute xs ys ys' xs' → Touches xs' t × Touches ys' u
 
 -- the list that touched the one touches the other with this primitive more
 abbrev pub TouchesMore : Prim → TouchedPaths → TouchedPaths → Type 0

@@ -2,8 +2,8 @@
 ghost use Rattle.std.specs.Prelude.{◌≡◌, ◌↔◌, ◌++◌, ◌∷◌, [], All, Contains, IfOk, OnOk, IsTrue};
 ghost use Rattle.dm_tree.specs.Paths.{Path as TreePath};
 ghost use Rattle.dm_prim.specs.Commuting.{IsGoodPrim};
-ghost use Rattle.dm_prim.specs.Prims.{prim_of, prims_of};
-ghost use Rattle.dm_prim.specs.Touch.{AreApart, IsApartFrom, IsNamedAmong, IsTouched, MovesOutside, NamesAmong, PassUnchanged, Touches, TouchesMore};
+ghost use Rattle.dm_prim.specs.Prims.{IsWork, prim_of, prims_of};
+ghost use Rattle.dm_prim.specs.Touch.{AreApart, IsApartFrom, IsNamedAmong, IsTouched, MoveNothing, MovesOutside, NamesAmong, PassUnchanged, StayTouched, Touches, TouchesMore};
 
 use crate::pair::are_apart;
 use crate::primitive::Primitive;
@@ -11,11 +11,13 @@ use dm_tree::Path;
 use std::alloc::{AllocError, Allocator};
 use std::marker::Model;
 
-/// The paths that a list of primitives names, and whether each of its moves leads outside of what it moves.
+/// The paths that a list of primitives names, whether each of its moves leads outside of what it moves, and whether it has
+/// no move at all.
 #[derive(Drop)]
 pub struct Touched<A: Allocator> {
     paths: Vec<Path<A>, A>,
     moves_outside: bool,
+    moves_nothing: bool,
 }
 
 impl<A: Allocator> Model for Touched<A> {
@@ -23,7 +25,7 @@ impl<A: Allocator> Model for Touched<A> {
 
     ghost Value = { TouchedPaths };
 
-    ghost view = { λ t. record { paths = t.paths.items; moves_outside = t.moves_outside } };
+    ghost view = { λ t. record { paths = t.paths.items; moves_outside = t.moves_outside; moves_nothing = t.moves_nothing } };
 }
 
 impl<A: Allocator + Copy> Touched<A> {
@@ -35,6 +37,7 @@ impl<A: Allocator + Copy> Touched<A> {
         add_path(&mut self.paths, prim.path())?;
         if let Some(target) = prim.target() {
             add_path(&mut self.paths, target)?;
+            self.moves_nothing = false;
             if !are_apart(prim.path(), target) {
                 self.moves_outside = false;
             }
@@ -55,21 +58,34 @@ impl<A: Allocator> Touched<A> {
         if !are_all_named(&self.paths, prims) {
             return false;
         }
-        all_move_outside(prims) == self.moves_outside
+        if all_move_outside(prims) != self.moves_outside {
+            return false;
+        }
+        all_work(prims) == self.moves_nothing
+    }
+
+    /// Whether neither of two lists that touch this has a move: where they commute, both go on touching what they did, and
+    /// neither has to be asked. Takes no memory.
+    pub fn stays_with<B: Allocator>(&self, other: &Touched<B>) -> bool
+        ensures moves_nothing { IsTrue result ↔ MoveNothing self.now other.now }
+        ensures stays { IsTrue result → StayTouched self.now other.now }
+    {
+        if !self.moves_nothing {
+            return false;
+        }
+        other.moves_nothing
     }
 }
 
-/// Adds a path, unless it is the last one there: the primitives of a patch often work at one path in turn.
+/// Adds a path, unless it is one of the last two there: the primitives of a patch often work at one path in turn, or at two.
 fn add_path<A: Allocator + Copy, B: Allocator>(
     paths: &mut Vec<Path<A>, A>,
     path: &Path<B>,
 ) -> Result<(), AllocError>
     ensures { OnOk result ((f : TreePath) → Contains paths.new.items f ↔ Contains (paths.old.items ++ path.now ∷ []) f) }
 {
-    if let Some(last) = paths.last() {
-        if last.same(path) {
-            return Ok(());
-        }
+    if is_recent(path, paths) {
+        return Ok(());
     }
     let alloc = *paths.allocator();
     let copy = path.copy_into(alloc)?;
@@ -87,6 +103,7 @@ pub fn touch<A: Allocator, B: Allocator + Copy>(
     let mut touched = Touched {
         paths: Vec::new(alloc),
         moves_outside: true,
+        moves_nothing: true,
     };
     for prim in prims {
         touched.add(prim)?;
@@ -108,6 +125,14 @@ fn is_among<A: Allocator, B: Allocator>(path: &Path<A>, paths: &[Path<B>]) -> bo
     ensures { IsTrue result ↔ Contains paths.now path.now }
 {
     paths.iter().any(|other| other.same(path))
+}
+
+/// Whether a path is one of the last two of these.
+fn is_recent<A: Allocator, B: Allocator>(path: &Path<A>, paths: &[Path<B>]) -> bool
+    ensures { IsTrue result → Contains paths.now path.now }
+{
+    let from = paths.len().saturating_sub(2);
+    is_among(path, &paths[from..])
 }
 
 /// Whether all that a primitive names is among these paths.
@@ -188,6 +213,28 @@ fn all_move_outside<A: Allocator>(prims: &[Primitive<A>]) -> bool
 {
     for prim in prims {
         if !moves_outside(prim) {
+            return false;
+        }
+    }
+    true
+}
+
+/// Whether a primitive is no move.
+fn is_work<A: Allocator>(prim: &Primitive<A>) -> bool
+    ensures { IsTrue result ↔ IsWork (prim_of prim.now) }
+{
+    match prim.target() {
+        Some(_) => false,
+        None => true,
+    }
+}
+
+/// Whether no primitive of these is a move.
+fn all_work<A: Allocator>(prims: &[Primitive<A>]) -> bool
+    ensures { IsTrue result ↔ All IsWork (prims_of prims.now) }
+{
+    for prim in prims {
+        if !is_work(prim) {
             return false;
         }
     }

@@ -32,6 +32,36 @@ move a/b a past addfile z because the move leads above what it moves
 addfile y then move a a past addfile z because the second of two leads nowhere
 ";
 
+const WITHOUT_MOVES: &str = "
+hunk f 1 1 1 past hunk f 9 0 1 because the first stands above the second
+hunk f 9 0 1 then hunk g 1 1 0 past hunk f 1 1 1 then addfile h because the hunks of the one file are far from each other
+nothing past nothing because neither has anything
+";
+
+const WITH_MOVES: &str = "
+hunk a/x 1 1 1 past move a b because the second leads elsewhere
+move a b past hunk b/x 1 0 1 because the first leads elsewhere
+hunk f 1 1 1 then move a b past hunk c 1 0 1 because the second of the first list is a move
+";
+
+/// Whether what the two lists of the line touch stays when they commute; then it is what they touch afterwards.
+fn touch_stays<A: Allocator + Copy>(rt: &impl Abort, alloc: A, line: &str) -> Result<bool, Fail> {
+    let lists = read(alloc, line)?;
+    let (Some(xs), Some(ys)) = (lists.get(0), lists.get(1)) else {
+        return Err(AllocError)?;
+    };
+    let (first, second) = (touch(alloc, xs)?, touch(alloc, ys)?);
+    let answer = first.stays_with(&second);
+    if answer {
+        let pair = commute_lists(alloc, xs, ys)?;
+        assert!(rt;
+            pair.is_some_and(|(ys, xs)| first.is_of(&xs) && second.is_of(&ys)),
+            "after they commute: {line}"
+        );
+    }
+    Ok(answer)
+}
+
 /// Whether the two lists of the line are apart; then they also commute, and stay as they are.
 fn are_apart<A: Allocator + Copy>(rt: &impl Abort, alloc: A, line: &str) -> Result<bool, Fail> {
     let lists = read(alloc, line)?;
@@ -62,6 +92,24 @@ fn lists_are_apart_where_no_paths_meet<A: Allocator + Copy>(
         assert!(rt; !are_apart(rt, alloc, line)?, "not apart: {line}");
     }
     Ok(())
+}
+
+fn what_lists_without_moves_touch_stays<A: Allocator + Copy>(
+    rt: &impl Abort,
+    alloc: A,
+) -> Result<(), Fail> {
+    for line in WITHOUT_MOVES.trim().lines() {
+        assert!(rt; touch_stays(rt, alloc, line)?, "stays: {line}");
+    }
+    for line in WITH_MOVES.trim().lines() {
+        assert!(rt; !touch_stays(rt, alloc, line)?, "may change: {line}");
+    }
+    Ok(())
+}
+
+#[test]
+fn what_lists_touch_after_a_commute(rt: HostRuntime) -> Result<(), Fail> {
+    what_lists_without_moves_touch_stays(&rt, rt.alloc())
 }
 
 #[test]

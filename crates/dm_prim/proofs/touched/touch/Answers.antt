@@ -7,7 +7,7 @@ use Rattle.dm_prim.proofs.TouchLemmas.{touches_none}
 use Rattle.dm_prim.proofs.touched.touch.Goals as goal
 
 pub loop-prim-init : goal.loop-prim-init
-loop-prim-init g c = touches_none c.new.ensures.items refl
+loop-prim-init g c = touches_none c.new.ensures.items refl refl
 
 pub loop-prim-preserved : goal.loop-prim-preserved
 loop-prim-preserved g c =

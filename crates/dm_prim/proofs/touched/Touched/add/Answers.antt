@@ -1,37 +1,40 @@
 use Rattle.std.proofs.Common.{◌∷◌, [], ◌++◌, ◌∙◌, ◌↔◌, ap, sym, refl, subst, false, Contains}
 use Rattle.dm_prim.specs.Prims.{prim_of, path_of}
 use Rattle.dm_prim.specs.Touch.{TouchedPaths}
-use Rattle.dm_prim.proofs.TouchLemmas.{touches_more, two_more, paths_of_work, work_moves_outside, paths_of_move, move_moves_outside}
+use Rattle.dm_prim.proofs.TouchLemmas.{touches_more, two_more, paths_of_work, work_moves_outside, paths_of_move, move_moves_outside, move_moves_something}
 use Rattle.dm_prim.proofs.touched.Touched.add.Goals as goal
 
 pub returns-then-not-are_apart : goal.returns-then-not-are_apart
 returns-then-not-are_apart g c =
     let p = prim_of c.args.prim.now in
-    let t : TouchedPaths = record { paths = c.self.inside.paths.items; moves_outside = c.self.inside.moves_outside } in
+    let t : TouchedPaths = record { paths = c.self.inside.paths.items; moves_outside = c.self.inside.moves_outside; moves_nothing = c.self.inside.moves_nothing } in
     let one = c.add_path.new.paths.items in
     let two = c.add_path-in-Some.new.paths.items in
     let to = c.in-Some.target.now in
-    λ ps h. touches_more p t two false c.tells_good.ensures
+    λ ps h. touches_more p t two false false c.tells_good.ensures
     (λ f. subst (λ z. Contains two f ↔ Contains (t.paths ++ z) f) (ap (λ z. z ∷ to ∷ []) c.path.ensures ∙ sym (paths_of_move p (path_of p) to c.in-Some.ensures))
     (two_more t.paths one two c.path.result.now to c.in_ok-add_path.ensures c.in_ok-add_path-2.ensures f))
-    (λ x. cc, λ x. absurd (cc (c.if-not-are_apart.ensures.1 (rw c.path-in-Some.ensures ((move_moves_outside p (path_of p) to c.in-Some.ensures).0 x.1))))) ps (rw (← c.self.view_is) at h)
+    (λ x. cc, λ x. absurd (cc (c.if-not-are_apart.ensures.1 (rw c.path-in-Some.ensures ((move_moves_outside p (path_of p) to c.in-Some.ensures).0 x.1)))))
+    (move_moves_something p (path_of p) to c.in-Some.ensures) ps (rw (← c.self.view_is) at h)
 
 pub returns-else-not-are_apart : goal.returns-else-not-are_apart
 returns-else-not-are_apart g c =
     let p = prim_of c.args.prim.now in
-    let t : TouchedPaths = record { paths = c.self.inside.paths.items; moves_outside = c.self.inside.moves_outside } in
+    let t : TouchedPaths = record { paths = c.self.inside.paths.items; moves_outside = c.self.inside.moves_outside; moves_nothing = c.self.inside.moves_nothing } in
     let one = c.add_path.new.paths.items in
     let two = c.add_path-in-Some.new.paths.items in
     let to = c.in-Some.target.now in
-    λ ps h. touches_more p t two c.self.inside.moves_outside c.tells_good.ensures
+    λ ps h. touches_more p t two c.self.inside.moves_outside false c.tells_good.ensures
     (λ f. subst (λ z. Contains two f ↔ Contains (t.paths ++ z) f) (ap (λ z. z ∷ to ∷ []) c.path.ensures ∙ sym (paths_of_move p (path_of p) to c.in-Some.ensures))
     (two_more t.paths one two c.path.result.now to c.in_ok-add_path.ensures c.in_ok-add_path-2.ensures f))
-    (λ m. (m, (move_moves_outside p (path_of p) to c.in-Some.ensures).1 (rw c.path-in-Some.ensures at (c.if-not-are_apart.ensures.0 refl))), λ x. x.0) ps (rw (← c.self.view_is) at h)
+    (λ m. (m, (move_moves_outside p (path_of p) to c.in-Some.ensures).1 (rw c.path-in-Some.ensures at (c.if-not-are_apart.ensures.0 refl))), λ x. x.0)
+    (move_moves_something p (path_of p) to c.in-Some.ensures) ps (rw (← c.self.view_is) at h)
 
 pub returns-in_default : goal.returns-in_default
 returns-in_default g c =
     let p = prim_of c.args.prim.now in
-    let t : TouchedPaths = record { paths = c.self.inside.paths.items; moves_outside = c.self.inside.moves_outside } in
-    λ ps h. touches_more p t c.add_path.new.paths.items c.self.inside.moves_outside c.tells_good.ensures
+    let t : TouchedPaths = record { paths = c.self.inside.paths.items; moves_outside = c.self.inside.moves_outside; moves_nothing = c.self.inside.moves_nothing } in
+    λ ps h. touches_more p t c.add_path.new.paths.items c.self.inside.moves_outside c.self.inside.moves_nothing c.tells_good.ensures
     (λ f. subst (λ z. Contains c.add_path.new.paths.items f ↔ Contains (t.paths ++ z) f) (ap (λ z. z ∷ []) c.path.ensures ∙ sym (paths_of_work p c.in_default.ensures)) (c.in_ok-add_path.ensures f))
-    (λ m. (m, work_moves_outside p c.in_default.ensures), λ x. x.0) ps (rw (← c.self.view_is) at h)
+    (λ m. (m, work_moves_outside p c.in_default.ensures), λ x. x.0)
+    (λ m. (m, c.in_default.ensures), λ x. x.0) ps (rw (← c.self.view_is) at h)
