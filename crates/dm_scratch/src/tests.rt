@@ -234,60 +234,123 @@ fn filled(arena: &Bump<Global>, room: usize) -> Result<Vec<u8, &Bump<Global>>, F
     Ok(Vec::with_capacity(arena, rest)?)
 }
 
-/// Takes `TWO` and then a text, where the heap of the trial or that of the repository has so much room for the second. Answers
+/// A text in which `|` is a newline, `%N` the heading and an empty line, `%C` an empty line, the word of the
+/// context and an empty line, `(x)` the patch info with the name `x` and the space after it, and `%F` the
+/// patch (a) that adds the file `./f` of the lines 1 to 5.
+fn text_of(alloc: Global, row: &str) -> Result<Vec<u8>, Fail> {
+    let row = row.as_bytes();
+    let mut text = Vec::new(alloc);
+    let mut i = 0;
+    while i < row.len() {
+        let rest = &row[i..];
+        if rest.starts_with(b"%N") {
+            text.extend_from_slice(b"New patches:\n\n")?;
+            i += 2;
+        } else if rest.starts_with(b"%C") {
+            text.extend_from_slice(b"\nContext:\n\n")?;
+            i += 2;
+        } else if rest.starts_with(b"%F") {
+            text.extend_from_slice(
+                b"[a\np**20240101000000] {\naddfile ./f\nhunk ./f 1\n+1\n+2\n+3\n+4\n+5\n}\n",
+            )?;
+            i += 2;
+        } else if rest.len() > 2 && rest[0] == b'(' && rest[2] == b')' {
+            text.push(b'[')?;
+            text.push(rest[1])?;
+            text.extend_from_slice(b"\np**20240101000000] ")?;
+            i += 3;
+        } else if rest[0] == b'|' {
+            text.push(b'\n')?;
+            i += 1;
+        } else {
+            text.push(rest[0])?;
+            i += 1;
+        }
+    }
+    Ok(text)
+}
+
+/// Takes a base and then a text, where the heap of the trial or that of the repository has so much room for the second. Answers
 /// whether memory ran out: then nothing was appended, and the verdict comes with enough memory.
 fn is_refused(
     rt: &impl Abort,
     alloc: Global,
     rooms: (usize, usize),
+    base: &[u8],
     text: &[u8],
-    wanted: Verdict,
+    wanted: &str,
 ) -> Result<bool, Fail> {
     let held = Bump::try_with_capacity(alloc, 64000)?;
     let tried = Bump::try_with_capacity(alloc, 64000)?;
     let mut repo = Repo::new(&held);
-    take(&mut repo, &mut Bump::new(alloc), TWO);
+    take(&mut repo, &mut Bump::new(alloc), base);
+    let before = repo.len();
     let _held = filled(&held, rooms.0)?;
     let _tried = filled(&tried, rooms.1)?;
     let mut trial = Bump::new(&tried);
-    let verdict = take(&mut repo, &mut trial, text);
-    if verdict == wanted {
-        return Ok(false);
+    let mut verdict = take(&mut repo, &mut trial, text);
+    let is_refused = verdict == Verdict::Refused(Refusal::NoMemory);
+    if is_refused {
+        assert_eq!(rt;
+            repo.len(),
+            before,
+            "nothing was appended with {rooms:?} bytes"
+        );
+        held.set_allocation_limit(None);
+        tried.set_allocation_limit(None);
+        verdict = take(&mut repo, &mut trial, text);
     }
-    assert_eq!(rt;
-        verdict,
-        Verdict::Refused(Refusal::NoMemory),
-        "with {rooms:?} bytes"
-    );
-    assert_eq!(rt; repo.len(), 2, "nothing was appended with {rooms:?} bytes");
-    held.set_allocation_limit(None);
-    tried.set_allocation_limit(None);
-    assert_eq!(rt;
-        take(&mut repo, &mut trial, text),
-        wanted,
-        "with enough memory"
-    );
-    Ok(true)
+    let line = format!(in alloc; "{verdict}")?;
+    assert_eq!(rt; line.as_str(), wanted, "with {rooms:?} bytes");
+    Ok(is_refused)
+}
+
+/// What a row shows, the base, the bundle that is taken after it, and the verdict.
+const REFUSED_GROWTHS: &str =
+    r"a hunk that moves: %N%F(m)hunk ./f 1|+x|+y|%C => %N(n)hunk ./f 5|-5|+five|%C(a)| => taken 1
+a hunk that moves twice: %N%F(m)hunk ./f 1|+x|+y|(h)hunk ./f 1|-x|%C => %N(n)hunk ./f 5|-5|+five|%C(a)| => taken 1
+a conflict: %N%F(m)hunk ./f 2|+z|%C => %N(n)hunk ./f 2|-2|+two|%C(a)| => refused conflicts 0 1
+a context that stops at a tag: %N(a)adddir ./d|(t)<|(a)|> {|}|%C => %N(n)adddir ./d/e|%C(t)| => taken 1
+held in part, with a dependency: %N(a)adddir ./d|(t)<|(a)|> {|}|%C => %N(a)adddir ./d|(b)<|(a)|> adddir ./e|%C => taken 1
+a dependency that is held and one that isn't: %N(a)adddir ./d|(t)<|(a)|> {|}|%C => %N(b)<|(a)|(z)|> adddir ./e|%C(t)| => refused missing-dependency 0 1
+";
+
+/// How often `text` is refused for want of memory, with ever more room in the heap of the trial or in that of the repository, until
+/// it isn't.
+fn count_refused(
+    rt: &impl Abort,
+    alloc: Global,
+    in_trial: bool,
+    base: &[u8],
+    text: &[u8],
+    wanted: &str,
+) -> Result<usize, Fail> {
+    for step in 0..1024usize {
+        let rooms = if in_trial {
+            (60000, 32 * step)
+        } else {
+            (16 * step, 60000)
+        };
+        if !is_refused(rt, alloc, rooms, base, text, wanted)? {
+            return Ok(step);
+        }
+    }
+    Err("refused with each room".into())
 }
 
 #[test]
 fn each_growth_of_a_taking_refused(rt: HostRuntime) -> Result<(), Fail> {
-    let conflict = Verdict::Refused(Refusal::Conflicts(0, 1));
-    for (text, wanted) in [(COMMUTES, Verdict::Taken(1)), (CONFLICTS, conflict)] {
-        let (mut of_trial, mut of_repo) = (0u32, 0u32);
-        for step in 0..1024usize {
-            if is_refused(&rt, rt.alloc(), (60000, 32 * step), text, wanted)? {
-                of_trial = of_trial.saturating_add(1);
-            }
-            if is_refused(&rt, rt.alloc(), (16 * step, 60000), text, wanted)? {
-                of_repo = of_repo.saturating_add(1);
-            }
+    let alloc = rt.alloc();
+    for line in REFUSED_GROWTHS.lines() {
+        let (what, row) = line.split_once(": ").ok_or("what the row shows")?;
+        let (base, row) = row.split_once(" => ").ok_or("a base")?;
+        let (text, wanted) = row.split_once(" => ").ok_or("a bundle")?;
+        let base = text_of(alloc, base)?;
+        let text = text_of(alloc, text)?;
+        for in_trial in [false, true] {
+            let count = count_refused(&rt, alloc, in_trial, &base, &text, wanted)?;
+            assert!(rt; count > 0, "{what}: nothing was refused");
         }
-        assert!(rt; of_trial > 0 && of_trial < 1024, "in the trial: {of_trial}");
-        assert!(rt;
-            of_repo > 0 && of_repo < 1024,
-            "in the repository: {of_repo}"
-        );
     }
     Ok(())
 }
