@@ -6,7 +6,11 @@ use Rattle.std.specs.Prelude.{sum_by}
 use Rattle.std.proofs.Math.Seq.{take-add, take-append-add, drop-append-add}
 use Rattle.std.proofs.lemmas.List.Sums.{sum_by-append}
 use Rattle.dm_tree.specs.Trees.{Lines}
-use Rattle.dm_tree.specs.Files.{joined, Locates, HasLine}
+use Rattle.dm_tree.specs.Files.{joined, lines_of, Locates, HasLine}
+
+pub lines_of-joined : (ps : List Lines) → 0 < length ps → lines_of ps ≡ joined ps
+lines_of-joined [] l = absurd (omega (arith, l))
+lines_of-joined (p ∷ ps) l = refl
 
 pub joined-append : (ps qs : List Lines) → joined (ps ++ qs) ≡ joined ps ++ joined qs
 joined-append [] qs = refl

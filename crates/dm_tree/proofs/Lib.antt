@@ -1,4 +1,5 @@
 pub mod Adds
+mod Blank
 pub mod Borrowed
 pub mod Chained
 pub mod Children

@@ -7,6 +7,11 @@ abbrev pub joined : List Lines → Lines
 joined [] = []
 joined (p ∷ ps) = p ++ joined ps
 
+-- the lines of a file in these parts: with no part it is empty, and has one line without a byte
+abbrev pub lines_of : List Lines → Lines
+lines_of [] = [] ∷ []
+lines_of (p ∷ ps) = joined (p ∷ ps)
+
 -- the place `at` of all lines is the one at `line` of part k, or right behind that part's last line
 abbrev pub Locates : List Lines → ℕ → ℕ → ℕ → Type 0
 Locates ps at k line = (k < length ps) × (line ≤ length (slice_index_or ps k [])) × (at ≡ length (joined (take k ps)) + line)

@@ -1,6 +1,7 @@
 //! A file's lines.
 ghost use Rattle.std.specs.Prelude.{◌≡◌, ◌↔◌, ◌+◌, ◌-◌, ◌<◌, ◌≤◌, ◌∷◌, [], length, drop, IsTrue, IfOk, OnOk, OnErr, slice_index_or};
 ghost use Rattle.std.specs.List.{splice};
+ghost use Rattle.dm_tree.specs.Files.{lines_of};
 ghost use Rattle.dm_tree.specs.Listings.{file_size};
 ghost use Rattle.dm_tree.specs.Paths.{Under};
 
@@ -10,7 +11,7 @@ use std::alloc::{AllocError, Allocator};
 use std::marker::Model;
 
 /// A file's lines, held as a list of short texts: an edit moves the bytes of one of them, and a
-/// line costs 8 bytes beside its own.
+/// line costs 8 bytes beside its own. An empty file has none of them, and takes no memory.
 #[derive(Drop)]
 pub(crate) struct File<A: Allocator> {
     parts: Vec<Text<A>, A>,
@@ -18,26 +19,25 @@ pub(crate) struct File<A: Allocator> {
 }
 
 impl<A: Allocator> Model for File<A> {
-    ghost use Rattle.std.specs.Prelude.{◌≡◌, ◌<◌, List, ℕ, length};
-    ghost use Rattle.dm_tree.specs.Files.{joined};
+    ghost use Rattle.std.specs.Prelude.{◌≡◌, List, ℕ, length};
+    ghost use Rattle.dm_tree.specs.Files.{lines_of};
 
     ghost Value = { List (List ℕ) };
 
-    ghost view = { λ a. joined a.parts.items };
+    ghost view = { λ a. lines_of a.parts.items };
 
-    ghost invariant = { λ a. (0 < length a.parts.items) × (a.count ≡ length (joined a.parts.items)) };
+    ghost invariant = { λ a. a.count ≡ length (lines_of a.parts.items) };
 }
 
 impl<A: Allocator + Copy> File<A> {
-    /// A file of one line with no byte, with no room to spare.
-    pub(crate) fn blank(alloc: A) -> Result<File<A>, AllocError>
-        ensures { IfOk result (λ r. r ≡ [] ∷ []) }
+    /// A file of one line with no byte; takes no memory.
+    pub(crate) fn blank(alloc: A) -> File<A>
+        ensures { result ≡ [] ∷ [] }
     {
-        let mut text = Text::with_room(alloc, 1, 0)?;
-        text.push(&[])?;
-        let mut parts = Vec::with_capacity(alloc, 1)?;
-        parts.push(text)?;
-        Ok(File { parts, count: 1 })
+        File {
+            parts: Vec::new(alloc),
+            count: 1,
+        }
     }
 
     /// Puts copies of the fresh lines in place of those from `start` to before `end`.
@@ -54,6 +54,7 @@ impl<A: Allocator + Copy> File<A> {
     {
         let alloc = *self.parts.allocator();
         let count = sum(alloc, self.count - (end - start), fresh.len())?;
+        make_part(&mut self.parts)?;
         replace(&mut self.parts, start, end, fresh)?;
         self.count = count;
         Ok(())
@@ -81,7 +82,7 @@ impl<A: Allocator> File<A> {
         ensures { result.now ≡ slice_index_or self.now i [] }
     {
         let Some(place) = find(&self.parts, i) else {
-            unreachable!()
+            return &[];
         };
         self.parts[place.part].line(place.line)
     }
@@ -91,8 +92,12 @@ impl<A: Allocator> File<A> {
         requires { start ≤ length self.now }
         ensures { IsTrue result ↔ Under (drop start self.now) text.now }
     {
-        let place = seek(&self.parts, start);
-        stands(&self.parts[place.part..], place.line, &text.all())
+        let parts = self.parts.as_slice();
+        if parts.is_empty() {
+            return blank_begins(start, text);
+        }
+        let place = seek(parts, start);
+        stands(&parts[place.part..], place.line, &text.all())
     }
 
     /// The size of the file in bytes: its lines, and a newline between each two.
@@ -113,6 +118,38 @@ impl<A: Allocator> File<A> {
             count: self.count,
         })
     }
+}
+
+/// An empty file, which has no part, gets one, of its one line.
+fn make_part<A: Allocator + Copy>(parts: &mut Vec<Text<A>, A>) -> Result<(), AllocError>
+    ensures some { OnOk result (0 < length parts.new.items) }
+    ensures lines { lines_of parts.new.items ≡ lines_of parts.old.items }
+{
+    if !parts.is_empty() {
+        return Ok(());
+    }
+    let mut text = Text::with_room(*parts.allocator(), 1, 0)?;
+    text.push(&[])?;
+    parts.reserve_exact(1)?;
+    parts.push(text)?;
+    Ok(())
+}
+
+/// Whether an empty file's lines from `start` on begin with all those of the text.
+fn blank_begins<A: Allocator>(start: usize, text: &Text<A>) -> bool
+    requires { start ≤ 1 }
+    ensures { IsTrue result ↔ Under (drop start ([] ∷ [])) text.now }
+{
+    if text.is_empty() {
+        return true;
+    }
+    if start > 0 {
+        return false;
+    }
+    if text.len() > 1 {
+        return false;
+    }
+    text.line(0).is_empty()
 }
 
 /// The sum of two counts. Where it is no count, there is not as much memory.

@@ -120,7 +120,7 @@ fn make_leaf<A: Allocator + Copy>(alloc: A, name: &[u8], leaf: Leaf) -> Result<N
     let name = Bytes::from_slice(alloc, name)?;
     let body = match leaf {
         Leaf::Folder => Body::Children(Vec::new(alloc)),
-        Leaf::Empty => Body::Text(File::blank(alloc)?),
+        Leaf::Empty => Body::Text(File::blank(alloc)),
     };
     Ok(Node { name, body })
 }

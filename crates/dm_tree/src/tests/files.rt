@@ -79,7 +79,7 @@ pub(super) fn all<A: Allocator + Copy, B: Allocator + Copy>(
     alloc: A,
     other: B,
 ) -> Result<(), Fail> {
-    let mut file = File::blank(alloc)?;
+    let mut file = File::blank(alloc);
     let mut text = some_lines(other, 1)?;
     for row in EDITS.lines() {
         let (what, edit) = row.split_once(": ").ok_or("what the row shows")?;
