@@ -1,6 +1,6 @@
 -- Whether one path begins with another, and what is left of it then.
 use Rattle.std.proofs.Common.{◌≡◌, ℕ, ◌+◌, ◌-◌, ◌<◌, ◌≤◌, [], ◌∷◌, ◌++◌, take, drop, length, sym, ap, subst, ap₂, ◌∙◌, arith, take-append-drop, append-nil, Bool, false, IsTrue, ◌↔◌, length-append}
-use Rattle.std.proofs.lemmas.List.{take_all, take_rest}
+use Rattle.std.proofs.lemmas.List.{take_rest}
 use Rattle.std.proofs.lemmas.List.Prefix.{front_rest}
 use Rattle.dm_tree.specs.Paths.{Path, Under, Inside, forward}
 use Rattle.dm_tree.specs.Validity.{IsGoodPath}
@@ -10,8 +10,8 @@ use Rattle.dm_tree.proofs.Paths.{forward-under}
 pub refuted : {P : Type 0} → (IsTrue false ↔ P) → P → ⊥
 refuted h p = let t : IsTrue false = h.1 p in cc
 
-pub begins_all : (p q : Path) (n : ℕ) → n ≡ length q → take n p ≡ take n q → Under p q
-begins_all p q n e h = (drop n p, sym (take-append-drop n p) ∙ ap (λ f. f ++ drop n p) (h ∙ take_all n q (omega arith)))
+pub begins_all : (p q : Path) (i : ℕ) → i ≡ 0 → drop i (take (length q) p) ≡ drop i q → Under p q
+begins_all p q i e h = (drop (length q) p, sym (take-append-drop (length q) p) ∙ ap (λ f. f ++ drop (length q) p) (rw e at h))
 
 pub under_at : {r : Bool} (p p' a a' : Path) → p ≡ p' → a ≡ a' → (IsTrue r ↔ Under p a) → (IsTrue r ↔ Under p' a')
 under_at p p' a a' e f h = rw (e, f) at h

@@ -238,14 +238,15 @@ impl<A: Allocator> Path<A> {
     }
 }
 
-/// Whether the texts begin with all those of the front.
+/// Whether the texts begin with all those of the front. The last of the front is looked at first: the paths of
+/// one tree mostly share their first names.
 pub(crate) fn begins<A: Allocator, B: Allocator>(texts: &[Bytes<A>], front: &[Bytes<B>]) -> bool
     ensures { IsTrue result ↔ Under texts.now front.now }
 {
     if texts.len() < front.len() {
         return false;
     }
-    for i in 0..front.len() {
+    for i in (0..front.len()).rev() {
         if !is_same(texts[i].as_slice(), front[i].as_slice()) {
             return false;
         }

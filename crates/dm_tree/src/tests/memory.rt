@@ -3,6 +3,7 @@
 use super::paths::PATHS;
 use super::trees::{TREES, change};
 use super::*;
+use crate::file::File;
 use crate::{Lines, Tree};
 use std::alloc::Global;
 
@@ -64,6 +65,15 @@ fn refusals_take_no_memory(rt: HostRuntime) -> Result<(), Fail> {
     assert_eq!(rt; use_of(&arena), (0, 0), "nothing was taken");
     assert!(rt; lines.push(b"x").is_ok(), "a line");
     assert!(rt; use_of(&arena) != (0, 0), "a line takes memory");
+    Ok(())
+}
+
+#[test]
+fn an_empty_file_takes_no_memory(rt: HostRuntime) -> Result<(), Fail> {
+    let arena = Bump::new(rt.alloc());
+    let file = File::blank(&arena);
+    assert!(rt; file.is_blank(), "an empty file");
+    assert_eq!(rt; use_of(&arena), (0, 0), "nothing was taken");
     Ok(())
 }
 

@@ -1,5 +1,5 @@
-use Rattle.std.proofs.Common.{◌≡◌, take}
+use Rattle.std.proofs.Common.{◌≡◌, take, drop, length}
 use Rattle.dm_tree.proofs.path.begins.Given as goal
 
 abbrev pub invariant-loop-i : goal.invariant-loop-i
-invariant-loop-i g l = take l.i l.texts ≡ take l.i l.front
+invariant-loop-i g l = drop l.i (take (length l.front) l.texts) ≡ drop l.i l.front
