@@ -20,6 +20,3 @@ mod writing;
 pub use bundle::{Bundle, Doubled};
 pub use reading::{MOST_BYTES, read_bundle};
 pub use writing::write_bundle;
-
-#[cfg(test)]
-mod tests;

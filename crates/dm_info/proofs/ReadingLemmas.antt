@@ -178,6 +178,36 @@ spelled_by i own s = elim s [ inl e ↦ inl (ap (λ (l : List ℕ). opening i ++
 whole_is : (i : PatchInfo) (rest own : List ℕ) (text : List ℕ) → text ≡ 91 ∷ (i.name ++ 10 ∷ (i.author ++ 42 ∷ 42 ∷ (i.date ++ (own ++ rest)))) → text ≡ (opening i ++ own) ++ rest
 whole_is i rest own text e = e ∙ simp append_assoc
 
+-- what the steps of a reader find is the text of a patch info
+stands_by : (text inside : List ℕ) (name : Cut) (author after_author : List ℕ) (date : Cut) (log : List (List ℕ)) (rest : List ℕ)
+    → after 91 text ≡ Ok inside → cut is_newline inside ≡ Ok name → author_at name.rest ≡ Ok (author, after_author) → cut ends_date after_author ≡ Ok date
+    → end_at date ≡ Ok (log, rest) → Stands text (record { name = name.front; author = author; date = date.front; log = log }) rest
+stands_by text inside name author after_author date log rest e₀ e₁ e₂ e₃ e₄ =
+    let n = cut_takes is_newline inside name e₁ in
+    let a = author_takes name.rest author after_author e₂ in
+    let d = cut_takes ends_date after_author date e₃ in
+    let end = end_takes date log rest d.stops e₄ in
+    let found : PatchInfo = record { name = name.front; author = author; date = date.front; log = log } in
+    let start : text ≡ 91 ∷ (name.front ++ 10 ∷ (author ++ 42 ∷ 42 ∷ after_author)) = front_is text inside name author after_author (after_takes 91 text inside e₀) n.parts (byte_is name.byte 10 n.stops) a.0 in
+    let tail : after_author ≡ date.front ++ (end.own ++ rest) = d.parts ∙ ap (λ (l : List ℕ). date.front ++ l) end.parts in
+    record {
+      own = opening found ++ end.own;
+      good = record { name = n.free; author = a.1; date = d.free; log = end.free };
+      spelled = spelled_by found end.own end.spelled;
+      parts = whole_is found rest end.own text (start ∙ ap (λ (l : List ℕ). 91 ∷ (name.front ++ 10 ∷ (author ++ 42 ∷ 42 ∷ l))) tail);
+    }
+
+-- the last step of a reader
+ended_by : (text inside : List ℕ) (name : Cut) (author after_author : List ℕ) (date : Cut) (i : PatchInfo) (rest : List ℕ)
+    → after 91 text ≡ Ok inside → cut is_newline inside ≡ Ok name → author_at name.rest ≡ Ok (author, after_author) → cut ends_date after_author ≡ Ok date
+    → (end_at date >>= k₄ name (author, after_author) date) ≡ Ok (i, rest) → Stands text i rest
+unfolding k₄
+ended_by text inside name author after_author date i rest e₀ e₁ e₂ e₃ e =
+    let b = bind_ok (end_at date) (k₄ name (author, after_author) date) (i, rest) e in
+    let found : PatchInfo = record { name = name.front; author = author; date = date.front; log = b.0.0 } in
+    subst (λ (q : PatchInfo × List ℕ). Stands text q.0 q.1) (ok_is (found, b.0.1) (i, rest) b.2)
+    (stands_by text inside name author after_author date b.0.0 b.0.1 e₀ e₁ e₂ e₃ b.1)
+
 pub info_takes : (text : List ℕ) (i : PatchInfo) (rest : List ℕ) → info_at text ≡ Ok (i, rest) → Stands text i rest
 unfolding info_at k₀ k₁ k₂ k₃ k₄
 info_takes text i rest e =
@@ -185,22 +215,7 @@ info_takes text i rest e =
     let b₁ = bind_ok (cut is_newline b₀.0) k₁ (i, rest) b₀.2 in
     let b₂ = bind_ok (author_at b₁.0.rest) (k₂ b₁.0) (i, rest) b₁.2 in
     let b₃ = bind_ok (cut ends_date b₂.0.1) (k₃ b₁.0 b₂.0) (i, rest) b₂.2 in
-    let b₄ = bind_ok (end_at b₃.0) (k₄ b₁.0 b₂.0 b₃.0) (i, rest) b₃.2 in
-    let name = cut_takes is_newline b₀.0 b₁.0 b₁.1 in
-    let author = author_takes b₁.0.rest b₂.0.0 b₂.0.1 b₂.1 in
-    let date = cut_takes ends_date b₂.0.1 b₃.0 b₃.1 in
-    let end = end_takes b₃.0 b₄.0.0 b₄.0.1 date.stops b₄.1 in
-    let found : PatchInfo = record { name = b₁.0.front; author = b₂.0.0; date = b₃.0.front; log = b₄.0.0 } in
-    let start : text ≡ 91 ∷ (found.name ++ 10 ∷ (found.author ++ 42 ∷ 42 ∷ b₂.0.1)) = front_is text b₀.0 b₁.0 b₂.0.0 b₂.0.1 (after_takes 91 text b₀.0 b₀.1) name.parts (byte_is b₁.0.byte 10 name.stops) author.0 in
-    let tail : b₂.0.1 ≡ found.date ++ (end.own ++ b₄.0.1) = date.parts ∙ ap (λ (l : List ℕ). found.date ++ l) end.parts in
-    let all : text ≡ 91 ∷ (found.name ++ 10 ∷ (found.author ++ 42 ∷ 42 ∷ (found.date ++ (end.own ++ b₄.0.1)))) = start ∙ ap (λ (l : List ℕ). 91 ∷ (found.name ++ 10 ∷ (found.author ++ 42 ∷ 42 ∷ l))) tail in
-    subst (λ (q : PatchInfo × List ℕ). Stands text q.0 q.1) (ok_is (found, b₄.0.1) (i, rest) b₄.2)
-    (record {
-      own = opening found ++ end.own;
-      good = record { name = name.free; author = author.1; date = date.free; log = end.free };
-      spelled = spelled_by found end.own end.spelled;
-      parts = whole_is found b₄.0.1 end.own text all;
-    })
+    ended_by text b₀.0 b₁.0 b₂.0.0 b₂.0.1 b₃.0 i rest b₀.1 b₁.1 b₂.1 b₃.1 b₃.2
 
 -- the steps of a reader put together
 pub of_steps : (text inside name after_name author after_author date : List ℕ) (mark : ℕ) (after_date : List ℕ) (log : List (List ℕ)) (rest : List ℕ)

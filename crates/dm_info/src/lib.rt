@@ -12,8 +12,6 @@ mod info;
 pub mod laws;
 mod opening;
 mod reading;
-#[cfg(test)]
-mod tests;
 mod validity;
 mod writing;
 

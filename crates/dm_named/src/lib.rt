@@ -15,14 +15,12 @@ pub mod laws;
 mod named;
 mod passing;
 mod reading;
-#[cfg(test)]
-mod tests;
 pub mod text;
 mod writing;
 
 pub use commuting::commute_named;
 pub use fault::{FaultKind, ReadFault};
 pub use named::Named;
-pub use passing::{Passing, commute_named_in_place, commute_prims_in_place};
+pub use passing::{Passing, are_apart, commute_named_in_place, commute_prims_in_place};
 pub use reading::read_named;
 pub use writing::{push_named, write_named, write_path};

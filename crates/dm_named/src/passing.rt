@@ -141,6 +141,22 @@ fn commute_touching<A: Allocator + Copy>(
     commutes
 }
 
+/// Whether both touch nothing in common: then the primitives of both commute and stay as they are. What each touches is found
+/// out, unless that is known.
+pub fn are_apart<A: Allocator + Copy>(
+    alloc: A,
+    x: &mut Passing<A>,
+    y: &mut Passing<A>,
+) -> Result<bool, AllocError>
+    ensures x_same { x.new ≡ x.old }
+    ensures y_same { y.new ≡ y.old }
+    ensures prims { IfOk result (λ apart. IsTrue apart → ListsCommute x.old.prims y.old.prims y.old.prims x.old.prims) }
+{
+    x.find_touched(alloc)?;
+    y.find_touched(alloc)?;
+    Ok(x.is_apart_from(y))
+}
+
 /// The primitives of `x` then those of `y` become those of `y` then those of `x`, in place, and the answer says whether they
 /// commute; names and dependencies aren't asked. Where they touch nothing in common nothing is commuted. Where they don't
 /// commute, or memory runs out, both may be left without primitives.
@@ -155,9 +171,7 @@ pub fn commute_prims_in_place<A: Allocator + Copy>(
         (ListsCommute x.old.prims y.old.prims y.new.prims x.new.prims)
         ((ys' xs' : List Prim) → ListsCommute x.old.prims y.old.prims ys' xs' → ⊥)) }
 {
-    x.find_touched(alloc)?;
-    y.find_touched(alloc)?;
-    if x.is_apart_from(y) {
+    if are_apart(alloc, x, y)? {
         return Ok(true);
     }
     commute_touching(alloc, x, y)

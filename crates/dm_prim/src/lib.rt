@@ -17,8 +17,6 @@ mod list;
 mod pair;
 mod places;
 mod primitive;
-#[cfg(test)]
-mod tests;
 mod touched;
 
 pub use effect::{apply, apply_all};
