@@ -1,17 +1,20 @@
 -- Each step of the channel keeps its rule.
-use Rattle.std.proofs.Common.{◌≡◌, ◌≢◌, ℕ, zero, suc, ◌+◌, ◌<◌, ◌≤◌, Bool, true, false, true≢false, cond, eqb, List, [], ◌∷◌, ◌++◌, length, set, refl, sym, ap, ◌∙◌, subst, ◌⊎◌, inl, inr, ⊎_elim, arith, eq-eqb, ne_eqb}
+use Rattle.std.proofs.Common.{◌≡◌, ◌≢◌, ℕ, zero, suc, ◌+◌, ◌<◌, ◌≤◌, Bool, true, false, true≢false, cond, eqb, List, [], ◌∷◌, ◌++◌, length, set, refl, sym, ap, ◌∙◌, subst, ◌⊎◌, inl, inr, ⊎_elim, arith, eq-eqb, ne_eqb, length-append}
 use mathlib.Core.Option.{Option, some, none, some-injective, some-ne-none}
-use Rattle.std.proofs.lemmas.Bool.{cases_lt}
+use Rattle.std.specs.List.{Any, Contains}
+use Rattle.std.proofs.lemmas.Bool.{cases_eq, cases_lt}
+use Rattle.std.proofs.lemmas.List.{length-set, get_or-set_other, get_or_append_left}
+use Rattle.std.proofs.lemmas.List.Quantifiers.{any-set}
 use lib.ListN.{get_elem?}
 use Rattle.crossbeam_channel.specs.Fifo.{Pushes, Pops, Forks, Merges, Learns}
-use Rattle.atomic_table.proofs.Lists.{at_set}
+use Rattle.atomic_table.proofs.Lists.{at_set, at_index}
 use Rattle.dm_mail.specs.declared.mail.Mail.{Mail}
 use Rattle.dm_mail.specs.declared.mail.Body.{Body}
 use Rattle.dm_mail.specs.declared.view.View.{View}
 use Rattle.dm_mail.specs.declared.view.Settled.{Settled}
 use Rattle.dm_mail.specs.Mails.{bundle, mark, next_mail, mails_of, is_closed}
 use Rattle.dm_mail.specs.World.{World, Event, Posts, Closes, Takes, empty_world, world_after, world_after_post, world_after_take, IsAllowed, IsReached}
-use Rattle.dm_mail.specs.Rule.{first_view, spent_view, poster_view, view_after_split, view_after_join, view_after_send, view_after_receive, IsAccepted, IsReceived, FirstShares, IsLastSettled, SaysSent, AreSettled, SaysTaken, SaysBound, AllSayBound, NoneSaysBound, IsInOrder}
+use Rattle.dm_mail.specs.Rule.{first_view, spent_view, poster_view, settled_by, view_after_split, view_after_join, view_after_send, view_after_receive, IsAccepted, IsReceived, FirstShares, IsLastSettled, SaysSent, AreSettled, SaysTaken, IsPassOf, HasSettled, IsKnown, SaysBound, AllSayBound, NoneSaysBound, IsInOrder}
 use Rattle.dm_mail.proofs.WorldLemmas.{reached_more, next_of_queue}
 
 abbrev EachView : (ℕ → View → Type 0) → List View → Type 0
@@ -22,6 +25,42 @@ each_set : (F : ℕ → View → Type 0) (views : List View) (pass : ℕ) (new :
 each_set F views pass new mine others j u e =
     ⊎_elim (λ (x : (j ≡ pass) × (new ≡ u)). subst (λ (y : ℕ × View). F y.0 y.1) (λ i. (sym x.0 i, x.1 i)) mine)
     (λ (x : (j ≢ pass) × (get_elem? views j ≡ some u)). others j u x.0 x.1) (at_set views pass j new u e)
+
+-- the place of an element is below the length
+place_below : {A : Type 0} (l : List A) (i : ℕ) (a : A) → get_elem? l i ≡ some a → i < length l
+place_below [] i a e = absurd (some-ne-none a (sym e))
+place_below (x ∷ xs) zero a e = omega arith
+place_below (x ∷ xs) (suc i) a e = let l = place_below xs i a e in omega arith
+
+-- what holds of some element still does where one is written over, if it holds of the new one where it did of the old
+any_kept : {A : Type 0} (P : A → Type 0) (l : List A) (i : ℕ) (a b : A) → get_elem? l i ≡ some a → (P a → P b) → Any P l → Any P (set l i b)
+any_kept P l i a b at keep h = ⊎_elim
+    (λ (e : h.0 ≡ i).
+    let same : h.1 ≡ a = some-injective h.1 a (sym (at_index l h.0 h.1 h.2 (sym h.3)) ∙ (ap (get_elem? l) e ∙ at)) in
+    any-set P l i b (place_below l i a at) (keep (subst P same h.4)))
+    (λ (e : h.0 ≢ i). (h.0, h.1, omega (arith, length-set l i b), get_or-set_other l i h.0 b h.1 e ∙ h.3, h.4))
+    (cases_eq h.0 i)
+
+any_more : {A : Type 0} (P : A → Type 0) (l : List A) (b : A) → Any P l → Any P (l ++ b ∷ [])
+any_more P l b h = (h.0, h.1, omega (arith, length-append l (b ∷ [])), get_or_append_left l (b ∷ []) h.1 h.0 h.2 ∙ h.3, h.4)
+
+contains_more : {A : Type 0} (l : List A) (a b : A) → Contains l a → Contains (b ∷ l) a
+contains_more l a b h = (suc h.0, omega arith, h.2)
+
+-- what is known of a poster stays where the passes that say it do
+known_map : (views more : List View) (p : ℕ) (sent : List Mail) → (Any (IsPassOf p sent) views → Any (IsPassOf p sent) more) →
+    (Any (HasSettled p sent) views → Any (HasSettled p sent) more) → IsKnown views p sent → IsKnown more p sent
+known_map views more p sent own settled = ⊎_elim (λ h. inl (own h)) (λ rest. inr (⊎_elim (λ h. inl (settled h)) (λ h. inr h) rest))
+
+-- a step of one pass leaves what is known of a poster, where it leaves what this pass says of it
+known_kept : (views : List View) (pass : ℕ) (v new : View) (p : ℕ) (sent : List Mail) → get_elem? views pass ≡ some v →
+    (IsPassOf p sent v → IsPassOf p sent new) → (HasSettled p sent v → HasSettled p sent new) → IsKnown views p sent → IsKnown (set views pass new) p sent
+known_kept views pass v new p sent at own settled =
+    known_map views (set views pass new) p sent (any_kept (IsPassOf p sent) views pass v new at own) (any_kept (HasSettled p sent) views pass v new at settled)
+
+-- a pass more leaves what is known of a poster
+known_more : (views : List View) (new : View) (p : ℕ) (sent : List Mail) → IsKnown views p sent → IsKnown (views ++ new ∷ []) p sent
+known_more views new p sent = known_map views (views ++ new ∷ []) p sent (any_more (IsPassOf p sent) views new) (any_more (HasSettled p sent) views new)
 
 -- what the pass at a number says of a world
 abbrev Says : ℕ → (ℕ → Option ℕ) → World → ℕ → View → Type 0
@@ -62,6 +101,17 @@ sent_post pass_of w p pass body j u at other h = λ role. let f = h role in (
   f.1 ∙ sym (same_sent w p body u.poster (λ same. other (some-injective j pass (sym f.0 ∙ (ap pass_of (sym same) ∙ at))))),
 )
 
+-- what a poster sent stays known when its mail is accepted
+known_post : (w : World) (views : List View) (pass : ℕ) (v : View) (m : Mail) (body : Body) → get_elem? views pass ≡ some v → v.is_poster ≡ true →
+    (view_after_send v m).sent ≡ (world_after_post w v.poster body).sent v.poster → (q : ℕ) → IsKnown views q (w.sent q) →
+    IsKnown (set views pass (view_after_send v m)) q ((world_after_post w v.poster body).sent q)
+known_post w views pass v m body at role says q known = ⊎_elim
+    (λ (e : v.poster ≡ q). inl (any-set (IsPassOf q ((world_after_post w v.poster body).sent q)) views pass (view_after_send v m) (place_below views pass v at)
+    (role, e, says ∙ ap (world_after_post w v.poster body).sent e)))
+    (λ (e : v.poster ≢ q). subst (IsKnown (set views pass (view_after_send v m)) q) (sym (same_sent w v.poster body q e))
+    (known_kept views pass v (view_after_send v m) q (w.sent q) at (λ x. absurd (e x.1)) (λ x. x) known))
+    (cases_eq v.poster q)
+
 -- once a pass says a bound, all agree
 agreed : (w : World) (bound : ℕ) (views : List View) (pass : ℕ) (v : View) → (((w ≡ empty_world) × NoneSaysBound views) ⊎ AllSayBound bound views) →
     get_elem? views pass ≡ some v → v.is_told ≡ true → AllSayBound bound views
@@ -84,7 +134,8 @@ accepts n pass v e body m same_bound told role is step may items views short h a
     let after : World = world_after_post w v.poster body in
     let same : m ≡ next_mail v.poster (w.sent v.poster) body = is ∙ ap (λ l. next_mail v.poster l body) mine.1 in
     let shorter : length w.queue < n = (let q = ap length h.queue_is in omega arith) in
-    let new : View = view_after_send v m in (
+    let new : View = view_after_send v m in
+    let says : new.sent ≡ after.sent v.poster = (λ i. mine.1 i ++ same i ∷ []) ∙ sym (own_sent w v.poster body) in (
       new,
       record {
         mirror = mirror;
@@ -94,8 +145,10 @@ accepts n pass v e body m same_bound told role is step may items views short h a
         is_reached = subst (IsReached n) (step w) (reached_more n w e before (may w mine.1 shorter));
         queue_is = λ i. h.queue_is i ++ sym same i ∷ [];
         views_are = each_set (Says mirror pass_of after) views pass new
-            ((λ _. (mine.0, (λ i. mine.1 i ++ same i ∷ []) ∙ sym (own_sent w v.poster body))), taken_post mirror pass_of w v.poster pass body pass new mine.0 (λ t. (h.views_are pass v at).1 t))
+            ((λ _. (mine.0, says)), taken_post mirror pass_of w v.poster pass body pass new mine.0 (λ t. (h.views_are pass v at).1 t))
             (λ j u other there. (sent_post pass_of w v.poster pass body j u mine.0 other (h.views_are j u there).0, taken_post mirror pass_of w v.poster pass body j u mine.0 (h.views_are j u there).1));
+        mirror_is = any_kept (λ (y : View). y.is_mirror ≡ true) views pass v new at (λ x. x) h.mirror_is;
+        sent_is = λ q. known_post w views pass v m body at role says q (h.sent_is q);
         bound_is = inr (subst (λ b. AllSayBound b (set views pass new)) (sym here) (bound_set views pass h.bound new (all pass v at) all));
       },
       refl,
@@ -134,6 +187,8 @@ receives pass v told role x items views h at =
         views_are = each_set (Says mirror pass_of after) views pass new
             ((h.views_are pass v at).0, λ _. (mine.0, (λ i. mine.1 i ++ x ∷ []), mine.2, mine.3))
             (λ j u other there. ((h.views_are j u there).0, λ t. absurd (other (((h.views_are j u there).1 t).0 ∙ sym mine.0))));
+        mirror_is = any_kept (λ (y : View). y.is_mirror ≡ true) views pass v new at (λ x. x) h.mirror_is;
+        sent_is = λ q. known_kept views pass v new q (w.sent q) at (λ x. x) (λ x. x) (h.sent_is q);
         bound_is = inr (bound_set views pass h.bound new (all pass v at) all);
       },
       record {
@@ -210,6 +265,8 @@ splits bound pass v agrees role items views h at =
           (λ (x : (j ≡ length vs) × (right ≡ u)). subst (λ (y : ℕ × View). Says mirror given w y.0 y.1) (λ i. (sym x.0 i, x.1 i))
           ((λ _. (given_here pass_of v.posters (some k), sym fresh.1)), λ t. absurd (true≢false (sym t))))
           (at_more vs right u j there);
+      mirror_is = any_more (λ (y : View). y.is_mirror ≡ true) vs right (any_kept (λ (y : View). y.is_mirror ≡ true) views pass v left at (λ x. x) h.mirror_is);
+      sent_is = λ q. known_more vs right q (w.sent q) (known_kept views pass v left q (w.sent q) at (λ x. x) (λ x. x) (h.sent_is q));
       bound_is = inr (λ j u there. ⊎_elim (λ x. each_set (λ i y. SaysBound bound y) views pass left ((λ _. refl), λ _. refl) known.1 j u x)
           (λ (x : (j ≡ length vs) × (right ≡ u)). subst (SaysBound bound) x.1 ((λ _. refl), λ _. refl))
           (at_more vs right u j there));
@@ -222,6 +279,20 @@ none_at false o e = e
 settled_join : (pass_of : ℕ → Option ℕ) (w : World) (posters p : ℕ) (ss : List Settled) → AreSettled pass_of w posters ss → AreSettled (λ q. cond (eqb p q) none (pass_of q)) w posters ss
 settled_join pass_of w posters p [] h = tt
 settled_join pass_of w posters p (s ∷ ss) h = ((none_at (eqb p s.poster) (pass_of s.poster) h.0.0, h.0.1, h.0.2), settled_join pass_of w posters p ss h.1)
+
+-- what a poster sent stays known when its pass is joined into the mirror's
+known_join : (views : List View) (pass : ℕ) (v : View) (other : ℕ) (u : View) (q : ℕ) (sent : List Mail) → v.is_mirror ≡ true → (u.is_mirror ≡ true → ⊥) →
+    get_elem? views pass ≡ some v → get_elem? (set views pass (view_after_join v u)) other ≡ some u → (u.poster ≡ q → u.sent ≡ sent) → IsKnown views q sent →
+    IsKnown (set (set views pass (view_after_join v u)) other spent_view) q sent
+known_join views pass v other u q sent role no_mirror at at_other says known =
+    let both : View = view_after_join v u in
+    let vs : List View = set views pass both in
+    ⊎_elim
+    (λ (e : u.poster ≡ q). inr (inl (any_kept (HasSettled q sent) vs other u spent_view at_other (λ x. absurd (no_mirror x.0))
+    (any-set (HasSettled q sent) views pass both (place_below views pass v at) (role, (0, omega arith, λ i. record { poster = e i; sent = says e i }))))))
+    (λ (e : u.poster ≢ q). known_kept vs other u spent_view q sent at_other (λ x. absurd (e x.1)) (λ x. absurd (no_mirror x.0))
+    (known_kept views pass v both q sent at (λ x. x) (λ x. (x.0, contains_more v.settled (record { poster = q; sent = sent }) (settled_by u) x.1)) known))
+    (cases_eq u.poster q)
 
 -- a poster's pass is joined into the mirror's
 pub joins : (pass : ℕ) (v : View) (other : ℕ) (u : View) → v.is_told ≡ true → v.is_mirror ≡ true → u.is_poster ≡ true →
@@ -252,6 +323,8 @@ joins pass v other u told role posting items views h at two at_other =
       views_are = each_set (Says mirror given w) vs other spent_view
           ((λ t. absurd (true≢false (sym t))), λ t. absurd (true≢false (sym t)))
           (λ j x apart there. now j x there apart);
+      mirror_is = any_kept (λ (y : View). y.is_mirror ≡ true) vs other u spent_view at_other (λ t. absurd (two (((h.views_are other u was).1 t).0 ∙ sym mine.0))) (any_kept (λ (y : View). y.is_mirror ≡ true) views pass v both at (λ x. x) h.mirror_is);
+      sent_is = λ q. known_join views pass v other u q (w.sent q) role (λ t. two (((h.views_are other u was).1 t).0 ∙ sym mine.0)) at at_other (λ e. theirs.1 ∙ ap w.sent e) (h.sent_is q);
       bound_is = inr (bound_set vs other h.bound spent_view ((λ t. absurd (true≢false (sym t))), λ t. absurd (true≢false (sym t))) (bound_set views pass h.bound both (all pass v at) all));
     }
 
@@ -287,5 +360,7 @@ begins = record {
   is_reached = record { events = []; allowed = tt; is_after = refl };
   queue_is = refl;
   views_are = λ j v at. let x = first_only j v at in subst (λ (y : ℕ × View). Says 0 (λ _. none) empty_world y.0 y.1) (λ i. (sym x.0 i, x.1 i)) ((λ t. absurd (true≢false (sym t))), λ _. (refl, refl, (λ _ _. (refl, refl)), tt));
+  mirror_is = (0, first_view, omega arith, refl, refl);
+  sent_is = λ _. inr (inr refl);
   bound_is = inl (refl, λ j v at. ap (λ (y : View). y.is_told) (sym (first_only j v at).1));
 }

@@ -64,9 +64,13 @@ outlet_mails o = (view o.pass).sent
 abbrev pub sent_mails : Sent → List Mail
 sent_mails s = (view s.pass).sent
 
+-- what was taken from all posters, in the order in which it was
+abbrev pub all_taken : Inlet → List Mail
+all_taken i = (view i.pass).taken
+
 -- what was taken from a poster
 abbrev pub taken_of : Inlet → ℕ → List Mail
-taken_of i poster = mails_of poster (view i.pass).taken
+taken_of i poster = mails_of poster (all_taken i)
 
 -- the poster's next mail
 abbrev pub next_mail_of : Outlet → Body → Mail

@@ -1,5 +1,5 @@
 -- The rule of a mirror's channel, with a pass for each poster and one for the mirror: what waits and what the passes say are one world. And what each step does to a pass.
-use Rattle.std.specs.Prelude.{◌≡◌, ◌⊎◌, ℕ, ◌+◌, ◌<◌, ◌≤◌, true, false, List, [], ◌∷◌, ◌++◌, length}
+use Rattle.std.specs.Prelude.{◌≡◌, ◌⊎◌, ℕ, ◌+◌, ◌<◌, ◌≤◌, true, false, List, [], ◌∷◌, ◌++◌, length, Any, Contains}
 use mathlib.Core.Option.{Option, some, none}
 use lib.ListN.{get_elem?}
 use Rattle.dm_mail.specs.declared.mail.Mail.{Mail}
@@ -77,6 +77,18 @@ SaysTaken mirror pass_of w pass v =
     × ((poster : ℕ) → v.posters ≤ poster → (pass_of poster ≡ none) × (w.sent poster ≡ []))
     × AreSettled pass_of w v.posters v.settled
 
+-- this is the poster's pass, and says that it sent these
+abbrev pub IsPassOf : ℕ → List Mail → View → Type 0
+IsPassOf poster sent v = (v.is_poster ≡ true) × (v.poster ≡ poster) × (v.sent ≡ sent)
+
+-- this is the mirror's pass, and says that the poster was settled, and that it sent these
+abbrev pub HasSettled : ℕ → List Mail → View → Type 0
+HasSettled poster sent v = (v.is_mirror ≡ true) × Contains v.settled (record { poster = poster; sent = sent })
+
+-- the poster has its pass, which says that it sent these; or it was settled, and the mirror's pass says that it sent these; or it has sent nothing
+abbrev pub IsKnown : List View → ℕ → List Mail → Type 0
+IsKnown views poster sent = Any (IsPassOf poster sent) views ⊎ Any (HasSettled poster sent) views ⊎ (sent ≡ [])
+
 -- where a pass says a bound, it says this one; the mirror's says one
 abbrev pub SaysBound : ℕ → View → Type 0
 SaysBound bound v = (v.is_told ≡ true → v.bound ≡ bound) × (v.is_mirror ≡ true → v.is_told ≡ true)
@@ -100,4 +112,7 @@ pub record IsInOrder (waiting : List Mail) (views : List View) : Type 0 where
   pub is_reached : IsReached bound world
   pub queue_is : world.queue ≡ waiting
   pub views_are : (pass : ℕ) (v : View) → get_elem? views pass ≡ some v → SaysSent pass_of world pass v × SaysTaken mirror pass_of world pass v
+  -- the other way round: the mirror has its pass, and no poster has sent a mail that no pass knows of
+  pub mirror_is : Any (λ v. v.is_mirror ≡ true) views
+  pub sent_is : (poster : ℕ) → IsKnown views poster (world.sent poster)
   pub bound_is : ((world ≡ empty_world) × NoneSaysBound views) ⊎ AllSayBound bound views

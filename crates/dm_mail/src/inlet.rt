@@ -1,8 +1,8 @@
 //! What a mirror does with its end.
-ghost use Rattle.std.specs.Prelude.{◌≡◌, ◌≤◌, if◌then◌else◌, ℕ, MatchResult, IsErr};
+ghost use Rattle.std.specs.Prelude.{◌≡◌, ◌≤◌, ◌∷◌, ◌++◌, [], if◌then◌else◌, ℕ, MatchResult, IsErr};
 ghost use Rattle.dm_mail.specs.Mails.{is_mark};
 ghost use Rattle.dm_mail.specs.World.{ShareWorld};
-ghost use Rattle.dm_mail.specs.Ends.{sent_mails, sent_id, sent_poster, inlet_id, inlet_bound, outlet_of, taken_of};
+ghost use Rattle.dm_mail.specs.Ends.{sent_mails, sent_id, sent_poster, inlet_id, inlet_bound, outlet_of, all_taken, taken_of};
 ghost use Rattle.dm_mail.specs.Ends.{SameInlet, SameTaken, IsNextOf, TakesMail, AllClosed};
 ghost use mathlib.Core.List.{IsPrefix};
 
@@ -25,6 +25,9 @@ impl Inlet {
         ensures taken { MatchResult result
             (λ mail. IsNextOf self.old mail × TakesMail self.old mail self.new)
             (λ _. SameTaken self.old self.new) }
+        ensures order { MatchResult result
+            (λ mail. all_taken self.new ≡ all_taken self.old ++ mail ∷ [])
+            (λ _. all_taken self.new ≡ all_taken self.old) }
         ensures all { AllClosed self.old → IsErr result }
     {
         if self.marks >= self.posters {

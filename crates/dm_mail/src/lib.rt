@@ -24,8 +24,5 @@ mod view;
 pub use ends::{Inlet, Outlet, Sent};
 pub use inlet::{Cut, settle};
 pub use mail::{Body, Mail, Text};
-pub use opening::{MOST_WAITING, MailFault, POSTERS, open};
+pub use opening::{MOST_POSTERS, MOST_WAITING, MailFault, open};
 pub use outlet::{MOST_BUNDLES, Unsent, Why};
-
-#[cfg(test)]
-mod tests;

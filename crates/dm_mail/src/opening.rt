@@ -14,8 +14,8 @@ use std::alloc::{AllocError, Global};
 use std::marker::Brand;
 use std::sync::Wait;
 
-/// How many posters a mirror's mail has.
-pub const POSTERS: usize = 2;
+/// The most posters that a mirror's mail has.
+pub const MOST_POSTERS: usize = 8;
 
 /// The most mails that may wait.
 pub const MOST_WAITING: usize = 64;
@@ -23,7 +23,7 @@ pub const MOST_WAITING: usize = 64;
 /// Why no mail was opened, in the order in which it is reported. The first two take no memory.
 #[derive(Clone, Copy, PartialEq, Eq, Debug)]
 pub enum MailFault {
-    /// The count of posters isn't two.
+    /// The count of posters isn't 1 to 8.
     BadPosters,
     /// The bound isn't 1 to 64.
     BadBound,
@@ -53,7 +53,7 @@ pub fn open<R: Wait>(
     ensures bound { IfOk result (λ r. inlet_bound r.1 ≡ bound) }
     ensures fault { IfErr result (IsFirstFault posters bound) }
 {
-    if posters != POSTERS {
+    if posters == 0 || posters > MOST_POSTERS {
         return Err(MailFault::BadPosters);
     }
     if bound == 0 || bound > MOST_WAITING {

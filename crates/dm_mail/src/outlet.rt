@@ -24,19 +24,19 @@ pub enum Why {
 /// A text that wasn't sent.
 #[derive(Drop)]
 pub struct Unsent {
-    pub text: Vec<u8>,
+    pub text: Text,
     pub why: Why,
 }
 
 impl Outlet {
     /// Sends a bundle, and waits as long as there is no room. Where the inlet is gone, of which no contract speaks, the
-    /// text comes back.
-    pub fn send<R: Wait>(&mut self, rt: &R, text: Vec<u8>) -> Result<(), Unsent>
+    /// text comes back as it was.
+    pub fn send<R: Wait>(&mut self, rt: &R, text: Text) -> Result<(), Unsent>
         ensures same { SameOutlet self.old self.new }
-        ensures sent { OnOk result (outlet_mails self.new ≡ outlet_mails self.old ++ next_mail_of self.old (bundle text.items) ∷ []) }
+        ensures sent { OnOk result (outlet_mails self.new ≡ outlet_mails self.old ++ next_mail_of self.old (bundle text) ∷ []) }
         ensures few { OnOk result (length (outlet_mails self.old) < 1000) }
         ensures unsent { OnErr result (outlet_mails self.new ≡ outlet_mails self.old) }
-        ensures text { IfErr result (λ e. e.text.items ≡ text.items) }
+        ensures text { IfErr result (λ e. e.text ≡ text) }
         ensures why { IfErr result (λ e. IsReason (length (outlet_mails self.old)) e.why) }
     {
         if self.count >= MOST_BUNDLES {
@@ -48,7 +48,7 @@ impl Outlet {
         let mail = Mail {
             poster: self.poster,
             number: self.count,
-            body: Body::Bundle(Text::new(text)),
+            body: Body::Bundle(text),
         };
         match self.sender.send_as::<Accepted, R>(rt, &mut self.pass, mail) {
             Ok(()) => {
@@ -118,12 +118,12 @@ impl Outlet {
 }
 
 /// The text of a mail that carries a bundle.
-fn text_of(mail: Mail) -> Vec<u8>
+fn text_of(mail: Mail) -> Text
     requires { (text : List ℕ) × (mail.body ≡ bundle text) }
-    ensures { mail.body ≡ bundle result.items }
+    ensures { mail.body ≡ bundle result }
 {
     match mail.body {
-        Body::Bundle(text) => text.into_bytes(),
+        Body::Bundle(text) => text,
         Body::Close => unreachable!(),
     }
 }

@@ -1,19 +1,22 @@
 -- Mails that a mirror took, of posters that have ended.
-use Rattle.std.proofs.Common.{◌≡◌, ℕ, zero, suc, ◌+◌, ◌<◌, Bool, true, List, [], ◌∷◌, ◌++◌, Option, Some, slice_get, map, length, refl, sym, ap, ◌∙◌, subst, arith}
-use Rattle.dm_named.specs.Patches.{Patch}
+use Rattle.std.proofs.Common.{◌≡◌, ◌≢◌, ℕ, zero, suc, ◌+◌, ◌<◌, ◌≤◌, Bool, true, List, [], ◌∷◌, ◌++◌, Option, Some, slice_get, map, take, drop, length, refl, sym, ap, ◌∙◌, subst, ⊎_elim, arith, length-drop, length-append}
+use Rattle.std.proofs.lemmas.Bool.{cases_eq}
 use Rattle.dm_scratch.specs.declared.verdict.Verdict.{Verdict}
 use mathlib.Core.List.{IsPrefix}
 use Rattle.dm_mail.specs.declared.mail.Mail.{Mail}
+use Rattle.dm_mail.specs.declared.ends.Sent.{Sent}
 use Rattle.dm_mail.specs.Mails.{bundle, mark, mails_of, is_closed, count_bundles, numbered_mails, AllBelow}
-use Rattle.dm_mail.specs.Laws.{AllTakenIsAllSent}
+use Rattle.dm_mail.specs.Ends.{MailId, outlet_of, sent_id, sent_poster, sent_mails}
+use Rattle.dm_mail.specs.Laws.{total, AllTakenIsAllSent}
 use Rattle.dm_mail.proofs.MailLemmas.{mails_of-append}
 use Rattle.dm_mirror.specs.declared.mirror.Mirror.{Mirror}
-use Rattle.dm_mirror.specs.declared.mirror.Copies.{Copies}
-use Rattle.dm_mirror.specs.declared.outcome.Outcome.{Outcome}
-use Rattle.dm_mirror.specs.Deliveries.{all_mails, texts_of}
-use Rattle.dm_mirror.specs.Mirrors.{IsComplete, AreComplete}
-use Rattle.dm_mirror.specs.PlainFolds.{AreAnswered, IsPlainFold}
-use Rattle.dm_mirror.specs.Runs.{IsServed, IsRunOf, mirror_mails}
+use Rattle.dm_mirror.specs.Deliveries.{all_mails, mails_in}
+use Rattle.dm_mirror.specs.Jobs.{IsSentIn}
+use Rattle.dm_mirror.specs.Lists.{EachFrom}
+use Rattle.dm_mirror.specs.Mirrors.{AreComplete}
+use Rattle.dm_mirror.specs.PlainFolds.{AreAnswered}
+use Rattle.dm_mirror.specs.Runs.{SendsTexts, mirror_mails}
+use Rattle.dm_mirror.proofs.ListLemmas.{each_from_length}
 use Rattle.dm_mirror.proofs.PostingLemmas.{length-all_mails}
 
 pub below_more : (n : ℕ) (ms : List Mail) (m : Mail) → AllBelow n ms → m.poster < n → AllBelow n (ms ++ m ∷ [])
@@ -24,32 +27,11 @@ below_more n (x ∷ ms) m h l = (h.0, below_more n ms m h.1 l)
 pub taken_more : (p : ℕ) (before after ms new : List Mail) (m : Mail) → new ≡ ms ++ m ∷ [] → before ≡ mails_of p ms → after ≡ before ++ mails_of p (m ∷ []) → after ≡ mails_of p new
 taken_more p before after ms new m e was is = is ∙ (ap (λ l. l ++ mails_of p (m ∷ [])) was ∙ (sym (mails_of-append p ms (m ∷ [])) ∙ ap (mails_of p) (sym e)))
 
--- what two posters sent, by poster
-abbrev sent_by : List Mail → List Mail → ℕ → List Mail
-sent_by xs ys zero = xs
-sent_by xs ys (suc n) = ys
-
-prefixes : (ms xs ys : List Mail) → IsPrefix (mails_of 0 ms) xs → IsPrefix (mails_of 1 ms) ys → (p : ℕ) → p < 2 → IsPrefix (mails_of p ms) (sent_by xs ys p)
-prefixes ms xs ys a b zero l = a
-prefixes ms xs ys a b (suc zero) l = b
-prefixes ms xs ys a b (suc (suc p)) l = absurd (omega arith)
-
--- where as many mails were taken as two posters sent, all of both were
-pub both : AllTakenIsAllSent → (ms xs ys : List Mail) → AllBelow 2 ms → IsPrefix (mails_of 0 ms) xs → IsPrefix (mails_of 1 ms) ys → length ms ≡ length xs + length ys →
-    (mails_of 0 ms ≡ xs) × (mails_of 1 ms ≡ ys)
-both law ms xs ys below a b count =
-    let all = law 2 ms (sent_by xs ys) below (prefixes ms xs ys a b) (omega arith) in
-    (all 0 (omega arith), all 1 (omega arith))
-
--- a prefix, when what was taken is known otherwise
-pub prefix_at : (p q : ℕ) (taken ms xs : List Mail) → p ≡ q → taken ≡ mails_of p ms → IsPrefix taken xs → IsPrefix (mails_of q ms) xs
-prefix_at p q taken ms xs e is pre = subst (λ k. IsPrefix (mails_of k ms) xs) e (subst (λ l. IsPrefix l xs) is pre)
-
 count_numbered : (p n : ℕ) (texts : List (List ℕ)) → count_bundles (numbered_mails p n (map bundle texts ++ mark ∷ [])) ≡ length texts
 count_numbered p n [] = refl
 count_numbered p n (t ∷ ts) = ap suc (count_numbered p (suc n) ts)
 
-closed_numbered : (p n : ℕ) (texts : List (List ℕ)) → is_closed (numbered_mails p n (map bundle texts ++ mark ∷ [])) ≡ true
+pub closed_numbered : (p n : ℕ) (texts : List (List ℕ)) → is_closed (numbered_mails p n (map bundle texts ++ mark ∷ [])) ≡ true
 closed_numbered p n [] = refl
 closed_numbered p n (t ∷ ts) = closed_numbered p (suc n) ts
 
@@ -57,7 +39,7 @@ closed_numbered p n (t ∷ ts) = closed_numbered p (suc n) ts
 receipt_all : (p : ℕ) (mails : List Mail) (texts : List (List ℕ)) → mails ≡ all_mails p texts → ◌≡◌ {A = ℕ × Bool} (count_bundles mails, is_closed mails) (length texts, true)
 receipt_all p mails texts e = let a = ap count_bundles e ∙ count_numbered p 0 texts in let b = ap is_closed e ∙ closed_numbered p 0 texts in λ i. (a i, b i)
 
-answered_length : (ms : List Mail) (vs : List (Option Verdict)) → AreAnswered ms vs → length vs ≡ length ms
+pub answered_length : (ms : List Mail) (vs : List (Option Verdict)) → AreAnswered ms vs → length vs ≡ length ms
 answered_length [] [] all = refl
 answered_length [] (v ∷ vs) all = absurd all
 answered_length (m ∷ ms) [] all = absurd all
@@ -66,68 +48,131 @@ answered_length (m ∷ ms) (v ∷ vs) all = ap suc (answered_length ms vs all.1)
 pub some_inj : {A : Type 0} (a x : A) → Some a ≡ Some x → a ≡ x
 some_inj a x e = cc
 
-two : {A : Type 0} (P : ℕ → A → Type 0) (a b : A) → P 0 a → P 1 b → (n : ℕ) (x : A) → slice_get (a ∷ b ∷ []) n ≡ Some x → P n x
-two P a b pa pb zero x e = subst (P 0) (some_inj a x e) pa
-two P a b pa pb (suc zero) x e = subst (P 1) (some_inj b x e) pb
-two P a b pa pb (suc (suc n)) x e = absurd (cc e)
+-- an item's place is below the list's length, and each such place has one
+pub place_of : {A : Type 0} (xs : List A) (p : ℕ) (x : A) → slice_get xs p ≡ Some x → p < length xs
+place_of [] p x e = absurd (cc e)
+place_of (y ∷ xs) zero x e = omega arith
+place_of (y ∷ xs) (suc p) x e = let l = place_of xs p x e in omega arith
 
--- a mirror that took all that two posters sent
-pub served : (ts us : List (List ℕ)) (start : List Patch) (mirror : Mirror) (xs ys : List Mail) → mails_of 0 mirror.mails.items ≡ xs → mails_of 1 mirror.mails.items ≡ ys →
-    xs ≡ all_mails 0 ts → ys ≡ all_mails 1 us → AllBelow 2 mirror.mails.items →
-    mirror.receipts.items ≡ (count_bundles xs, is_closed xs) ∷ (count_bundles ys, is_closed ys) ∷ [] →
-    IsPlainFold start mirror.mails.items mirror.verdicts.items mirror.repo.patches → IsServed (ts ∷ us ∷ []) start mirror
-served ts us start mirror xs ys a b p q below says fold = record {
-  delivered = two (λ n sent. mails_of n mirror.mails.items ≡ all_mails n sent) ts us (a ∙ p) (b ∙ q);
-  closed = two (λ n sent. is_closed (mails_of n mirror.mails.items) ≡ true) ts us (ap is_closed (a ∙ p) ∙ closed_numbered 0 0 ts) (ap is_closed (b ∙ q) ∙ closed_numbered 1 0 us);
-  known = below;
-  accepted = two (λ n sent. slice_get mirror.receipts.items n ≡ Some (length sent, true)) ts us
-      (ap (λ l. slice_get l 0) says ∙ ap Some (receipt_all 0 xs ts p)) (ap (λ l. slice_get l 1) says ∙ ap Some (receipt_all 1 ys us q));
-  folded = fold;
-}
+pub item_at : {A : Type 0} (xs : List A) (p : ℕ) → p < length xs → (x : A) × slice_get xs p ≡ Some x
+item_at [] p l = absurd (omega arith)
+item_at (x ∷ xs) zero l = (x, refl)
+item_at (x ∷ xs) (suc p) l = item_at xs p (omega arith)
 
--- two mirrors that are complete
-pub complete_two : (posters : ℕ) (mirrors : List Mirror) (a b : Mirror) → mirrors ≡ a ∷ b ∷ [] → IsComplete posters a → IsComplete posters b → AreComplete posters mirrors
-complete_two posters mirrors a b e x y = rw e (two (λ n m. IsComplete posters m) a b x y)
+-- what posters of these texts send, who have the numbers from k on
+abbrev sent_from : ℕ → List (List (List ℕ)) → ℕ → List Mail
+sent_from k [] p = []
+sent_from k (t ∷ ts) zero = all_mails k t
+sent_from k (t ∷ ts) (suc p) = sent_from (suc k) ts p
 
--- a mirror that took its mails and has two receipts
-pub complete : (start : List Patch) (mirror : Mirror) → IsPlainFold start mirror.mails.items mirror.verdicts.items mirror.repo.patches → length mirror.receipts.items ≡ 2 → IsComplete 2 mirror
-complete start mirror fold says = record { verdicts = answered_length mirror.mails.items mirror.verdicts.items fold.answered; receipts = says }
+sent_at : (k : ℕ) (ts : List (List (List ℕ))) (p : ℕ) (t : List (List ℕ)) → slice_get ts p ≡ Some t → sent_from k ts p ≡ all_mails (k + p) t
+sent_at k [] p t e = absurd (cc e)
+sent_at k (x ∷ ts) zero t e =
+    let n : k ≡ k + 0 = omega arith in
+    ap (all_mails k) (some_inj x t e) ∙ ap (λ m. all_mails m t) n
+sent_at k (x ∷ ts) (suc p) t e =
+    let n : suc k + p ≡ k + suc p = omega arith in
+    sent_at (suc k) ts p t e ∙ ap (λ m. all_mails m t) n
 
--- two mirrors that are served
-pub run_of_two : (texts : List (List (List ℕ))) (s t : List Patch) (o : Outcome) (a b : Mirror) → o.posters ≡ length texts → o.mirrors.items ≡ a ∷ b ∷ [] →
-    IsServed texts s a → IsServed texts t b → IsRunOf texts (s ∷ t ∷ []) o
-run_of_two texts s t o a b n e x y = record {
-  posters = n;
-  mirrors = ap length e;
-  each = λ m start mirror at is. pick m start mirror at (rw e at is);
-} where
-  pick : (m : ℕ) (start : List Patch) (mirror : Mirror) → slice_get (s ∷ t ∷ []) m ≡ Some start → slice_get (a ∷ b ∷ []) m ≡ Some mirror → IsServed texts start mirror
-  pick zero start mirror at is = subst (IsServed texts start) (some_inj a mirror is) (subst (λ z. IsServed texts z a) (some_inj s start at) x)
-  pick (suc zero) start mirror at is = subst (IsServed texts start) (some_inj b mirror is) (subst (λ z. IsServed texts z b) (some_inj t start at) y)
-  pick (suc (suc m)) start mirror at is = absurd (cc at)
+sent_of : (ts : List (List (List ℕ))) (p : ℕ) (t : List (List ℕ)) → slice_get ts p ≡ Some t → sent_from 0 ts p ≡ all_mails p t
+sent_of ts p t e =
+    let z : 0 + p ≡ p = omega arith in
+    sent_at 0 ts p t e ∙ ap (λ m. all_mails m t) z
 
--- the same of what was taken and sent by posters that are known otherwise
-pub both_taken : AllTakenIsAllSent → (ms t u xs ys : List Mail) (p q : ℕ) → AllBelow 2 ms → p ≡ 0 → q ≡ 1 → t ≡ mails_of p ms → u ≡ mails_of q ms → IsPrefix t xs → IsPrefix u ys →
-    length ms ≡ length xs + length ys → (mails_of 0 ms ≡ xs) × (mails_of 1 ms ≡ ys)
-both_taken law ms t u xs ys p q below a b c d e f count =
-    both law ms xs ys below (prefix_at p 0 t ms xs a c e) (prefix_at q 1 u ms ys b d f) count
+-- the sum, its first part apart
+total_front : (n : ℕ) (f : ℕ → ℕ) → total (suc n) f ≡ f 0 + total n (λ p. f (suc p))
+total_front zero f = omega arith
+total_front (suc n) f = let a = total_front n f in omega arith
 
-length-texts_of : (cs : List Copies) → length (texts_of cs) ≡ length cs
-length-texts_of [] = refl
-length-texts_of (c ∷ cs) = ap suc (length-texts_of cs)
+total_sent : (k : ℕ) (ts : List (List (List ℕ))) → total (length ts) (λ p. length (sent_from k ts p)) ≡ mails_in ts
+total_sent k [] = refl
+total_sent k (t ∷ ts) =
+    let a : total (suc (length ts)) (λ p. length (sent_from k (t ∷ ts) p)) ≡ length (all_mails k t) + total (length ts) (λ p. length (sent_from (suc k) ts p)) = total_front (length ts) (λ p. length (sent_from k (t ∷ ts) p)) in
+    a ∙ (ap (λ m. m + total (length ts) (λ p. length (sent_from (suc k) ts p))) (length-all_mails k t) ∙ ap (λ m. (length t + 1) + m) (total_sent (suc k) ts))
 
--- as many mails as both posters sent
-pub both_sent : (n p q : ℕ) (xs ys : List Mail) (cs ds : List Copies) → xs ≡ all_mails p (texts_of cs) → ys ≡ all_mails q (texts_of ds) → n ≡ length cs + length ds + 2 → n ≡ length xs + length ys
-both_sent n p q xs ys cs ds a b e =
-    let x = ap length a ∙ length-all_mails p (texts_of cs) in
-    let y = ap length b ∙ length-all_mails q (texts_of ds) in
-    let k = length-texts_of cs in
-    let l = length-texts_of ds in
-    omega arith
+-- what was taken from each poster below n is a prefix of what it sends
+abbrev pub TookFrom : List Mail → List (List (List ℕ)) → ℕ → Type 0
+TookFrom ms texts n = (p : ℕ) (sent : List (List ℕ)) → p < n → SendsTexts texts p sent → IsPrefix (mails_of p ms) (all_mails p sent)
 
--- two that were appended to none
-pub two_items : {A : Type 0} {xs ys zs : List A} {a b : A} → xs ≡ [] → ys ≡ xs ++ a ∷ [] → zs ≡ ys ++ b ∷ [] → zs ≡ a ∷ b ∷ []
-two_items {a = a} {b = b} none e f = f ∙ ap (λ l. l ++ b ∷ []) (e ∙ ap (λ l. l ++ a ∷ []) none)
+took_more : (ms : List Mail) (texts : List (List (List ℕ))) (n : ℕ) (t : List (List ℕ)) → SendsTexts texts n t → IsPrefix (mails_of n ms) (all_mails n t) → TookFrom ms texts n → TookFrom ms texts (suc n)
+took_more ms texts n t at pre so_far = λ p sent l is.
+    ⊎_elim
+    (λ (e : p ≡ n).
+    let same : t ≡ sent = some_inj t sent (sym at ∙ (ap (slice_get texts) (sym e) ∙ is)) in
+    subst (λ k. IsPrefix (mails_of k ms) (all_mails k sent)) (sym e) (subst (λ x. IsPrefix (mails_of n ms) (all_mails n x)) same pre))
+    (λ (e : p ≢ n). so_far p sent (omega arith) is)
+    (cases_eq p n)
+
+-- where as many mails were taken as all posters send, all of each were
+pub took_all : AllTakenIsAllSent → (ms : List Mail) (texts : List (List (List ℕ))) → AllBelow (length texts) ms → length ms ≡ mails_in texts → TookFrom ms texts (length texts) →
+    (p : ℕ) (sent : List (List ℕ)) → SendsTexts texts p sent → mails_of p ms ≡ all_mails p sent
+took_all law ms texts below count took p sent at =
+    law (length texts) ms (sent_from 0 texts) below each (count ∙ sym (total_sent 0 texts)) p (place_of texts p sent at) ∙ sent_of texts p sent at
+  where
+    each : (q : ℕ) → q < length texts → IsPrefix (mails_of q ms) (sent_from 0 texts q)
+    each q l =
+        let x = item_at texts q l in
+        subst (IsPrefix (mails_of q ms)) (sym (sent_of texts q x.0 x.1)) (took q x.0 l x.1)
+
+-- the receipt of a poster that sent all
+abbrev pub receipt_for : List (List ℕ) → ℕ × Bool
+receipt_for sent = (length sent, true)
+
+-- as many posters as there are receipts were settled, and these ends are left
+abbrev pub SettledTo : MailId → List Mail → List (List (List ℕ)) → List (ℕ × Bool) → List Sent → Type 0
+SettledTo id ms texts receipts ends =
+    EachFrom (IsSentIn id) (length receipts) (drop (length receipts) texts) ends
+    × (length receipts ≤ length texts)
+    × TookFrom ms texts (length receipts)
+    × (receipts ≡ map receipt_for (take (length receipts) texts))
+
+pub settled_none : (id : MailId) (ms : List Mail) (texts : List (List (List ℕ))) (receipts : List (ℕ × Bool)) (ends : List Sent) → receipts ≡ [] → EachFrom (IsSentIn id) 0 texts ends → SettledTo id ms texts receipts ends
+settled_none id ms texts receipts ends e all = rw e (all, omega arith, (λ p sent l. absurd (omega arith)), refl)
+
+next_of : {A B : Type 0} (P : ℕ → A → B → Type 0) (m n : ℕ) (xs : List A) (y : B) (ys : List B) → EachFrom P m (drop n xs) (y ∷ ys) → (x : A) × (slice_get xs n ≡ Some x) × P m x y × EachFrom P (suc m) (drop (suc n) xs) ys
+next_of P m zero [] y ys each = absurd each
+next_of P m (suc n) [] y ys each = absurd each
+next_of P m zero (x ∷ xs) y ys each = (x, refl, each.0, each.1)
+next_of P m (suc n) (x ∷ xs) y ys each = next_of P m n xs y ys each
+
+map_take : {A B : Type 0} (f : A → B) (xs : List A) (n : ℕ) (x : A) → slice_get xs n ≡ Some x → map f (take (suc n) xs) ≡ map f (take n xs) ++ f x ∷ []
+map_take f [] n x e = absurd (cc e)
+map_take f (y ∷ xs) zero x e = ap (λ z. f z ∷ []) (some_inj y x e)
+map_take f (y ∷ xs) (suc n) x e = ap (λ l. f y ∷ l) (map_take f xs n x e)
+
+-- the next end is of this mail, and there is a poster of whom it is
+pub next_end : (id : MailId) (ms : List Mail) (texts : List (List (List ℕ))) (receipts : List (ℕ × Bool)) (ends new : List Sent) (end : Sent) → ends ≡ end ∷ new → SettledTo id ms texts receipts ends →
+    (sent_id end ≡ outlet_of id (sent_poster end)) × (length receipts < length texts)
+next_end id ms texts receipts ends new end e so_far =
+    let next = next_of (IsSentIn id) (length receipts) (length receipts) texts end new (rw e at so_far.0) in
+    (next.2.0 ∙ ap (outlet_of id) (sym next.2.1), place_of texts (length receipts) next.0 next.1)
+
+pub settled_more : (id : MailId) (ms : List Mail) (texts : List (List (List ℕ))) (receipts more : List (ℕ × Bool)) (ends new : List Sent) (end : Sent) → ends ≡ end ∷ new →
+    more ≡ receipts ++ (count_bundles (sent_mails end), is_closed (sent_mails end)) ∷ [] → IsPrefix (mails_of (sent_poster end) ms) (sent_mails end) →
+    SettledTo id ms texts receipts ends → SettledTo id ms texts more new
+settled_more id ms texts receipts more ends new end e f pre so_far =
+    let n = length receipts in
+    let next = next_of (IsSentIn id) n n texts end new (rw e at so_far.0) in
+    let sent = next.2 in
+    let count : length more ≡ suc n = omega (arith, ap length f, length-append receipts ((count_bundles (sent_mails end), is_closed (sent_mails end)) ∷ [])) in
+    let below = place_of texts n next.0 next.1 in
+    let prefix = subst (λ k. IsPrefix (mails_of k ms) (all_mails n next.0)) sent.1 (subst (IsPrefix (mails_of (sent_poster end) ms)) sent.2 pre) in
+    let says : more ≡ map receipt_for (take (suc n) texts) =
+    f ∙ (ap (λ r. receipts ++ r ∷ []) (receipt_all n (sent_mails end) next.0 sent.2) ∙ (ap (λ l. l ++ receipt_for next.0 ∷ []) so_far.3 ∙ sym (map_take receipt_for texts n next.0 next.1))) in
+    ((rw count next.3), omega arith, (rw count (took_more ms texts n next.0 next.1 prefix so_far.2)), says ∙ ap (λ k. map receipt_for (take k texts)) (sym count))
+
+take_all : {A : Type 0} (xs : List A) → take (length xs) xs ≡ xs
+take_all [] = refl
+take_all (x ∷ xs) = ap (λ l. x ∷ l) (take_all xs)
+
+-- no end is left: all posters were settled
+pub settled_end : (id : MailId) (ms : List Mail) (texts : List (List (List ℕ))) (receipts : List (ℕ × Bool)) (ends : List Sent) → ends ≡ [] → SettledTo id ms texts receipts ends →
+    TookFrom ms texts (length texts) × (receipts ≡ map receipt_for texts)
+settled_end id ms texts receipts ends e so_far =
+    let n = length receipts in
+    let none = each_from_length (IsSentIn id) n (drop n texts) ends so_far.0 in
+    let count : n ≡ length texts = omega (arith, none, ap length e, so_far.1, length-drop n texts) in
+    (subst (TookFrom ms texts) count so_far.2, so_far.3 ∙ (ap (λ k. map receipt_for (take k texts)) count ∙ ap (map receipt_for) (take_all texts)))
 
 -- a place among a mirror's mails is one among its verdicts
 pub within_verdicts : (posters : ℕ) (mirrors : List Mirror) (m k : ℕ) (b : Mirror) → AreComplete posters mirrors → slice_get mirrors m ≡ Some b →

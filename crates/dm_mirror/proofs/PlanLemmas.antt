@@ -1,86 +1,119 @@
 -- A base that makes no repository.
-use Rattle.std.proofs.Common.{◌≡◌, ◌≢◌, ◌⊎◌, ◌<◌, ◌≤◌, ℕ, zero, suc, false, true≢false, eqb, List, [], ◌∷◌, length, map, get_or, slice_get, Some, inl, inr, refl, sym, ap, ◌∙◌, subst, arith}
-use Rattle.std.proofs.lemmas.List.{length-map}
+use Rattle.std.proofs.Common.{◌≡◌, ◌≢◌, ◌⊎◌, ◌<◌, ◌≤◌, ℕ, zero, suc, false, true≢false, eqb, List, [], ◌∷◌, ◌++◌, ◌+◌, length, map, take, get_or, slice_get, Some, inl, inr, refl, sym, ap, ◌∙◌, subst, arith}
+use Rattle.std.specs.List.{AllByRecursion}
+use Rattle.std.proofs.lemmas.List.{length-map, map_more, map-append}
 use Rattle.dm_named.specs.Patches.{Patch}
+use Rattle.dm_repo.specs.declared.policy.Policy.{Policy}
+use Rattle.dm_repo.specs.declared.policy.Policy.TheVariants.{Refuse}
 use Rattle.dm_repo.specs.declared.refusal.Refusal.TheVariants as refusals
 use Rattle.dm_scratch.specs.declared.verdict.Verdict.{Verdict}
-use Rattle.dm_scratch.specs.declared.verdict.Verdict.TheVariants.{Taken, NothingNew, Malformed, Refused}
-use Rattle.dm_scratch.specs.Taking.{Takes, bundle, malformed, no_memory, IsAccepted}
+use Rattle.dm_scratch.specs.declared.verdict.Verdict.TheVariants.{Refused}
+use Rattle.dm_scratch.specs.Taking.{Takes, IsAccepted}
+use Rattle.dm_scratch.proofs.KeepLemmas.{refused_keeps}
 use Rattle.dm_mirror.specs.declared.plan.PlanFault.{PlanFault}
 use Rattle.dm_mirror.specs.declared.plan.PlanFault.TheVariants.{Posters, Mirrors, Bound, TooManyBundles, BadBase, NoMemory}
-use Rattle.dm_mirror.specs.declared.mirror.Copies.{Copies}
-use Rattle.dm_mirror.specs.Deliveries.{texts_of}
-use Rattle.dm_mirror.specs.Plans.{IsStart, AreStarts, RefusesStart, IsPlannable, IsFirstFault}
+use Rattle.dm_mirror.specs.Deliveries.{mails_in}
+use Rattle.dm_mirror.specs.Plans.{IsStart, AreStarts, RefusesStart, IsBadStart, IsPlannable, IsFirstFault}
 use Rattle.dm_mirror.proofs.DeliveryLemmas.{some_inj}
 
--- what isn't accepted changes nothing
-refused_keeps : (repo : List Patch) (text : List ℕ) (v : Verdict) (after : List Patch) → (IsAccepted v → ⊥) → Takes repo text v after → after ≡ repo
-refused_keeps repo text (Taken count) after refused t = absurd (refused tt)
-refused_keeps repo text NothingNew after refused t = absurd (refused tt)
-refused_keeps repo text (Malformed fault) after refused (bundle b r t) = absurd t
-refused_keeps repo text (Malformed fault) after refused (malformed f at e same) = same
-refused_keeps repo text (Malformed fault) after refused (no_memory e same) = same
-refused_keeps repo text (Refused why) after refused (bundle b r t) = t.1
-refused_keeps repo text (Refused why) after refused (malformed f at e same) = same
-refused_keeps repo text (Refused why) after refused (no_memory e same) = same
-
-pub refuses_start : (mirror : ℕ) (base : List ℕ) (v : Verdict) (after : List Patch) (e : PlanFault) → base ≢ [] → (IsAccepted v → ⊥) → Takes [] base v after →
+pub refuses_start : (mirror : ℕ) (base : List ℕ) (v : Verdict) (after : List Patch) (e : PlanFault) → base ≢ [] → (IsAccepted v → ⊥) → Takes [] base Refuse v after →
     ((v ≡ Refused refusals.NoMemory) × (e ≡ NoMemory)) ⊎ ((v ≢ Refused refusals.NoMemory) × (e ≡ BadBase mirror v)) → RefusesStart mirror base e
 refuses_start mirror base v after e filled refused t (inl x) = rw x.1 tt
 refuses_start mirror base v after e filled refused t (inr x) =
-    rw x.1 (refl, record { filled = filled; refused = refused; by_itself = x.0; takes = subst (Takes [] base v) (refused_keeps [] base v after refused t) t })
+    rw x.1 (refl, record { filled = filled; refused = refused; by_itself = x.0; takes = subst (Takes [] base Refuse v) (refused_keeps [] base v after refused t) t })
 
 -- a text that isn't empty
 pub filled : (base : List ℕ) → false ≡ eqb (length base) 0 → base ≢ []
 filled [] e same = absurd (true≢false (sym e))
 filled (x ∷ xs) e same = absurd (cc same)
 
--- a list of two
-two_of : {A : Type 0} (xs : List A) (d e : A) → 2 ≤ length xs → length xs < 3 → xs ≡ get_or xs 0 d ∷ get_or xs 1 e ∷ []
-two_of [] d e a b = absurd (omega arith)
-two_of (x ∷ []) d e a b = absurd (omega arith)
-two_of (x ∷ y ∷ []) d e a b = refl
-two_of (x ∷ y ∷ z ∷ xs) d e a b = absurd (omega arith)
+-- one more, of all
+pub all_more : {A : Type 0} (P : A → Type 0) (xs : List A) (x : A) → AllByRecursion P xs → P x → AllByRecursion P (xs ++ x ∷ [])
+all_more P [] x all p = (p, tt)
+all_more P (y ∷ xs) x all p = (all.0, all_more P xs x all.1 p)
 
-pub map_two : {A B : Type 0} (f : A → B) (xs : List A) (d e : A) → 2 ≤ length xs → length xs < 3 → map f xs ≡ f (get_or xs 0 d) ∷ f (get_or xs 1 e) ∷ []
-map_two f xs d e a b = ap (map f) (two_of xs d e a b)
+all_at : {A B : Type 0} (P : B → Type 0) (f : A → B) (xs : List A) (i : ℕ) (d : A) → i < length xs → AllByRecursion P (map f xs) → P (f (get_or xs i d))
+all_at P f [] i d l all = absurd (omega arith)
+all_at P f (x ∷ xs) zero d l all = all.0
+all_at P f (x ∷ xs) (suc i) d l all = all_at P f xs i d (omega arith) all.1
 
-pub same_two : {A B : Type 0} (f : A → B) (xs : List A) (d e : A) (ys : List B) → 2 ≤ length xs → length xs < 3 → ys ≡ f (get_or xs 0 d) ∷ f (get_or xs 1 e) ∷ [] → ys ≡ map f xs
-same_two f xs d e ys a b is = is ∙ sym (map_two f xs d e a b)
+-- one poster more of whom this holds
+pub all_next : {A B : Type 0} (P : B → Type 0) (f : A → B) (xs : List A) (i : ℕ) (d : A) → i < length xs → P (f (get_or xs i d)) → AllByRecursion P (map f (take i xs)) → AllByRecursion P (map f (take (i + 1) xs))
+all_next P f xs i d l p so_far = rw (map_more f xs i d l) (all_more P (map f (take i xs)) (f (get_or xs i d)) so_far p)
 
-pub starts_two : {A : Type 0} (f : A → List ℕ) (xs : List A) (d e : A) (ps : List (List Patch)) (l r : List Patch) → 2 ≤ length xs → length xs < 3 → ps ≡ l ∷ r ∷ [] →
-    IsStart (f (get_or xs 0 d)) l → IsStart (f (get_or xs 1 e)) r → AreStarts (map f xs) ps
-starts_two f xs d e ps l r a b is left right = rw (map_two f xs d e a b, is) (left, (right, tt))
+-- the poster at a place has few texts, where all have
+pub few_at : {A B C : Type 0} (h : B → C) (g : A → List B) (xs : List A) (i : ℕ) (d : A) → i < length xs → AllByRecursion (λ ts. length ts ≤ 1000) (map (λ x. map h (g x)) xs) → length (g (get_or xs i d)) ≤ 1000
+few_at h g xs i d l all = omega (arith, all_at (λ ts. length ts ≤ 1000) (λ x. map h (g x)) xs i d l all, length-map (g (get_or xs i d)) h)
 
-pub few : {A B : Type 0} (g : A → B) (ts : List A) → length ts ≤ 1000 → length (map g ts) ≤ 1000
-few g ts l = omega (arith, length-map ts g)
+mails_append : (ts : List (List (List ℕ))) (t : List (List ℕ)) → mails_in (ts ++ t ∷ []) ≡ mails_in ts + (length t + 1)
+mails_append [] t = omega arith
+mails_append (x ∷ ts) t = let a = mails_append ts t in omega arith
 
-pub plannable : {A B : Type 0} (f : A → List (List ℕ)) (h : B → List ℕ) (xs : List A) (ys : List B) (d e : A) (bound : ℕ) → 2 ≤ length xs → length xs < 3 → 2 ≤ length ys → length ys < 3 →
-    length (f (get_or xs 0 d)) ≤ 1000 → length (f (get_or xs 1 e)) ≤ 1000 → 0 < bound → bound ≤ 64 → IsPlannable (map f xs) (map h ys) bound
-plannable f h xs ys d e bound a b k l few_first few_second more less =
-    ((omega (arith, length-map xs f), omega (arith, length-map ys h), more, less), rw (map_two f xs d e a b) (few_first, (few_second, tt)))
+-- the mails of one poster more
+pub mails_next : {A : Type 0} (f : A → List (List ℕ)) (xs : List A) (i : ℕ) (d : A) (count many : ℕ) → i < length xs → many ≡ length (f (get_or xs i d)) → count ≡ mails_in (map f (take i xs)) →
+    count + (many + 1) ≡ mails_in (map f (take (i + 1) xs))
+mails_next f xs i d count many l e so_far =
+    let a = mails_append (map f (take i xs)) (f (get_or xs i d)) in
+    let b = ap mails_in (map_more f xs i d l) in
+    omega arith
 
--- the base of the second mirror is refused, and that of the first isn't
-pub second_refused : (posters : List (List (List ℕ))) (bases : List (List ℕ)) (bound : ℕ) (x y : List ℕ) (repo : List Patch) (e : PlanFault) → bases ≡ x ∷ y ∷ [] → IsPlannable posters bases bound →
-    IsStart x repo → RefusesStart 1 y e → IsFirstFault posters bases bound e
-second_refused posters bases bound x y repo NoMemory is good start refused = good
-second_refused posters bases bound x y repo (BadBase m v) is good start refused = (
-  good,
-  record {
-    base = y;
-    is_base = rw (is, refused.0) refl;
-    bad = refused.1;
-    first = λ k earlier below at. pick k earlier (rw refused.0 at below) (rw is at at);
-  },
-) where
-  pick : (k : ℕ) (earlier : List ℕ) → k < 1 → slice_get (x ∷ y ∷ []) k ≡ Some earlier → (r : List Patch) × IsStart earlier r
-  pick zero earlier l at = (repo, subst (λ t. IsStart t repo) (some_inj x earlier at) start)
-  pick (suc k) earlier l at = absurd (omega arith)
-second_refused posters bases bound x y repo Posters is good start refused = absurd refused
-second_refused posters bases bound x y repo Mirrors is good start refused = absurd refused
-second_refused posters bases bound x y repo Bound is good start refused = absurd refused
-second_refused posters bases bound x y repo TooManyBundles is good start refused = absurd refused
+starts_append : (bs : List (List ℕ)) (rs : List (List Patch)) (b : List ℕ) (r : List Patch) → AreStarts bs rs → IsStart b r → AreStarts (bs ++ b ∷ []) (rs ++ r ∷ [])
+starts_append [] [] b r all one = (one, tt)
+starts_append [] (q ∷ rs) b r all one = absurd all
+starts_append (a ∷ bs) [] b r all one = absurd all
+starts_append (a ∷ bs) (q ∷ rs) b r all one = (all.0, starts_append bs rs b r all.1 one)
 
--- as many copies as texts
-pub as_many : {A : Type 0} (f : A → List ℕ) (cs : List Copies) (ts : List A) → texts_of cs ≡ map f ts → length cs ≡ length ts
-as_many f cs ts e = sym (length-map cs (λ c. c.first)) ∙ (ap length e ∙ length-map ts f)
+-- the repository of one base more
+pub starts_next : {A R : Type 0} (f : A → List ℕ) (h : R → List Patch) (xs : List A) (i : ℕ) (d : A) (repos more : List R) (repo : R) → i < length xs → more ≡ repos ++ repo ∷ [] → IsStart (f (get_or xs i d)) (h repo) →
+    AreStarts (map f (take i xs)) (map h repos) → AreStarts (map f (take (i + 1) xs)) (map h more)
+starts_next f h xs i d repos more repo l e one so_far =
+    let made : map h more ≡ map h repos ++ h repo ∷ [] = ap (map h) e ∙ map-append h repos (repo ∷ []) in
+    rw (map_more f xs i d l, made) (starts_append (map f (take i xs)) (map h repos) (f (get_or xs i d)) (h repo) so_far one)
+
+start_before : {A : Type 0} (f : A → List ℕ) (xs : List A) (i m : ℕ) (rs : List (List Patch)) (b : List ℕ) → m < i → AreStarts (map f (take i xs)) rs → slice_get (map f xs) m ≡ Some b → (repo : List Patch) × IsStart b repo
+start_before f xs zero m rs b l all at = absurd (omega arith)
+start_before f [] (suc i) m rs b l all at = absurd (cc at)
+start_before f (x ∷ xs) (suc i) m [] b l all at = absurd all
+start_before f (x ∷ xs) (suc i) zero (r ∷ rs) b l all at = (r, subst (λ t. IsStart t r) (some_inj (f x) b at) all.0)
+start_before f (x ∷ xs) (suc i) (suc m) (r ∷ rs) b l all at = start_before f xs i m rs b (omega arith) all.1 at
+
+item_of : {A B : Type 0} (f : A → B) (xs : List A) (i : ℕ) (d : A) → i < length xs → slice_get (map f xs) i ≡ Some (f (get_or xs i d))
+item_of f [] i d l = absurd (omega arith)
+item_of f (x ∷ xs) zero d l = refl
+item_of f (x ∷ xs) (suc i) d l = item_of f xs i d (omega arith)
+
+-- the first base that makes no repository
+pub bad_start : {A : Type 0} (f : A → List ℕ) (xs : List A) (i : ℕ) (d : A) (rs : List (List Patch)) (e : PlanFault) → i < length xs → AreStarts (map f (take i xs)) rs → RefusesStart i (f (get_or xs i d)) e →
+    IsBadStart (map f xs) e
+bad_start f xs i d rs NoMemory l before refused = tt
+bad_start f xs i d rs (BadBase m v) l before refused =
+    record {
+      base = f (get_or xs i d);
+      is_base = rw refused.0 (item_of f xs i d l);
+      bad = refused.1;
+      first = λ k earlier below at. start_before f xs i k rs earlier (rw refused.0 at below) before at;
+    }
+bad_start f xs i d rs Posters l before refused = absurd refused
+bad_start f xs i d rs Mirrors l before refused = absurd refused
+bad_start f xs i d rs Bound l before refused = absurd refused
+bad_start f xs i d rs TooManyBundles l before refused = absurd refused
+
+-- the fault of a plan that could be
+pub start_fault : (posters : List (List (List ℕ))) (bases : List (List ℕ)) (policies : List Policy) (bound : ℕ) (e : PlanFault) → IsPlannable posters bases policies bound → IsBadStart bases e →
+    IsFirstFault posters bases policies bound e
+start_fault posters bases policies bound NoMemory good bad = good
+start_fault posters bases policies bound (BadBase m v) good bad = (good, bad)
+start_fault posters bases policies bound Posters good bad = absurd bad
+start_fault posters bases policies bound Mirrors good bad = absurd bad
+start_fault posters bases policies bound Bound good bad = absurd bad
+start_fault posters bases policies bound TooManyBundles good bad = absurd bad
+
+pub as_many_starts : (bs : List (List ℕ)) (rs : List (List Patch)) → AreStarts bs rs → length rs ≡ length bs
+as_many_starts [] [] all = refl
+as_many_starts [] (r ∷ rs) all = absurd all
+as_many_starts (b ∷ bs) [] all = absurd all
+as_many_starts (b ∷ bs) (r ∷ rs) all = ap suc (as_many_starts bs rs all.1)
+
+pub positive : {A : Type 0} (xs : List A) → false ≡ eqb (length xs) 0 → 0 < length xs
+positive [] e = absurd (true≢false (sym e))
+positive (x ∷ xs) e = omega arith

@@ -3,15 +3,12 @@ use Rattle.std.proofs.Common.{◌≡◌, ℕ, suc, ◌+◌, List, [], ◌∷◌,
 use Rattle.dm_mail.specs.declared.mail.Mail.{Mail}
 use Rattle.dm_mail.specs.Mails.{bundle, mark, next_mail, numbered_mails, poster_mails}
 use Rattle.dm_mail.proofs.MailLemmas.{next_body, length-numbered_mails}
-use Rattle.dm_mirror.specs.Deliveries.{all_mails}
-
-pub no_length : {A : Type 0} (xs : List A) → length xs ≡ 0 → xs ≡ []
-no_length [] e = refl
-no_length (x ∷ xs) e = absurd (omega arith)
-
--- after these mails, those of the texts that are left make those of all
-abbrev pub SentUpTo : ℕ → List Mail → List (List ℕ) → List (List ℕ) → Type 0
-SentUpTo poster mails rest all = mails ++ numbered_mails poster (length mails) (map bundle rest) ≡ poster_mails poster (map bundle all)
+use Rattle.dm_mail.specs.declared.ends.Sent.{Sent}
+use Rattle.dm_mail.specs.Ends.{outlet_id, outlet_poster}
+use Rattle.dm_mirror.specs.declared.jobs.Line.{Line}
+use Rattle.dm_mirror.specs.declared.jobs.NewLine.{NewLine}
+use Rattle.dm_mirror.specs.Jobs.{IsBegun, SameLine, EndsLine, EndsNew}
+use Rattle.dm_mirror.specs.Deliveries.{all_mails, SentUpTo}
 
 pub sent_none : (poster : ℕ) (mails : List Mail) (all : List (List ℕ)) → mails ≡ [] → SentUpTo poster mails all all
 sent_none poster mails all e = rw e refl
@@ -39,3 +36,14 @@ sent_all p q mails sent rest all none same so_far is =
 -- all mails of a poster are one more than its bundles
 pub length-all_mails : (p : ℕ) (texts : List (List ℕ)) → length (all_mails p texts) ≡ length texts + 1
 length-all_mails p texts = omega (arith, length-numbered_mails p 0 (map bundle texts ++ mark ∷ []), length-append (map bundle texts) (mark ∷ []), length-bodies texts)
+
+-- one line after the other, as it was and as it ended
+pub same_then : (a b c : Line) → SameLine a b → SameLine b c → SameLine a c
+same_then a b c x y = ((y.0.0 ∙ x.0.0, y.0.1 ∙ x.0.1), y.1 ∙ x.1)
+
+pub same_ends : (a b : Line) (end : Sent) → SameLine a b → EndsLine b end → EndsLine a end
+same_ends a b end x y = ((y.0.0 ∙ x.0.0, y.0.1 ∙ x.0.1), y.1 ∙ (ap (λ p. all_mails p b.texts.value.items) x.0.1 ∙ ap (all_mails (outlet_poster a.outlet)) x.1))
+
+pub begun_ends : (a : NewLine) (b : Line) (end : Sent) → IsBegun a b → EndsLine b end → EndsNew a end
+begun_ends a b end x y =
+    ((y.0.0 ∙ ap outlet_id x.0, y.0.1 ∙ ap outlet_poster x.0), y.1 ∙ (ap (λ o. all_mails (outlet_poster o) b.texts.value.items) x.0 ∙ ap (all_mails (outlet_poster a.outlet)) x.1))

@@ -2,14 +2,14 @@
 use Rattle.std.specs.Prelude.{◌≡◌, ◌≤◌, ℕ, List, [], length, vec_capacity, slice_get, Some}
 use Rattle.dm_mirror.specs.declared.mirror.Mirror.{Mirror}
 
--- it has taken nothing, and has room for so many mails with their verdicts
-pub record IsReady (expected : ℕ) (mirror : Mirror) : Type 0 where
+-- it has taken nothing, and has room for so many mails with their verdicts, and for a receipt of each of so many posters
+pub record IsReady (posters expected : ℕ) (mirror : Mirror) : Type 0 where
   pub no_mails : mirror.mails.items ≡ []
   pub no_verdicts : mirror.verdicts.items ≡ []
   pub no_receipts : mirror.receipts.items ≡ []
   pub room_for_mails : expected ≤ vec_capacity mirror.mails
   pub room_for_verdicts : expected ≤ vec_capacity mirror.verdicts
-  pub room_for_receipts : 2 ≤ vec_capacity mirror.receipts
+  pub room_for_receipts : posters ≤ vec_capacity mirror.receipts
 
 -- each mail has its place among the verdicts, and each of so many posters its receipt
 pub record IsComplete (posters : ℕ) (mirror : Mirror) : Type 0 where

@@ -2,6 +2,7 @@
 use Rattle.std.specs.Prelude.{◌≡◌, ℕ, List, [], ◌∷◌, Option, Some, None}
 use Rattle.std.specs.List.{flat_map}
 use Rattle.dm_named.specs.Patches.{Patch}
+use Rattle.dm_repo.specs.declared.policy.Policy.{Policy}
 use Rattle.dm_scratch.specs.declared.verdict.Verdict.{Verdict}
 use Rattle.dm_scratch.specs.Taking.{Takes, TakesEach}
 use Rattle.dm_mail.specs.declared.mail.Mail.{Mail}
@@ -40,14 +41,15 @@ AreAnswered [] (v ∷ vs) = ⊥
 AreAnswered (m ∷ ms) [] = ⊥
 AreAnswered (m ∷ ms) (v ∷ vs) = IsAnswered m.body v × AreAnswered ms vs
 
--- the plain fold: from this repository the bundles were taken one after the other, in the order of the mails, with these verdicts; a mark changes nothing
-pub record IsPlainFold (start : List Patch) (mails : List Mail) (verdicts : List (Option Verdict)) (after : List Patch) : Type 0 where
+-- the plain fold: from this repository the bundles were taken one after the other, in the order of the mails and under this policy, with these
+-- verdicts; a mark changes nothing
+pub record IsPlainFold (start : List Patch) (mails : List Mail) (policy : Policy) (verdicts : List (Option Verdict)) (after : List Patch) : Type 0 where
   pub answered : AreAnswered mails verdicts
-  pub taken : TakesEach start (bundle_texts mails) (verdicts_given verdicts) after
+  pub taken : TakesEach start (bundle_texts mails) policy (verdicts_given verdicts) after
 
 -- what one mail does to a repository
-abbrev pub TakesBody : List Patch → Body → Option Verdict → List Patch → Type 0
-TakesBody repo (Bundle text) None after = ⊥
-TakesBody repo (Bundle text) (Some verdict) after = Takes repo text verdict after
-TakesBody repo Close None after = after ≡ repo
-TakesBody repo Close (Some verdict) after = ⊥
+abbrev pub TakesBody : List Patch → Body → Policy → Option Verdict → List Patch → Type 0
+TakesBody repo (Bundle text) policy None after = ⊥
+TakesBody repo (Bundle text) policy (Some verdict) after = Takes repo text policy verdict after
+TakesBody repo Close policy None after = after ≡ repo
+TakesBody repo Close policy (Some verdict) after = ⊥

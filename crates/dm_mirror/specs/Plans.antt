@@ -1,7 +1,9 @@
 -- What a plan holds, and why there may be none.
-use Rattle.std.specs.Prelude.{◌≡◌, ◌≢◌, ◌⊎◌, ◌<◌, ◌≤◌, ℕ, List, [], ◌∷◌, length, slice_get, Some}
+use Rattle.std.specs.Prelude.{◌≡◌, ◌≢◌, ◌⊎◌, ◌<◌, ◌≤◌, ℕ, List, [], ◌∷◌, length, map, slice_get, Some}
 use Rattle.std.specs.List.{AllByRecursion}
 use Rattle.dm_named.specs.Patches.{Patch}
+use Rattle.dm_repo.specs.declared.policy.Policy.{Policy}
+use Rattle.dm_repo.specs.declared.policy.Policy.TheVariants.{Refuse}
 use Rattle.dm_repo.specs.declared.refusal.Refusal.TheVariants as refusals
 use Rattle.dm_scratch.specs.declared.verdict.Verdict.{Verdict}
 use Rattle.dm_scratch.specs.declared.verdict.Verdict.TheVariants.{Refused}
@@ -9,24 +11,27 @@ use Rattle.dm_scratch.specs.Taking.{Takes, IsAccepted}
 use Rattle.dm_mirror.specs.declared.plan.Plan.{Plan}
 use Rattle.dm_mirror.specs.declared.plan.PlanFault.{PlanFault}
 use Rattle.dm_mirror.specs.declared.plan.PlanFault.TheVariants.{Posters, Mirrors, Bound, TooManyBundles, BadBase, NoMemory}
-use Rattle.dm_mirror.specs.Deliveries.{texts_of}
 
 -- the texts of each poster's bundles
 abbrev pub plan_texts : Plan → List (List (List ℕ))
-plan_texts plan = texts_of plan.first_poster.items ∷ texts_of plan.second_poster.items ∷ []
+plan_texts plan = map (λ poster. poster.texts.value.items) plan.posters.items
 
 -- the repository that each mirror begins with
 abbrev pub plan_starts : Plan → List (List Patch)
-plan_starts plan = plan.first_mirror.repo.patches ∷ plan.second_mirror.repo.patches ∷ []
+plan_starts plan = map (λ mirror. mirror.repo.patches) plan.mirrors.items
 
--- how many mails may wait between a poster and a mirror
+-- what each mirror does with patches that conflict
+abbrev pub plan_policies : Plan → List Policy
+plan_policies plan = plan.policies.items
+
+-- how many mails may wait at a mirror
 abbrev pub plan_bound : Plan → ℕ
 plan_bound plan = plan.bound
 
--- the repository that a base's text makes: an empty one of an empty text, else the one that has taken the text
+-- the repository that a base's text makes: an empty one of an empty text, else the one that has taken the text, where conflicts are refused
 pub data IsStart (base : List ℕ) (repo : List Patch) : Type 0 where
   empty : base ≡ [] → repo ≡ [] → IsStart base repo
-  taken : (verdict : Verdict) → IsAccepted verdict → Takes [] base verdict repo → IsStart base repo
+  taken : (verdict : Verdict) → IsAccepted verdict → Takes [] base Refuse verdict repo → IsStart base repo
 
 -- so it is for each mirror
 abbrev pub AreStarts : List (List ℕ) → List (List Patch) → Type 0
@@ -40,7 +45,7 @@ pub record IsBadBase (base : List ℕ) (verdict : Verdict) : Type 0 where
   pub filled : base ≢ []
   pub refused : IsAccepted verdict → ⊥
   pub by_itself : verdict ≢ Refused refusals.NoMemory
-  pub takes : Takes [] base verdict []
+  pub takes : Takes [] base Refuse verdict []
 
 -- the base of this mirror makes no repository: memory ran out, or its verdict
 abbrev pub RefusesStart : ℕ → List ℕ → PlanFault → Type 0
@@ -55,23 +60,41 @@ pub record IsFirstBadBase (bases : List (List ℕ)) (mirror : ℕ) (verdict : Ve
   pub bad : IsBadBase base verdict
   pub first : (m : ℕ) (earlier : List ℕ) → m < mirror → slice_get bases m ≡ Some earlier → (repo : List Patch) × IsStart earlier repo
 
--- there are two posters and two mirrors, and 1 to 64 mails may wait
-abbrev pub IsShaped : List (List (List ℕ)) → List (List ℕ) → ℕ → Type 0
-IsShaped posters bases bound = (length posters ≡ 2) × (length bases ≡ 2) × (0 < bound) × (bound ≤ 64)
+-- one of the bases makes no repository: memory ran out, or it is the first such one with its verdict
+abbrev pub IsBadStart : List (List ℕ) → PlanFault → Type 0
+IsBadStart bases NoMemory = Unit {0}
+IsBadStart bases (BadBase mirror verdict) = IsFirstBadBase bases mirror verdict
+IsBadStart bases other = ⊥
+
+-- there are as many as a plan may have: one to eight
+abbrev pub IsCount : ℕ → Type 0
+IsCount n = (0 < n) × (n ≤ 8)
+
+-- there are none, or too many
+abbrev pub IsNoCount : ℕ → Type 0
+IsNoCount n = (n ≡ 0) ⊎ (8 < n)
+
+-- there are one to eight mirrors, each with a base and a policy
+abbrev pub AreMirrors : List (List ℕ) → List Policy → Type 0
+AreMirrors bases policies = IsCount (length bases) × (length policies ≡ length bases)
+
+-- there are one to eight posters and one to eight mirrors, and 1 to 64 mails may wait
+abbrev pub IsShaped : List (List (List ℕ)) → List (List ℕ) → List Policy → ℕ → Type 0
+IsShaped posters bases policies bound = IsCount (length posters) × AreMirrors bases policies × (0 < bound) × (bound ≤ 64)
 
 -- no poster has more than 1,000 bundles
 abbrev pub AreFew : List (List (List ℕ)) → Type 0
 AreFew posters = AllByRecursion (λ texts. length texts ≤ 1000) posters
 
 -- all that a plan may be, but for its bases
-abbrev pub IsPlannable : List (List (List ℕ)) → List (List ℕ) → ℕ → Type 0
-IsPlannable posters bases bound = IsShaped posters bases bound × AreFew posters
+abbrev pub IsPlannable : List (List (List ℕ)) → List (List ℕ) → List Policy → ℕ → Type 0
+IsPlannable posters bases policies bound = IsShaped posters bases policies bound × AreFew posters
 
 -- the fault is the first that there is; memory may run out once a plan can be
-abbrev pub IsFirstFault : List (List (List ℕ)) → List (List ℕ) → ℕ → PlanFault → Type 0
-IsFirstFault posters bases bound Posters = length posters ≢ 2
-IsFirstFault posters bases bound Mirrors = (length posters ≡ 2) × (length bases ≢ 2)
-IsFirstFault posters bases bound Bound = (length posters ≡ 2) × (length bases ≡ 2) × ((bound ≡ 0) ⊎ (64 < bound))
-IsFirstFault posters bases bound TooManyBundles = IsShaped posters bases bound × (AreFew posters → ⊥)
-IsFirstFault posters bases bound (BadBase mirror verdict) = IsPlannable posters bases bound × IsFirstBadBase bases mirror verdict
-IsFirstFault posters bases bound NoMemory = IsPlannable posters bases bound
+abbrev pub IsFirstFault : List (List (List ℕ)) → List (List ℕ) → List Policy → ℕ → PlanFault → Type 0
+IsFirstFault posters bases policies bound Posters = IsNoCount (length posters)
+IsFirstFault posters bases policies bound Mirrors = IsCount (length posters) × (IsNoCount (length bases) ⊎ (length policies ≢ length bases))
+IsFirstFault posters bases policies bound Bound = IsCount (length posters) × AreMirrors bases policies × ((bound ≡ 0) ⊎ (64 < bound))
+IsFirstFault posters bases policies bound TooManyBundles = IsShaped posters bases policies bound × (AreFew posters → ⊥)
+IsFirstFault posters bases policies bound (BadBase mirror verdict) = IsPlannable posters bases policies bound × IsFirstBadBase bases mirror verdict
+IsFirstFault posters bases policies bound NoMemory = IsPlannable posters bases policies bound

@@ -2,6 +2,7 @@
 use Rattle.std.specs.Prelude.{◌≡◌, ℕ, Bool, true, List, [], Option, Some, None, length, slice_get}
 use Rattle.std.specs.List.{All}
 use Rattle.dm_named.specs.Patches.{Patch}
+use Rattle.dm_repo.specs.declared.policy.Policy.{Policy}
 use Rattle.dm_scratch.specs.declared.verdict.Verdict.{Verdict}
 use Rattle.dm_scratch.specs.Taking.{IsAccepted}
 use Rattle.dm_mail.specs.declared.mail.Mail.{Mail}
@@ -28,8 +29,8 @@ mails_at o m = mirror_mails (slice_get o.mirrors.items m)
 abbrev pub SendsTexts : List (List (List ℕ)) → ℕ → List (List ℕ) → Type 0
 SendsTexts texts poster sent = slice_get texts poster ≡ Some sent
 
--- what a mirror is after a run, of posters that send these texts and from this repository
-pub record IsServed (texts : List (List (List ℕ))) (start : List Patch) (mirror : Mirror) : Type 0 where
+-- what a mirror is after a run, of posters that send these texts, from this repository and under this policy
+pub record IsServed (texts : List (List (List ℕ))) (start : List Patch) (policy : Policy) (mirror : Mirror) : Type 0 where
   -- of each poster it took all bundles, each once and in the poster's order, then the mark, and nothing after it
   pub delivered : (poster : ℕ) (sent : List (List ℕ)) → SendsTexts texts poster sent → mails_of poster mirror.mails.items ≡ all_mails poster sent
   -- it took the mark of each poster
@@ -38,14 +39,16 @@ pub record IsServed (texts : List (List (List ℕ))) (start : List Patch) (mirro
   pub known : AllBelow (length texts) mirror.mails.items
   -- each poster says that all its bundles and its mark were accepted
   pub accepted : (poster : ℕ) (sent : List (List ℕ)) → SendsTexts texts poster sent → slice_get mirror.receipts.items poster ≡ Some (length sent, true)
-  -- its verdicts and its repository are those of taking the bundles one after the other, in the order in which it took them
-  pub folded : IsPlainFold start mirror.mails.items mirror.verdicts.items mirror.repo.patches
+  -- its verdicts and its repository are those of taking the bundles one after the other, in the order in which it took them and under its policy
+  pub folded : IsPlainFold start mirror.mails.items policy mirror.verdicts.items mirror.repo.patches
 
 -- what a run leaves: each mirror is served
-pub record IsRunOf (texts : List (List (List ℕ))) (starts : List (List Patch)) (o : Outcome) : Type 0 where
+pub record IsRunOf (texts : List (List (List ℕ))) (starts : List (List Patch)) (policies : List Policy) (o : Outcome) : Type 0 where
   pub posters : o.posters ≡ length texts
   pub mirrors : length o.mirrors.items ≡ length starts
-  pub each : (m : ℕ) (start : List Patch) (mirror : Mirror) → slice_get starts m ≡ Some start → IsAt o m mirror → IsServed texts start mirror
+  pub as_many : length policies ≡ length starts
+  pub each : (m : ℕ) (start : List Patch) (policy : Policy) (mirror : Mirror) → slice_get starts m ≡ Some start → slice_get policies m ≡ Some policy → IsAt o m mirror →
+      IsServed texts start policy mirror
 
 -- a bundle was taken or brought nothing new; a mark has no verdict
 abbrev pub IsFine : Option Verdict → Type 0

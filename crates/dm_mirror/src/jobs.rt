@@ -1,37 +1,52 @@
 //! What each thread is given, and what it hands back.
-ghost use Rattle.std.specs.Prelude.{◌≡◌, ◌≤◌, ℕ, [], length};
-ghost use Rattle.dm_mail.specs.Ends.{outlet_mails, taken_of};
+ghost use Rattle.std.specs.Prelude.{◌≡◌, ◌≤◌, ◌+◌, ℕ, [], length};
+ghost use Rattle.dm_mail.specs.Ends.{outlet_mails, outlet_poster, taken_of, inlet_posters};
+ghost use Rattle.dm_mirror.specs.Deliveries.{SentUpTo};
 ghost use Rattle.dm_mirror.specs.Mirrors.{IsReady};
 
-use crate::mirror::{Copies, Mirror};
-use dm_mail::{Inlet, Outlet, Sent};
+use crate::mirror::Mirror;
+use dm_mail::{Inlet, Outlet, Text};
+use dm_repo::Policy;
+use std::collections::VecDeque;
+use std::snapshot::Snapshot;
 
-// A poster's outlets, one to each mirror, and its texts.
+// A poster's outlet to one mirror, with the texts that it still has to send there, of all its texts.
+#[derive(Drop)]
+pub(crate) struct Line {
+    pub(crate) outlet: Outlet,
+    pub(crate) left: VecDeque<Text>,
+    pub(crate) texts: Snapshot<VecDeque<Text>>,
+    ghost so_far: { SentUpTo (outlet_poster outlet) (outlet_mails outlet) left.items texts.value.items },
+    ghost few: { length (outlet_mails outlet) + length left.items ≤ 1000 },
+}
+
+// A poster's outlet to one mirror, which has sent nothing yet, with all texts that it is to send there. It has no Snapshot, so
+// that it is seen that it may be sent to a thread.
+#[derive(Drop)]
+pub(crate) struct NewLine {
+    pub(crate) outlet: Outlet,
+    pub(crate) left: VecDeque<Text>,
+    ghost unsent: { outlet_mails outlet ≡ [] },
+    ghost few: { length left.items ≤ 1000 },
+}
+
+// A poster's lines, one to each mirror, and how many texts there are.
 #[derive(Drop)]
 pub(crate) struct PostJob {
-    pub(crate) first: Outlet,
-    pub(crate) second: Outlet,
-    pub(crate) texts: Vec<Copies>,
-    ghost fresh_first: { outlet_mails first ≡ [] },
-    ghost fresh_second: { outlet_mails second ≡ [] },
-    ghost few: { length texts.items ≤ 1000 },
+    pub(crate) lines: VecDeque<NewLine>,
+    pub(crate) rounds: usize,
 }
 
-// A poster's ends, once it has ended.
-#[derive(Drop)]
-pub(crate) struct Posted {
-    pub(crate) first: Sent,
-    pub(crate) second: Sent,
-}
-
-// A mirror that has taken nothing yet, with its inlet.
+// A mirror with this number that has taken nothing yet, with its inlet.
 #[derive(Drop)]
 pub(crate) struct TakeJob {
+    pub(crate) number: usize,
     pub(crate) inlet: Inlet,
     pub(crate) mirror: Mirror,
+    pub(crate) policy: Policy,
     pub(crate) expected: usize,
     ghost fresh: { (p : ℕ) → taken_of inlet p ≡ [] },
-    ghost ready: { IsReady expected mirror },
+    ghost ready: { IsReady (inlet_posters inlet) expected mirror },
 }
 
 // A mirror that has taken its mails, with its inlet.

@@ -1,6 +1,6 @@
 //! Posters and mirrors in threads.
 //!
-//! A [`Plan`] has the bundles of each poster and the base of each mirror. [`run`] starts a thread for each: a poster sends
+//! A [`Plan`] has the bundles of each poster, and the base and the policy of each mirror. [`run`] starts a thread for each: a poster sends
 //! its bundles to every mirror and then its closing mark; a mirror takes what comes into its own repository, in the order
 //! in which it comes. The [`Outcome`] has what each mirror took, with the verdicts and the repository; [`report_text`]
 //! prints it.
@@ -11,12 +11,14 @@
 //! verdicts are those of taking the bundles one after the other, in the order in which they came.
 #![tactic(auto)]
 
+mod columns;
 mod gate;
 mod jobs;
 mod mirror;
 mod outcome;
 mod plan;
 mod planning;
+mod poster;
 mod posting;
 mod reading;
 mod report;
@@ -27,10 +29,7 @@ mod threads;
 
 pub use gate::{Gate, Open};
 pub use outcome::Outcome;
-pub use plan::{MIRRORS, Plan, PlanFault};
+pub use plan::{MOST_MIRRORS, Plan, PlanFault};
 pub use report::{WriteFault, report_text, write_report};
 pub use running::run;
 pub use threads::RunFault;
-
-#[cfg(test)]
-mod tests;

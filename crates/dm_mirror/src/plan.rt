@@ -1,42 +1,48 @@
-//! A plan: what each poster sends, and what each mirror begins with.
-ghost use Rattle.std.specs.Prelude.{◌≡◌, ◌≤◌, ◌<◌, ◌+◌, [], length, vec_capacity};
+//! A plan: what each poster sends, what each mirror begins with, and its policy.
+ghost use Rattle.std.specs.Prelude.{◌≡◌, ◌≤◌, ◌<◌, [], length, map, vec_capacity};
+ghost use Rattle.std.specs.List.{All};
+ghost use Rattle.dm_mirror.specs.Deliveries.{mails_in};
 ghost use Rattle.dm_mirror.specs.Mirrors.{IsReady};
 ghost use Rattle.dm_mirror.specs.declared.plan.PlanFault.TheVariants.{NoMemory};
 
-use crate::mirror::{Copies, Mirror};
+use crate::mirror::Mirror;
+use crate::poster::Poster;
+use dm_repo::Policy;
 use dm_scratch::Verdict;
 use std::alloc::AllocError;
+use std::collections::VecDeque;
 use thiserror::Error;
 
-/// How many mirrors a plan has.
-pub const MIRRORS: usize = 2;
+/// The most mirrors that a plan has.
+pub const MOST_MIRRORS: usize = 8;
 
-/// What each poster sends and each mirror begins with. It owns copies of all texts, one for each mirror, the repositories
-/// that the bases make, and all room that a run needs for its record.
+/// What each poster sends, what each mirror begins with, and its policy. It owns a copy of all texts, which the mirrors share,
+/// the repositories that the bases make, and all room that a run needs for its record.
 #[derive(Drop)]
 pub struct Plan {
-    pub(crate) first_poster: Vec<Copies>,
-    pub(crate) second_poster: Vec<Copies>,
-    pub(crate) first_mirror: Mirror,
-    pub(crate) second_mirror: Mirror,
+    pub(crate) posters: VecDeque<Poster>,
+    pub(crate) mirrors: VecDeque<Mirror>,
+    pub(crate) policies: Vec<Policy>,
     pub(crate) outcome: Vec<Mirror>,
+    pub(crate) expected: usize,
     pub(crate) bound: usize,
-    ghost few_first: { length first_poster.items ≤ 1000 },
-    ghost few_second: { length second_poster.items ≤ 1000 },
-    ghost first_ready: { IsReady (length first_poster.items + length second_poster.items + 2) first_mirror },
-    ghost second_ready: { IsReady (length first_poster.items + length second_poster.items + 2) second_mirror },
+    ghost shape: { ((0 < length posters.items) × (length posters.items ≤ 8)) × ((0 < length mirrors.items) × (length mirrors.items ≤ 8)) },
+    ghost as_many: { length policies.items ≡ length mirrors.items },
+    ghost copied: { All (λ poster. length poster.copies.items ≡ length mirrors.items) posters.items },
+    ghost all_expected: { expected ≡ mails_in (map (λ poster. poster.texts.value.items) posters.items) },
+    ghost ready: { All (IsReady (length posters.items) expected) mirrors.items },
     ghost empty: { outcome.items ≡ [] },
-    ghost room: { 2 ≤ vec_capacity outcome },
+    ghost room: { length mirrors.items ≤ vec_capacity outcome },
     ghost bound_is: { (0 < bound) × (bound ≤ 64) },
 }
 
 /// Why there is no plan, in the order in which it is reported. The first four take no memory.
 #[derive(Clone, Copy, PartialEq, Eq, Debug, Error)]
 pub enum PlanFault {
-    /// The count of posters isn't two.
+    /// The count of posters isn't 1 to 8.
     #[error("plan posters")]
     Posters,
-    /// The count of mirrors isn't two.
+    /// The count of mirrors isn't 1 to 8, or there aren't as many policies.
     #[error("plan mirrors")]
     Mirrors,
     /// The bound isn't 1 to 64.

@@ -1,25 +1,35 @@
 //! A run of a plan.
-ghost use Rattle.std.specs.Prelude.{◌≡◌, ◌+◌, ◌<◌, ◌≤◌, ◌∷◌, ℕ, [], length, IfOk, vec_capacity};
+ghost use Rattle.std.specs.Prelude.{◌≡◌, ◌+◌, ◌<◌, ◌≤◌, ◌∷◌, ℕ, true, List, [], length, map, IfOk, IfErr, vec_capacity};
+ghost use Rattle.std.specs.List.{All, AllByRecursion};
+ghost use Rattle.std.specs.VecDeque.{deque_capacity};
 ghost use Rattle.dm_mail.specs.declared.opening.MailFault.{MailFault};
-ghost use Rattle.dm_mail.specs.Mails.{mails_of, is_closed, count_bundles, AllBelow};
-ghost use Rattle.dm_mail.specs.Ends.{outlet_of, outlet_mails, inlet_id, sent_id, sent_poster, sent_mails, taken_of};
-ghost use Rattle.dm_mirror.specs.Jobs.{plan_mails, AreEnds};
-ghost use Rattle.dm_mirror.specs.Plans.{plan_texts, plan_starts};
-ghost use Rattle.dm_mirror.specs.Runs.{IsRunOf};
+ghost use Rattle.dm_mail.specs.Mails.{mails_of};
+ghost use Rattle.dm_mail.specs.Ends.{AreNewOutlets, inlet_id, outlet_mails};
+ghost use Rattle.dm_mirror.specs.Deliveries.{all_mails};
+ghost use Rattle.dm_mirror.specs.Jobs.{IsJobOf, IsKept, IsLine, IsOpened, IsSettled, AreSent, AreRowsSent};
+ghost use Rattle.dm_mirror.specs.Lists.{EachFrom, EachWith};
+ghost use Rattle.dm_mirror.specs.Mirrors.{IsComplete, IsReady};
+ghost use Rattle.dm_mirror.specs.Plans.{plan_bound, plan_texts, plan_starts, plan_policies};
+ghost use Rattle.dm_mirror.specs.Runs.{IsRunOf, IsServed, SendsTexts};
 
+use crate::columns::{Column, take_column};
 use crate::gate::Gate;
-use crate::jobs::{Kept, PostJob, TakeJob};
+use crate::jobs::{Kept, NewLine, PostJob, TakeJob};
 use crate::mirror::Mirror;
 use crate::outcome::Outcome;
 use crate::plan::Plan;
-use crate::threads::{RunFault, in_threads};
+use crate::poster::Poster;
+use crate::threads::{Ended, RunFault, in_threads};
 use dm_mail::laws::whole;
-use dm_mail::{Inlet, MailFault, Outlet, POSTERS, Sent, open, settle};
-use std::alloc::Global;
+use dm_mail::{MailFault, Outlet, Sent, Text, open, settle};
+use dm_repo::Policy;
+use std::alloc::{AllocError, Global};
+use std::collections::VecDeque;
+use std::snapshot::Snapshot;
 use std::sync::Wait;
 use std::thread::Threads;
 
-/// The only fault of mail that is opened for two posters and a good bound.
+/// The only fault of mail that is opened for a good count of posters and a good bound.
 fn of_mail(fault: MailFault) -> RunFault
     requires { fault ≡ MailFault.NoMemory }
     ensures { result ≡ RunFault.NoMemory }
@@ -31,102 +41,183 @@ fn of_mail(fault: MailFault) -> RunFault
     }
 }
 
-/// Opens the mail of a mirror: the outlets of both posters, and the inlet.
-fn open_two<R: Wait>(
+// The mail of each mirror, once it is open: the outlets of the posters, mirror by mirror, and the jobs of the mirrors.
+#[derive(Drop)]
+struct Opened {
+    outlets: VecDeque<VecDeque<Outlet>>,
+    mirrors: VecDeque<TakeJob>,
+}
+
+/// Opens the mail of each mirror, which has its policy, for so many posters. At most `bound` mails wait at each.
+fn open_each<R: Wait>(
     rt: &R,
     alloc: Global,
+    mirrors: VecDeque<Mirror>,
+    policies: &[Policy],
+    posters: usize,
+    expected: usize,
     bound: usize,
-) -> Result<(Outlet, Outlet, Inlet), RunFault>
-    requires { (0 < bound) × (bound ≤ 64) }
-    ensures ends { IfOk result (λ r. AreEnds r.0 r.1 r.2) }
-    ensures unsent { IfOk result (λ r. (outlet_mails r.0 ≡ []) × (outlet_mails r.1 ≡ [])) }
-    ensures untaken { IfOk result (λ r. (p : ℕ) → taken_of r.2 p ≡ []) }
+) -> Result<Opened, RunFault>
+    requires posters { (0 < posters) × (posters ≤ 8) }
+    requires bound { (0 < bound) × (bound ≤ 64) }
+    requires ready { All (IsReady posters expected) mirrors.items }
+    requires as_many { length policies.now ≡ length mirrors.items }
+    ensures mirrors { IfOk result (λ r. EachWith (IsOpened posters expected bound) mirrors.items r.mirrors.items) }
+    ensures policies { IfOk result (λ r. map (λ job. job.policy) r.mirrors.items ≡ policies.now) }
+    ensures fault { IfErr result (λ fault. fault ≡ RunFault.NoMemory) }
+    ensures outlets { IfOk result (λ r. EachWith (λ job row. (length row ≡ posters) × AreNewOutlets job.inlet 0 row) r.mirrors.items (map (λ row. row.items) r.outlets.items)) }
 {
-    let (mut outlets, inlet) = match open(rt, alloc, POSTERS, bound) {
-        Ok(ends) => ends,
-        Err(fault) => return Err(of_mail(fault)),
-    };
-    let (Some(second), Some(first)) = (outlets.pop(), outlets.pop()) else {
-        unreachable!()
-    };
-    Ok((first, second, inlet))
+    let mut mirrors = mirrors;
+    let mut jobs = VecDeque::with_capacity(alloc, mirrors.len())?;
+    let mut outlets = VecDeque::with_capacity(alloc, mirrors.len())?;
+    while let Some(mirror) = mirrors.pop_front() {
+        let (row, inlet) = match open(rt, alloc, posters, bound) {
+            Ok(ends) => ends,
+            Err(fault) => return Err(of_mail(fault)),
+        };
+        let number = jobs.len();
+        jobs.push_back_reserved(TakeJob {
+            number,
+            inlet,
+            mirror,
+            policy: policies[number],
+            expected,
+        });
+        outlets.push_back_reserved(VecDeque::from(row));
+    }
+    Ok(Opened {
+        outlets,
+        mirrors: jobs,
+    })
 }
 
-/// The jobs of both posters and of both mirrors, over mail that was opened for them, and the room for the outcome.
-fn jobs_of<R: Wait>(
-    rt: &R,
+/// The line of a new outlet, for a copy of a poster's texts.
+fn line_of(outlet: Outlet, left: VecDeque<Text>) -> NewLine
+    requires unsent { outlet_mails outlet ≡ [] }
+    requires few { length left.items ≤ 1000 }
+    ensures outlet { result.outlet ≡ outlet }
+    ensures texts { result.left.items ≡ left.items }
+{
+    NewLine { outlet, left }
+}
+
+/// The job of a poster with these outlets, one to each mirror.
+fn job_of(alloc: Global, poster: Poster, outlets: VecDeque<Outlet>) -> Result<PostJob, AllocError>
+    requires unsent { AllByRecursion (λ outlet. outlet_mails outlet ≡ []) outlets.items }
+    requires count { length poster.copies.items ≡ length outlets.items }
+    ensures { IfOk result (λ job. EachWith (IsLine poster.texts.value.items) outlets.items job.lines.items) }
+{
+    let Poster {
+        mut copies,
+        count,
+        ..
+    } = poster;
+    let mut outlets = outlets;
+    let mut lines = VecDeque::with_capacity(alloc, outlets.len())?;
+    while let Some(outlet) = outlets.pop_front() {
+        let Some(copy) = copies.pop_front() else {
+            unreachable!()
+        };
+        lines.push_back_reserved(line_of(outlet, copy));
+    }
+    Ok(PostJob {
+        lines,
+        rounds: count,
+    })
+}
+
+/// The jobs of the posters, over mail that was opened for them, and those of the mirrors.
+fn jobs_of(
     alloc: Global,
-    plan: Plan,
-) -> Result<((PostJob, PostJob), (TakeJob, TakeJob), Vec<Mirror>), RunFault>
-    ensures texts { IfOk result (λ r. (r.0.0.texts ≡ plan.first_poster) × (r.0.1.texts ≡ plan.second_poster)) }
-    ensures mirrors { IfOk result (λ r. (r.1.0.mirror ≡ plan.first_mirror) × (r.1.1.mirror ≡ plan.second_mirror)) }
-    ensures expected { IfOk result (λ r. (r.1.0.expected ≡ plan_mails plan) × (r.1.1.expected ≡ plan_mails plan)) }
-    ensures first_mail { IfOk result (λ r. AreEnds r.0.0.first r.0.1.first r.1.0.inlet) }
-    ensures second_mail { IfOk result (λ r. AreEnds r.0.0.second r.0.1.second r.1.1.inlet) }
-    ensures room { IfOk result (λ r. r.2 ≡ plan.outcome) }
+    posters: VecDeque<Poster>,
+    opened: Opened,
+) -> Result<(VecDeque<PostJob>, VecDeque<TakeJob>), AllocError>
+    requires outlets { EachWith (λ job row. (length row ≡ length posters.items) × AreNewOutlets job.inlet 0 row) opened.mirrors.items (map (λ row. row.items) opened.outlets.items) }
+    requires copied { All (λ poster. length poster.copies.items ≡ length opened.mirrors.items) posters.items }
+    ensures posters { IfOk result (λ r. EachFrom (IsJobOf opened.mirrors.items) 0 posters.items r.0.items) }
+    ensures mirrors { IfOk result (λ r. r.1 ≡ opened.mirrors) }
 {
-    let Plan {
-        first_poster,
-        second_poster,
-        first_mirror,
-        second_mirror,
-        outcome,
-        bound,
-    } = plan;
-    let expected = first_poster.len() + second_poster.len() + POSTERS;
-    let (one_left, two_left, left) = open_two(rt, alloc, bound)?;
-    let (one_right, two_right, right) = open_two(rt, alloc, bound)?;
-    let one = PostJob {
-        first: one_left,
-        second: one_right,
-        texts: first_poster,
-    };
-    let two = PostJob {
-        first: two_left,
-        second: two_right,
-        texts: second_poster,
-    };
-    let left = TakeJob {
-        inlet: left,
-        mirror: first_mirror,
-        expected,
-    };
-    let right = TakeJob {
-        inlet: right,
-        mirror: second_mirror,
-        expected,
-    };
-    Ok(((one, two), (left, right), outcome))
+    let Opened { outlets, mirrors } = opened;
+    let mut posters = posters;
+    let mut rows = outlets;
+    let mut jobs = VecDeque::with_capacity(alloc, posters.len())?;
+    while let Some(poster) = posters.pop_front() {
+        let room = VecDeque::with_capacity(alloc, rows.len())?;
+        let heads = VecDeque::with_capacity(alloc, rows.len())?;
+        let Column { heads, rests, .. } = take_column(rows, room, heads);
+        jobs.push_back(job_of(alloc, poster, heads)?)?;
+        rows = rests;
+    }
+    Ok((jobs, mirrors))
 }
 
-/// A mirror that has taken all that both posters sent, once they have ended: with what they say.
-fn settled<R: Wait>(rt: &R, one: Sent, two: Sent, kept: Kept) -> Mirror
-    requires first { (sent_id one ≡ outlet_of (inlet_id kept.inlet) 0) × (sent_poster one ≡ 0) }
-    requires second { (sent_id two ≡ outlet_of (inlet_id kept.inlet) 1) × (sent_poster two ≡ 1) }
-    requires taken { (p : ℕ) → taken_of kept.inlet p ≡ mails_of p kept.mirror.mails.items }
-    requires below { AllBelow 2 kept.mirror.mails.items }
-    requires count { length kept.mirror.mails.items ≡ length (sent_mails one) + length (sent_mails two) }
-    requires receipts { (kept.mirror.receipts.items ≡ []) × (2 ≤ vec_capacity kept.mirror.receipts) }
-    ensures first { mails_of 0 result.mails.items ≡ sent_mails one }
-    ensures second { mails_of 1 result.mails.items ≡ sent_mails two }
-    ensures receipts { result.receipts.items ≡ (count_bundles (sent_mails one), is_closed (sent_mails one)) ∷ (count_bundles (sent_mails two), is_closed (sent_mails two)) ∷ [] }
-    ensures same { (result.mails ≡ kept.mirror.mails) × (result.verdicts ≡ kept.mirror.verdicts) × (result.repo ≡ kept.mirror.repo) }
+/// Settles what each poster sent with what a mirror took: the mirror took all of it. Answers the mirror with the receipts
+/// of the posters, and the room that the posters' ends were in.
+fn settled<R: Wait>(
+    rt: &R,
+    plan: &Snapshot<Plan>,
+    ends: VecDeque<Sent>,
+    kept: Kept,
+) -> (Mirror, VecDeque<Sent>)
+    requires ends { AreSent (inlet_id kept.inlet) (plan_texts plan.now.value) ends.items }
+    requires kept { IsKept (plan_texts plan.now.value) (plan_bound plan.now.value) kept }
+    ensures delivered { (p : ℕ) (texts : List (List ℕ)) → SendsTexts (plan_texts plan.now.value) p texts → mails_of p result.0.mails.items ≡ all_mails p texts }
+    ensures receipts { result.0.receipts.items ≡ map (λ texts. (length texts, true)) (plan_texts plan.now.value) }
+    ensures same { (result.0.mails ≡ kept.mirror.mails) × (result.0.verdicts ≡ kept.mirror.verdicts) × (result.0.repo ≡ kept.mirror.repo) }
+    ensures room { (result.1.items ≡ []) × (deque_capacity result.1 ≡ deque_capacity ends) }
 {
     let Kept {
         mut inlet,
         mut mirror,
     } = kept;
-    mirror.receipts.push_reserved((one.count(), one.closed()));
-    mirror.receipts.push_reserved((two.count(), two.closed()));
-    settle(rt, one, &mut inlet);
-    settle(rt, two, &mut inlet);
+    let mut ends = ends;
+    while let Some(end) = ends.pop_front() {
+        mirror.receipts.push_reserved((end.count(), end.closed()));
+        settle(rt, end, &mut inlet);
+    }
     whole();
-    mirror
+    (mirror, ends)
+}
+
+/// Settles what the posters sent, poster by poster and mirror by mirror, with what each mirror took.
+fn settle_each<R: Wait>(
+    rt: &R,
+    plan: &Snapshot<Plan>,
+    ended: Ended,
+    room: VecDeque<VecDeque<Sent>>,
+    room_for_ends: VecDeque<Sent>,
+    outcome: Vec<Mirror>,
+) -> Vec<Mirror>
+    requires rows { AreRowsSent (map (λ one. inlet_id one.inlet) ended.kept.items) (plan_texts plan.now.value) (map (λ row. row.items) ended.rows.items) }
+    requires kept { AllByRecursion (IsKept (plan_texts plan.now.value) (plan_bound plan.now.value)) ended.kept.items }
+    requires empty { (room.items ≡ []) × (room_for_ends.items ≡ []) × (outcome.items ≡ []) }
+    requires fits { (length ended.rows.items ≤ deque_capacity ended.rows) × (length ended.rows.items ≤ deque_capacity room) × (length ended.rows.items ≤ deque_capacity room_for_ends) }
+    requires fits_outcome { length ended.kept.items ≤ vec_capacity outcome }
+    ensures { EachWith (IsSettled (plan_texts plan.now.value)) ended.kept.items result.items }
+{
+    let Ended { mut rows, mut kept } = ended;
+    let mut room = room;
+    let mut ends = room_for_ends;
+    let mut mirrors = outcome;
+    while let Some(one) = kept.pop_front() {
+        let Column {
+            heads,
+            rests,
+            room: free,
+        } = take_column(rows, room, ends);
+        let (mirror, emptied) = settled(rt, plan, heads, one);
+        mirrors.push_reserved(mirror);
+        rows = rests;
+        room = free;
+        ends = emptied;
+    }
+    mirrors
 }
 
 /// Runs a plan: a thread for each poster and for each mirror. A poster sends each bundle to every mirror before its next
 /// bundle, and then its mark. A mirror takes the mails in the order in which they come, the bundle of each into its own
-/// repository over an arena of its own, until it has all that the plan has for it. The gate is called around each taking.
+/// repository under its own policy, over an arena of its own, until it has all that the plan has for it. The gate is called
+/// around each taking.
 ///
 /// Answers once all threads have ended. That they end, and in which order the mails of two posters come, is in no
 /// contract. A verdict may be that memory ran out; the repository is then as it was, and the run goes on.
@@ -138,14 +229,26 @@ pub fn run<R: Threads + Wait + Sync, G: Gate + Sync>(
     plan: Plan,
     gate: &G,
 ) -> Result<Outcome, RunFault>
-    ensures { IfOk result (IsRunOf (plan_texts plan) (plan_starts plan)) }
+    ensures { IfOk result (IsRunOf (plan_texts plan) (plan_starts plan) (plan_policies plan)) }
 {
-    let (posters, takers, mut mirrors) = jobs_of(rt, alloc, plan)?;
-    let ((one, two), (left, right)) = in_threads(rt, alloc, gate, posters, takers)?;
-    mirrors.push_reserved(settled(rt, one.first, two.first, left));
-    mirrors.push_reserved(settled(rt, one.second, two.second, right));
+    let whole_plan = Snapshot::of(&plan);
+    let Plan {
+        posters,
+        mirrors,
+        policies,
+        outcome,
+        expected,
+        bound,
+    } = plan;
+    let count = posters.len();
+    let room = VecDeque::with_capacity(alloc, count)?;
+    let room_for_ends = VecDeque::with_capacity(alloc, count)?;
+    let opened = open_each(rt, alloc, mirrors, &policies, count, expected, bound)?;
+    let (posters, mirrors) = jobs_of(alloc, posters, opened)?;
+    let ended = in_threads(rt, alloc, gate, posters, mirrors)?;
+    let mirrors = settle_each(rt, &whole_plan, ended, room, room_for_ends, outcome);
     Ok(Outcome {
-        posters: POSTERS,
+        posters: count,
         mirrors,
     })
 }

@@ -10,40 +10,46 @@ use crate::jobs::Kept;
 use crate::mirror::Mirror;
 use bumpalo::Bump;
 use dm_mail::{Body, Inlet};
-use dm_repo::Repo;
+use dm_repo::{Policy, Repo};
 use dm_scratch::{Verdict, take};
 use std::alloc::Global;
 use std::sync::Wait;
 use std::thread;
 
 /// Takes the bundle of a mail into the repository. A mark is passed over.
-fn take_body(repo: &mut Repo<Global>, arena: &mut Bump, body: &Body) -> Option<Verdict>
-    ensures { TakesBody repo.old.patches body.now result repo.new.patches }
+fn take_body(
+    repo: &mut Repo<Global>,
+    arena: &mut Bump,
+    body: &Body,
+    policy: Policy,
+) -> Option<Verdict>
+    ensures { TakesBody repo.old.patches body.now policy result repo.new.patches }
 {
     match body {
-        Body::Bundle(text) => Some(take(repo, arena, text.as_bytes())),
+        Body::Bundle(text) => Some(take(repo, arena, text.as_bytes(), policy)),
         Body::Close => None,
     }
 }
 
-/// Takes so many mails, for which there is room, and the bundle of each into the mirror's repository. Where the inlet says
-/// that no mail comes, it asks again.
+/// Takes so many mails, for which there is room, and the bundle of each into the mirror's repository, under this policy. Where
+/// the inlet says that no mail comes, it asks again.
 pub(crate) fn take_mails<R: Wait, G: Gate>(
     rt: &R,
     arena: &mut Bump,
     gate: &G,
     number: usize,
+    policy: Policy,
     inlet: Inlet,
     mirror: Mirror,
     expected: usize,
 ) -> Kept
     requires fresh { (p : ℕ) → taken_of inlet p ≡ [] }
-    requires ready { IsReady expected mirror }
+    requires ready { IsReady (inlet_posters inlet) expected mirror }
     ensures same { SameInlet inlet result.inlet }
     ensures taken { (p : ℕ) → taken_of result.inlet p ≡ mails_of p result.mirror.mails.items }
     ensures count { length result.mirror.mails.items ≡ expected }
     ensures posters { AllBelow (inlet_posters inlet) result.mirror.mails.items }
-    ensures fold { IsPlainFold mirror.repo.patches result.mirror.mails.items result.mirror.verdicts.items result.mirror.repo.patches }
+    ensures fold { IsPlainFold mirror.repo.patches result.mirror.mails.items policy result.mirror.verdicts.items result.mirror.repo.patches }
     ensures receipts { result.mirror.receipts ≡ mirror.receipts }
 {
     let mut inlet = inlet;
@@ -61,7 +67,7 @@ pub(crate) fn take_mails<R: Wait, G: Gate>(
         gate.before_take(number, taken);
         match inlet.take(rt) {
             Ok(mail) => {
-                verdicts.push_reserved(take_body(&mut repo, arena, &mail.body));
+                verdicts.push_reserved(take_body(&mut repo, arena, &mail.body, policy));
                 mails.push_reserved(mail);
                 gate.after_take(number, taken);
             }

@@ -1,19 +1,22 @@
 //! The threads of a run: one for each poster and one for each mirror.
-ghost use Rattle.std.specs.Prelude.{◌≡◌, ℕ, [], IfOk, IfSome};
-ghost use Rattle.dm_mail.specs.Ends.{taken_of};
-ghost use Rattle.dm_mirror.specs.Jobs.{DoesPost, DoesTake, TakesInto};
+ghost use Rattle.std.specs.Prelude.{◌≡◌, ◌≤◌, ℕ, [], length, map, IfOk, IfSome};
+ghost use Rattle.std.specs.VecDeque.{deque_capacity};
+ghost use Rattle.dm_mail.specs.Ends.{taken_of, inlet_posters};
+ghost use Rattle.dm_mirror.specs.Jobs.{DoesPost, DoesTake, EndsNew, TakesInto};
+ghost use Rattle.dm_mirror.specs.Lists.{EachWith};
 ghost use Rattle.dm_mirror.specs.Mirrors.{IsReady};
 ghost use Rattle.dm_mirror.specs.declared.threads.RunFault.TheVariants.{NoMemory};
 
 use crate::gate::Gate;
-use crate::jobs::{Kept, PostJob, Posted, TakeJob};
+use crate::jobs::{Kept, Line, PostJob, TakeJob};
 use crate::mirror::Mirror;
 use crate::posting::post;
 use crate::starting::StartLine;
 use crate::taking::take_mails;
 use bumpalo::Bump;
-use dm_mail::Inlet;
+use dm_mail::{Inlet, Sent};
 use std::alloc::{AllocError, Global};
+use std::collections::VecDeque;
 use std::snapshot::Snapshot;
 use std::sync::Wait;
 use std::thread;
@@ -40,8 +43,8 @@ impl From<AllocError> for RunFault {
 #[derive(Drop)]
 pub(crate) struct WillPost(pub(crate) Snapshot<PostJob>);
 
-impl Promise<Option<Posted>> for WillPost {
-    ghost kept_by = { λ promise result. IfSome result (DoesPost promise.0.value) };
+impl Promise<Option<VecDeque<Sent>>> for WillPost {
+    ghost kept_by = { λ promise result. IfSome result (λ ends. DoesPost promise.0.value ends.items) };
 }
 
 // What a mirror's thread promises of its job.
@@ -49,23 +52,47 @@ impl Promise<Option<Posted>> for WillPost {
 pub(crate) struct WillTake(pub(crate) Snapshot<TakeJob>);
 
 impl Promise<Option<(Inlet, Mirror)>> for WillTake {
-    ghost kept_by = { λ promise result. IfSome result (TakesInto promise.0.value.inlet promise.0.value.mirror promise.0.value.expected) };
+    ghost kept_by = { λ promise result. IfSome result (TakesInto promise.0.value.policy promise.0.value.inlet promise.0.value.mirror promise.0.value.expected) };
 }
 
+type PosterThread = PromisedHandle<Option<VecDeque<Sent>>, WillPost>;
+
+type MirrorThread = PromisedHandle<Option<(Inlet, Mirror)>, WillTake>;
+
 /// A poster's thread, from the start line on. `None` where the run was called off.
-fn post_once_open<R: Wait>(rt: &R, line: &StartLine, job: PostJob) -> Option<Posted>
-    ensures { IfSome result (DoesPost job) }
+fn post_once_open<R: Wait>(
+    rt: &R,
+    alloc: Global,
+    line: &StartLine,
+    job: PostJob,
+) -> Option<VecDeque<Sent>>
+    ensures { IfSome result (λ ends. DoesPost job ends.items) }
 {
+    let (room_for_lines, room, room_for_ends) = match rooms_of(alloc, job.lines.len()) {
+        Ok(rooms) => rooms,
+        Err(error) => {
+            line.arrive(rt, Err(error));
+            return None;
+        }
+    };
     if !line.arrive(rt, Ok(())) {
         return None;
     }
-    let PostJob {
-        first,
-        second,
-        texts,
-    } = job;
-    let (first, second) = post(rt, first, second, texts);
-    Some(Posted { first, second })
+    Some(post(rt, job, room_for_lines, room, room_for_ends))
+}
+
+/// Room for so many lines, twice, and for what they end as.
+fn rooms_of(
+    alloc: Global,
+    lines: usize,
+) -> Result<(VecDeque<Line>, VecDeque<Line>, VecDeque<Sent>), AllocError>
+    ensures empty { IfOk result (λ r. (r.0.items ≡ []) × (r.1.items ≡ []) × (r.2.items ≡ [])) }
+    ensures fits { IfOk result (λ r. (lines ≤ deque_capacity r.0) × (lines ≤ deque_capacity r.1) × (lines ≤ deque_capacity r.2)) }
+{
+    let room_for_lines = VecDeque::with_capacity(alloc, lines)?;
+    let room = VecDeque::with_capacity(alloc, lines)?;
+    let room_for_ends = VecDeque::with_capacity(alloc, lines)?;
+    Ok((room_for_lines, room, room_for_ends))
 }
 
 /// A mirror's thread, from the start line on, with an arena of its own. `None` where the run was called off.
@@ -74,10 +101,9 @@ fn take_once_open<R: Wait, G: Gate>(
     alloc: Global,
     line: &StartLine,
     gate: &G,
-    number: usize,
     job: TakeJob,
 ) -> Option<(Inlet, Mirror)>
-    ensures { IfSome result (TakesInto job.inlet job.mirror job.expected) }
+    ensures { IfSome result (TakesInto job.policy job.inlet job.mirror job.expected) }
 {
     let mut arena = Bump::new(alloc);
     let memory = match arena.try_alloc_slice_copy(&[0u8]) {
@@ -88,11 +114,15 @@ fn take_once_open<R: Wait, G: Gate>(
         return None;
     }
     let TakeJob {
+        number,
         inlet,
         mirror,
+        policy,
         expected,
     } = job;
-    let Kept { inlet, mirror } = take_mails(rt, &mut arena, gate, number, inlet, mirror, expected);
+    let Kept { inlet, mirror } = take_mails(
+        rt, &mut arena, gate, number, policy, inlet, mirror, expected,
+    );
     Some((inlet, mirror))
 }
 
@@ -100,15 +130,47 @@ fn take_once_open<R: Wait, G: Gate>(
 fn start_poster<'s, 'e, R: Threads + Wait + Sync>(
     scope: &'s Scope<'s, &'e ()>,
     rt: &'e R,
+    alloc: Global,
     line: &'e StartLine,
     job: PostJob,
-) -> Result<PromisedHandle<Option<Posted>, WillPost>, RunFault>
+) -> Result<PosterThread, RunFault>
     ensures { IfOk result (λ handle. handle.promise.0.value ≡ job) }
 {
-    match scope.spawn_with(
-        WillPost(Snapshot::of(&job)),
-        move || post_once_open(rt, line, job),
-    ) {
+    let promise = WillPost(Snapshot::of(&job));
+    let PostJob { lines, rounds } = job;
+    start_one(
+        scope,
+        promise,
+        lines,
+        move |lines| -> Option<VecDeque<Sent>>
+            ensures { IfSome result (λ ends. EachWith EndsNew lines.items ends.items) }
+        { post_once_open(rt, alloc, line, PostJob { lines, rounds }) },
+    )
+}
+
+/// Starts a thread that is given a job. Of its type it knows alone that it may be sent.
+fn start_one<
+    's,
+    'e,
+    J: Send + Drop + 'e,
+    D: Send + Drop + 'e,
+    P: Promise<Option<D>> + Drop,
+    F: FnOnce(J) -> Option<D> + Send + 'e,
+>(
+    scope: &'s Scope<'s, &'e ()>,
+    promise: P,
+    job: J,
+    body: F,
+) -> Result<PromisedHandle<Option<D>, P>, RunFault>
+    requires runs { F.pre body job }
+    requires keeps { (r : _) → F.post body job r → P.kept_by promise r }
+    ensures { IfOk result (λ handle. handle.promise ≡ promise) }
+{
+    let work = move || -> Option<D>
+        requires { F.pre body job }
+        ensures { F.post body job result }
+    { body(job) };
+    match scope.spawn_with(promise, work) {
         Ok(handle) => Ok(handle),
         Err(_) => Err(RunFault::NoThread),
     }
@@ -144,22 +206,23 @@ fn start_with<
     }
 }
 
-/// Starts the thread of a mirror with this number.
+/// Starts the thread of a mirror.
 fn start_mirror<'s, 'e, R: Threads + Wait + Sync, G: Gate + Sync>(
     scope: &'s Scope<'s, &'e ()>,
     rt: &'e R,
     alloc: Global,
     line: &'e StartLine,
     gate: &'e G,
-    number: usize,
     job: TakeJob,
-) -> Result<PromisedHandle<Option<(Inlet, Mirror)>, WillTake>, RunFault>
+) -> Result<MirrorThread, RunFault>
     ensures { IfOk result (λ handle. handle.promise.0.value ≡ job) }
 {
     let promise = WillTake(Snapshot::of(&job));
     let TakeJob {
+        number,
         inlet,
         mirror,
+        policy,
         expected,
     } = job;
     start_with(
@@ -169,17 +232,108 @@ fn start_mirror<'s, 'e, R: Threads + Wait + Sync, G: Gate + Sync>(
         mirror,
         move |inlet, mirror| -> Option<(Inlet, Mirror)>
             requires fresh { (p : ℕ) → taken_of inlet p ≡ [] }
-            requires ready { IsReady expected mirror }
-            ensures { IfSome result (TakesInto inlet mirror expected) }
+            requires ready { IsReady (inlet_posters inlet) expected mirror }
+            ensures { IfSome result (TakesInto policy inlet mirror expected) }
         {
             let job = TakeJob {
+                number,
                 inlet,
                 mirror,
+                policy,
                 expected,
             };
-            take_once_open(rt, alloc, line, gate, number, job)
+            take_once_open(rt, alloc, line, gate, job)
         },
     )
+}
+
+/// Starts a thread for each poster. There is room for the handles.
+fn start_posters<'s, 'e, R: Threads + Wait + Sync>(
+    scope: &'s Scope<'s, &'e ()>,
+    rt: &'e R,
+    alloc: Global,
+    line: &'e StartLine,
+    jobs: VecDeque<PostJob>,
+    room: VecDeque<PosterThread>,
+) -> Result<VecDeque<PosterThread>, RunFault>
+    requires { (room.items ≡ []) × (length jobs.items ≤ deque_capacity room) }
+    ensures jobs { IfOk result (λ threads. map (λ thread. thread.promise.0.value) threads.items ≡ jobs.items) }
+    ensures count { IfOk result (λ threads. length threads.items ≡ length jobs.items) }
+{
+    let mut jobs = jobs;
+    let mut threads = room;
+    while let Some(job) = jobs.pop_front() {
+        let thread = start_poster(scope, rt, alloc, line, job)?;
+        threads.push_back_reserved(thread);
+    }
+    Ok(threads)
+}
+
+/// Starts a thread for each mirror. There is room for the handles.
+fn start_mirrors<'s, 'e, R: Threads + Wait + Sync, G: Gate + Sync>(
+    scope: &'s Scope<'s, &'e ()>,
+    rt: &'e R,
+    alloc: Global,
+    line: &'e StartLine,
+    gate: &'e G,
+    jobs: VecDeque<TakeJob>,
+    room: VecDeque<MirrorThread>,
+) -> Result<VecDeque<MirrorThread>, RunFault>
+    requires { (room.items ≡ []) × (length jobs.items ≤ deque_capacity room) }
+    ensures jobs { IfOk result (λ threads. map (λ thread. thread.promise.0.value) threads.items ≡ jobs.items) }
+    ensures count { IfOk result (λ threads. length threads.items ≡ length jobs.items) }
+{
+    let mut jobs = jobs;
+    let mut threads = room;
+    while let Some(job) = jobs.pop_front() {
+        let thread = start_mirror(scope, rt, alloc, line, gate, job)?;
+        threads.push_back_reserved(thread);
+    }
+    Ok(threads)
+}
+
+/// Joins the threads of the posters, in order. There is room for what they hand back. `None` where one was called off.
+fn join_posters<R: Threads + Wait>(
+    rt: &R,
+    threads: VecDeque<PosterThread>,
+    room: VecDeque<VecDeque<Sent>>,
+) -> Option<VecDeque<VecDeque<Sent>>>
+    requires { (room.items ≡ []) × (length threads.items ≤ deque_capacity room) }
+    ensures done { IfSome result (λ rows. EachWith (λ thread row. DoesPost thread.promise.0.value row.items) threads.items rows.items) }
+    ensures fits { IfSome result (λ rows. length rows.items ≤ deque_capacity rows) }
+{
+    let mut threads = threads;
+    let mut rows = room;
+    while let Some(thread) = threads.pop_front() {
+        let row = thread.join(rt)?;
+        rows.push_back_reserved(row);
+    }
+    Some(rows)
+}
+
+/// Joins the threads of the mirrors, in order. There is room for what they hand back. `None` where one was called off.
+fn join_mirrors<R: Threads + Wait>(
+    rt: &R,
+    threads: VecDeque<MirrorThread>,
+    room: VecDeque<Kept>,
+) -> Option<VecDeque<Kept>>
+    requires { (room.items ≡ []) × (length threads.items ≤ deque_capacity room) }
+    ensures { IfSome result (λ kept. EachWith (λ thread one. DoesTake thread.promise.0.value one) threads.items kept.items) }
+{
+    let mut threads = threads;
+    let mut kept = room;
+    while let Some(thread) = threads.pop_front() {
+        let (inlet, mirror) = thread.join(rt)?;
+        kept.push_back_reserved(Kept { inlet, mirror });
+    }
+    Some(kept)
+}
+
+/// What the threads of a run hand back, poster by poster and mirror by mirror.
+#[derive(Drop)]
+pub(crate) struct Ended {
+    pub(crate) rows: VecDeque<VecDeque<Sent>>,
+    pub(crate) kept: VecDeque<Kept>,
 }
 
 /// Starts the threads, lets them go once all are there, and joins them.
@@ -187,45 +341,46 @@ pub(crate) fn in_threads<R: Threads + Wait + Sync, G: Gate + Sync>(
     rt: &R,
     alloc: Global,
     gate: &G,
-    posters: (PostJob, PostJob),
-    mirrors: (TakeJob, TakeJob),
-) -> Result<((Posted, Posted), (Kept, Kept)), RunFault>
-    ensures posters { IfOk result (λ r. DoesPost posters.0 r.0.0 × DoesPost posters.1 r.0.1) }
-    ensures mirrors { IfOk result (λ r. DoesTake mirrors.0 r.1.0 × DoesTake mirrors.1 r.1.1) }
+    posters: VecDeque<PostJob>,
+    mirrors: VecDeque<TakeJob>,
+) -> Result<Ended, RunFault>
+    requires { (length posters.items ≤ 8) × (length mirrors.items ≤ 8) }
+    ensures posters { IfOk result (λ r. EachWith (λ job row. DoesPost job row.items) posters.items r.rows.items) }
+    ensures mirrors { IfOk result (λ r. EachWith DoesTake mirrors.items r.kept.items) }
+    ensures room { IfOk result (λ r. length r.rows.items ≤ deque_capacity r.rows) }
 {
+    let count = posters.len() + mirrors.len();
+    let poster_threads = VecDeque::with_capacity(alloc, posters.len())?;
+    let mirror_threads = VecDeque::with_capacity(alloc, mirrors.len())?;
+    let rows = VecDeque::with_capacity(alloc, posters.len())?;
+    let kept = VecDeque::with_capacity(alloc, mirrors.len())?;
     let line = StartLine::new();
     let line = &line;
     thread::scope(
         thread::scope_env(),
         rt,
-        |scope| -> Result<((Posted, Posted), (Kept, Kept)), RunFault>
-            ensures { IfOk result (λ r. (DoesPost posters.0 r.0.0 × DoesPost posters.1 r.0.1) × (DoesTake mirrors.0 r.1.0 × DoesTake mirrors.1 r.1.1)) }
+        |scope| -> Result<Ended, RunFault>
+            requires empty { (poster_threads.items ≡ []) × (mirror_threads.items ≡ []) × (rows.items ≡ []) × (kept.items ≡ []) }
+            requires fits { (length posters.items ≤ deque_capacity poster_threads) × (length mirrors.items ≤ deque_capacity mirror_threads) × (length posters.items ≤ deque_capacity rows) × (length mirrors.items ≤ deque_capacity kept) }
+            ensures { IfOk result (λ r. (EachWith (λ job row. DoesPost job row.items) posters.items r.rows.items × EachWith DoesTake mirrors.items r.kept.items) × (length r.rows.items ≤ deque_capacity r.rows)) }
         {
-            let one = start_poster(scope, rt, line, posters.0);
-            let two = start_poster(scope, rt, line, posters.1);
-            let left = start_mirror(scope, rt, alloc, line, gate, 0, mirrors.0);
-            let right = start_mirror(scope, rt, alloc, line, gate, 1, mirrors.1);
-            let (Ok(one), Ok(two), Ok(left), Ok(right)) = (one, two, left, right) else {
+            let Ok(posting) = start_posters(scope, rt, alloc, line, posters, poster_threads) else {
                 line.call_off(rt);
                 return Err(RunFault::NoThread);
             };
-            line.open(rt, 4)?;
-            let (one, two) = (one.join(rt), two.join(rt));
-            let (left, right) = (left.join(rt), right.join(rt));
-            match (one, two, left, right) {
-                (Some(one), Some(two), Some(left), Some(right)) => {
-                    let left = Kept {
-                        inlet: left.0,
-                        mirror: left.1,
-                    };
-                    let right = Kept {
-                        inlet: right.0,
-                        mirror: right.1,
-                    };
-                    Ok(((one, two), (left, right)))
-                }
-                _ => Err(RunFault::NoThread),
-            }
+            let Ok(taking) = start_mirrors(scope, rt, alloc, line, gate, mirrors, mirror_threads)
+            else {
+                line.call_off(rt);
+                return Err(RunFault::NoThread);
+            };
+            line.open(rt, count)?;
+            let Some(rows) = join_posters(rt, posting, rows) else {
+                return Err(RunFault::NoThread);
+            };
+            let Some(kept) = join_mirrors(rt, taking, kept) else {
+                return Err(RunFault::NoThread);
+            };
+            Ok(Ended { rows, kept })
         },
     )
 }

@@ -88,8 +88,8 @@ sorted front back b after t in_front in_back not_held =
     let n = patches_placed 0 b.patches in
     record {
       merged = patches m.new';
-      left = patches m.merge.0;
-      merges = rw (ap patches e.1 ∙ r, ap patches f.1 ∙ n) at (merge_patches m.merge.1);
+      left = patches m.merge.0.0;
+      merges = rw (ap patches e.1 ∙ r, ap patches f.1 ∙ n) at (merge_patches m.merge.0.1);
       appended = t.appended ∙ ap (λ l. (front ++ back) ++ l) m.is_merged;
     }
 

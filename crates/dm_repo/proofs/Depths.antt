@@ -1,13 +1,14 @@
 -- What stops patches that lead on is a path that is too deep.
-use Rattle.std.proofs.Common.{◌≡◌, List, ◌∷◌, inl, inr, ap, ◌∙◌}
+use Rattle.std.proofs.Common.{◌≡◌, ℕ, List, ◌∷◌, inl, inr, ap, ◌∙◌}
 use Rattle.std.proofs.lemmas.List.{map-append}
 use Rattle.dm_prim.specs.InTurn.{InTurn, step}
 use Rattle.dm_prim.specs.Primitives.{LawfulMap, Leads}
 use Rattle.dm_named.specs.Patches.{Patch}
 use Rattle.dm_bundle.specs.Bundles.{Contents}
 use Rattle.dm_repo.specs.Folds.{IsRoot, PatchLeads, MakesTooDeep, IsStopped, PatchStops, ShallowFold}
-use Rattle.dm_repo.specs.Merging.{Merge}
-use Rattle.dm_repo.specs.Squares.{Placed, patches, PlacedMerges}
+use Rattle.dm_repo.specs.declared.policy.Policy.{Policy}
+use Rattle.dm_repo.specs.Sifting.{MergesUnder}
+use Rattle.dm_repo.specs.Squares.{Placed, patches}
 use Rattle.dm_repo.specs.Repositories.{IsRepo}
 use Rattle.dm_repo.specs.Weighing.{FitStops, GoesTooDeep, IsBundleSplit, Fits, FrontIsFull, MergeIsFull}
 use Rattle.dm_repo.proofs.Staircases.{runs_part}
@@ -41,7 +42,8 @@ front_is_full repo b {front} {rest} {new} {s} x ok p r f =
     (front, rest, new, p, (s, r, goes_too_deep x f q.1))
 
 -- and what is merged leads on from its tree
-pub merge_is_full : (repo : List Patch) (b : Contents) {rest new merged : List Placed} {s : LawfulMap} (x : Placed) → Fits repo b rest new → Merge PlacedMerges rest new merged → ShallowFold repo s → FitStops IsStopped s merged x → MergeIsFull repo b
-merge_is_full repo b {rest} {new} {merged} {s} x fits m g f =
-    let a = merge_applies repo b rest new merged fits m s (grows_fold repo s g) in
-    (rest, new, merged, fits, m, inr (s, g, goes_too_deep x f a.1))
+pub merge_is_full : (repo : List Patch) (b : Contents) (policy : Policy) {rest new merged : List Placed} (skipped : ℕ) {s : LawfulMap} (x : Placed) →
+    Fits repo b rest new → MergesUnder policy rest new merged skipped → ShallowFold repo s → FitStops IsStopped s merged x → MergeIsFull repo b policy
+merge_is_full repo b policy {rest} {new} {merged} skipped {s} x fits m g f =
+    let a = merge_applies repo b policy rest new merged skipped fits m s (grows_fold repo s g) in
+    (rest, new, merged, skipped, fits, m, inr (s, g, goes_too_deep x f a.1))

@@ -9,10 +9,11 @@ use Rattle.dm_repo.specs.Squares.{Placed, placed, patches, PlacedCommutes, Place
 use Rattle.dm_repo.specs.Folds.{Fold, ShallowFold}
 use Rattle.dm_repo.specs.Weighing.{IsCommon}
 use Rattle.dm_repo.specs.Laws.{SplitFolds, FoldIsOne, MergeApplies, SplitIsOne, SplitStopsOnce, MergeIsOne, MergeStopsOnce}
-use Rattle.dm_repo.proofs.Staircases.{runs_on, runs_part, split_runs, split_back, rect_runs, split_one, split_stops, rect_one, merge_stops}
+use Rattle.dm_repo.proofs.Staircases.{runs_on, runs_part, split_runs, split_back, split_one, split_stops, rect_one, merge_stops}
 use Rattle.dm_repo.proofs.Trees.{fold_one, runs_lead, grows_fold}
-use Rattle.dm_repo.proofs.Placed.{PlacedLeads, placed_back, placed_runs, placed_one, merged_runs, merged_one, patches_placed, without, within}
+use Rattle.dm_repo.proofs.Placed.{PlacedLeads, placed_back, placed_runs, placed_one, merged_one, patches_placed, without, within}
 use Rattle.dm_repo.proofs.Firsts.{split_stops_one, merge_stops_one}
+use Rattle.dm_repo.proofs.SiftLemmas.{under_runs}
 
 pub fold_is_one : FoldIsOne
 fold_is_one = fold_one
@@ -43,9 +44,9 @@ base_of repo b front rest s base p fold folds =
     record { runs = rw e at (within rest q.2) }
 
 pub merge_applies : MergeApplies
-merge_applies repo b rest chosen merged f (rest', g) s fold =
+merge_applies repo b policy rest chosen merged skipped f g s fold =
     let p = base_of repo b f.front rest s f.base f.bundle_split.repo_split.split fold f.folds in
-    let z = rect_runs Placed LawfulMap PlacedMerges PlacedLeads merged_runs g p.runs (within chosen (runs_lead f.leads)) in
+    let z = under_runs policy rest chosen merged skipped g p.runs (within chosen (runs_lead f.leads)) in
     (z.0, without z.1)
 
 pub split_is_one : SplitIsOne

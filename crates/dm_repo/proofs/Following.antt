@@ -9,7 +9,7 @@ use Rattle.dm_named.specs.Patches.{Patch}
 use Rattle.dm_bundle.specs.Patches.{infos_of}
 use Rattle.dm_bundle.specs.Bundles.{Contents}
 use Rattle.dm_repo.specs.Staircases.{Split, nothing, stays}
-use Rattle.dm_repo.specs.Merging.{bare}
+use Rattle.dm_repo.specs.declared.policy.Policy.{Policy}
 use Rattle.dm_repo.specs.Squares.{Placed, placed, placed_from, patches, PlacedCommutes}
 use Rattle.dm_repo.specs.Folds.{PatchLeadsShallowly, ShallowFold}
 use Rattle.dm_repo.specs.Repositories.{Holds}
@@ -18,6 +18,7 @@ use Rattle.dm_repo.specs.Weighing.{IsRepoSplit, IsFull, MergeIsFull, IsBundleSpl
 use Rattle.dm_repo.specs.Weighed.{IsLookedUp}
 use Rattle.dm_repo.proofs.Members.{here, more}
 use Rattle.dm_repo.proofs.Placed.{patches_placed}
+use Rattle.dm_repo.proofs.SiftLemmas.{some_new, whole_under}
 use Rattle.dm_repo.proofs.Steps.{all_marked}
 
 -- where all are in the set, all stay in front
@@ -38,17 +39,17 @@ grows_whole repo g = rw (patches_placed 0 repo) g
 pub fits_whole : (repo : List Patch) (b : Contents) {new : List Placed} {s t : LawfulMap} → IsBundleSplit repo b (placed repo) [] new → ShallowFold repo s → InTurn PatchLeadsShallowly (patches new) s t → Fits repo b [] new
 fits_whole repo b {s} {t} h g r = record { front = placed repo; bundle_split = h; base = s; folds = grows_whole repo g; fitted = t; leads = r }
 
-pub merges_whole : (repo : List Patch) (b : Contents) {new : List Placed} {s t : LawfulMap} → Fits repo b [] new → ShallowFold repo s → InTurn PatchLeadsShallowly (patches new) s t → length repo + length new ≤ most_patches →
-    IsMergeOf repo b (patches new)
-merges_whole repo b {new} {s} {t} f g r few = record {
+pub merges_whole : (repo : List Patch) (b : Contents) (policy : Policy) {new : List Placed} {s t : LawfulMap} → Fits repo b [] new → ShallowFold repo s → InTurn PatchLeadsShallowly (patches new) s t → length repo + length new ≤ most_patches →
+    IsMergeOf repo b policy (patches new) 0
+merges_whole repo b policy {new} {s} {t} f g r few = record {
   rest = [];
   new = new;
   new' = new;
   fits = f;
-  merge = ([], bare);
+  merge = whole_under policy (some_new repo b f.bundle_split);
   is_merged = refl;
   appends = record { few = rw (length-map new (λ x. x.1)) few; tree = s; after = t; folds = g; leads = r };
 }
 
-pub full_whole : (repo : List Patch) (b : Contents) {new : List Placed} → Fits repo b [] new → IsFull repo new → MergeIsFull repo b
-full_whole repo b {new} f i = ([], new, new, f, ([], bare), i)
+pub full_whole : (repo : List Patch) (b : Contents) (policy : Policy) {new : List Placed} → Fits repo b [] new → IsFull repo new → MergeIsFull repo b policy
+full_whole repo b policy {new} f i = ([], new, new, 0, f, whole_under policy (some_new repo b f.bundle_split), i)

@@ -14,10 +14,14 @@ use Rattle.dm_bundle.specs.Patches.{infos_of, Distinct}
 use Rattle.dm_repo.specs.Repositories.{Holds, NamesEarlier}
 use Rattle.dm_repo.specs.CommonSets.{Closed, given, needed, Common, KnowsContext}
 use Rattle.dm_repo.specs.Weighing.{IsHeld}
+use Rattle.dm_repo.specs.declared.policy.Policy.{Policy}
+use Rattle.dm_repo.specs.declared.policy.Policy.TheVariants.{Refuse, Skip}
+use Rattle.dm_repo.specs.Sifting.{MergesUnder}
 use Rattle.dm_repo.specs.Laws.{MergeIsRepo}
 use Rattle.dm_repo.proofs.Members.{here, more, one_of, none_of, dep_held, earlier_on, distinct_on, infos_of-append}
 use Rattle.dm_repo.proofs.Placed.{patches_placed}
 use Rattle.dm_repo.proofs.Staircases.{runs_on}
+use Rattle.dm_repo.proofs.SiftedNames.{Among, sift_earlier, sift_names}
 
 strip_stays : {x x' : Placed} {ys ys' : List Placed} → CellRow PlacedCommutes x ys ys' x' → Stays x.1 x'.1
 strip_stays none = record { info = refl; deps = refl }
@@ -106,19 +110,28 @@ common_held repo b n k i (inl c) = closed i c
     closed i (needed m c d) = dep_held [] repo n m d
 common_held repo b n k i (inr h) = h.1
 
+-- what comes of patches under a policy names what these did, and is distinct
+under_earlier : (policy : Policy) (held : List PatchInfo) (rest new merged : List Placed) (count : ℕ) → MergesUnder policy rest new merged count → NamesEarlier held (patches new) → NamesEarlier held (patches merged)
+under_earlier Refuse held rest new merged count (m, e) n = sames_earlier held (rect_sames m.1) n
+under_earlier Skip held rest new merged count (some, (left, g, e)) n = sift_earlier held held g (λ i h. inl h) n
+
+under_names : (policy : Policy) (rest new merged : List Placed) (count : ℕ) → MergesUnder policy rest new merged count → Distinct (infos_of (patches new)) → Distinct (infos_of (patches merged)) × Among merged new
+under_names Refuse rest new merged count (m, e) d = let s = sames_names (rect_sames m.1) in (rw s d, λ i h. rw s at h)
+under_names Skip rest new merged count (some, (left, g, e)) d = sift_names g d
+
 pub merge_is_repo : MergeIsRepo
-merge_is_repo repo b merged ok distinct m =
+merge_is_repo repo b policy merged skipped ok distinct m =
     let f = m.fits in
     let c = f.bundle_split in
     let k = c.repo_split.prerequisites in
     let e = patches_placed 0 b.patches in
-    let s = rect_sames m.merge.1 in
     let a = chosen_new repo c.split (rw (ap infos_of e) distinct) in
     let held = common_held repo b ok.earlier k.knows in
     let n = chosen_earlier repo b [] (infos_of repo) c.split (rw e k.has_dependencies) held (λ i x. x) (λ i x. absurd (none_of x)) in
+    let s = under_names policy m.rest m.new m.new' skipped m.merge a.0 in
     record {
-      distinct = rw (infos_of-append repo merged, m.is_merged, sames_names s) (distinct_on (infos_of repo) (infos_of (patches m.new)) ok.distinct a.0 (λ i x y. (a.1 i y).1 x));
-      earlier = rw m.is_merged (earlier_on [] repo (patches m.new') ok.earlier (sames_earlier (infos_of repo) s n));
+      distinct = rw (infos_of-append repo merged, m.is_merged) (distinct_on (infos_of repo) (infos_of (patches m.new')) ok.distinct s.0 (λ i x y. (a.1 i (s.1 i y)).1 x));
+      earlier = rw m.is_merged (earlier_on [] repo (patches m.new') ok.earlier (under_earlier policy (infos_of repo) m.rest m.new m.new' skipped m.merge n));
       tree = m.appends.after;
       folds = record { start = m.appends.folds.start; is_root = m.appends.folds.is_root; runs = runs_on m.appends.folds.runs m.appends.leads };
     }

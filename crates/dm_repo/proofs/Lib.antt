@@ -17,6 +17,9 @@ pub mod Steps
 pub mod DependencyLemmas
 pub mod Making
 pub mod Firsts
+pub mod AskedRows
+pub mod SiftLemmas
+pub mod SiftedNames
 pub mod FoldLemmas
 pub mod Depths
 pub mod Following

@@ -8,18 +8,20 @@ use Rattle.dm_bundle.specs.Bundles.{Contents}
 use Rattle.dm_repo.specs.declared.refusal.Refusal.{Refusal}
 use Rattle.dm_repo.specs.declared.refusal.Refusal.TheVariants.{MissingContext, MissingDependency, ContextDepends, HeldDepends, DoesNotFit, Conflicts, Full, NoMemory}
 use Rattle.dm_repo.specs.Staircases.{Split, SplitStops}
-use Rattle.dm_repo.specs.Merging.{Merge, MergeStops}
-use Rattle.dm_repo.specs.Squares.{Placed, placed, patches, PlacedCommutes, PlacedMerges}
+use Rattle.dm_repo.specs.declared.policy.Policy.{Policy}
+use Rattle.dm_repo.specs.Sifting.{MergesUnder, ConflictsUnder}
+use Rattle.dm_repo.specs.Squares.{Placed, placed, patches, PlacedCommutes}
 use Rattle.dm_repo.specs.Folds.{IsRoot, PatchLeadsShallowly, MakesTooDeep, IsStopped, ShallowFold}
 use Rattle.dm_repo.specs.CommonSets.{KnowsContext, HasAll, HasDependencies, First, LacksAt, LacksDependency, LacksFirst}
 use Rattle.dm_repo.specs.Weighing.{IsCommon, IsHeld, HasPrerequisites, IsRepoSplit, IsBundleSplit, FitStops, GoesTooDeep, Fits, IsFull, RefusesBundle, Appends}
 use Rattle.dm_repo.specs.Laws.{Answer, Refused, NothingNew, Merged, AnswersWeighing, WeighingHasOneAnswer}
-use Rattle.dm_repo.proofs.Staircases.{split_one, split_stops, rect_one, merge_stops}
-use Rattle.dm_repo.proofs.Placed.{placed_one, merged_one}
+use Rattle.dm_repo.proofs.Staircases.{split_one, split_stops}
+use Rattle.dm_repo.proofs.SiftLemmas.{under_one, conflicts_one, conflicts_exclude}
+use Rattle.dm_repo.proofs.Placed.{placed_one}
 use Rattle.dm_repo.proofs.Members.{from_at}
 use Rattle.dm_repo.proofs.Making.{fit_stops_all, front_stops, grows_one}
 use Rattle.dm_repo.proofs.DependencyLemmas.{has_no_lack}
-use Rattle.dm_repo.proofs.Firsts.{split_stops_one, merge_stops_one, fit_stops_one}
+use Rattle.dm_repo.proofs.Firsts.{split_stops_one, fit_stops_one}
 
 -- the first place is one
 first_one : (Q : ℕ → Type 0) (j k : ℕ) → First Q j → First Q k → j ≡ k
@@ -39,15 +41,15 @@ deep_stops f = record {
   stops = record { before = f.stops.before; prim = f.stops.prim; after = f.stops.after; tree = f.stops.tree; at = f.stops.at; leads = f.stops.leads; stops = inr f.stops.stops };
 }
 
-module _ (repo : List Patch) (b : Contents) where
+module _ (repo : List Patch) (b : Contents) (policy : Policy) where
   -- each step stops for a reason, or goes through and leaves the answer to the next
-  abbrev Appending : List Placed → Answer → Type 0
-  Appending merged x = (IsFull repo merged × (x ≡ Refused Full)) ⊎ (Appends repo (patches merged) × (x ≡ Merged (patches merged)))
+  abbrev Appending : List Placed → ℕ → Answer → Type 0
+  Appending merged skipped x = (IsFull repo merged × (x ≡ Refused Full)) ⊎ (Appends repo (patches merged) × (x ≡ Merged (patches merged) skipped))
 
   abbrev MergingRest : List Placed → List Placed → Answer → Type 0
   MergingRest rest new x =
-      ((n : Placed) × (r : Placed) × MergeStops PlacedMerges rest new n r × (x ≡ Refused (Conflicts n.0 r.0))) ⊎
-      ((merged : List Placed) × Merge PlacedMerges rest new merged × Appending merged x)
+      ((n : Placed) × (r : Placed) × ConflictsUnder policy rest new n r × (x ≡ Refused (Conflicts n.0 r.0))) ⊎
+      ((merged : List Placed) × (skipped : ℕ) × MergesUnder policy rest new merged skipped × Appending merged skipped x)
 
   abbrev FittingNew : LawfulMap → List Placed → List Placed → Answer → Type 0
   FittingNew base rest new x =
@@ -84,21 +86,22 @@ module _ (repo : List Patch) (b : Contents) where
   full_appends (inr (s, g, d)) a = let e = grows_one repo a.folds g in fit_stops_all (deep_stops d.1) (rw e at a.leads)
 
   -- two answers that a step leads to are one
-  appending_one : (merged : List Placed) {x y : Answer} → Appending merged x → Appending merged y → x ≡ y
-  appending_one merged (inl (f, p)) (inl (g, q)) = p ∙ sym q
-  appending_one merged (inl (f, p)) (inr (a, q)) = absurd (full_appends f a)
-  appending_one merged (inr (a, p)) (inl (f, q)) = absurd (full_appends f a)
-  appending_one merged (inr (a, p)) (inr (c, q)) = p ∙ sym q
+  appending_one : (merged : List Placed) (skipped : ℕ) {x y : Answer} → Appending merged skipped x → Appending merged skipped y → x ≡ y
+  appending_one merged skipped (inl (f, p)) (inl (g, q)) = p ∙ sym q
+  appending_one merged skipped (inl (f, p)) (inr (a, q)) = absurd (full_appends f a)
+  appending_one merged skipped (inr (a, p)) (inl (f, q)) = absurd (full_appends f a)
+  appending_one merged skipped (inr (a, p)) (inr (c, q)) = p ∙ sym q
 
   merging_one : (rest new : List Placed) {x y : Answer} → MergingRest rest new x → MergingRest rest new y → x ≡ y
   merging_one rest new (inl (n, r, s, p)) (inl (n1, r1, t, q)) =
-      let e = merge_stops_one Placed PlacedMerges merged_one s t in
+      let e = conflicts_one policy rest new n r n1 r1 s t in
       p ∙ ap₂ (λ (i j : Placed). Refused (Conflicts i.0 j.0)) e.0 e.1 ∙ sym q
-  merging_one rest new (inl (n, r, s, p)) (inr (merged, m, a)) = absurd (merge_stops Placed PlacedMerges merged_one s m)
-  merging_one rest new (inr (merged, m, a)) (inl (n, r, s, p)) = absurd (merge_stops Placed PlacedMerges merged_one s m)
-  merging_one rest new {x} {y} (inr (merged, m, a)) (inr (merged1, m1, a1)) =
-      let e : merged ≡ merged1 = (rect_one Placed PlacedMerges merged_one refl m.1 m1.1).0 in
-      appending_one merged a (subst (λ (l : List Placed). Appending l y) (sym e) a1)
+  merging_one rest new (inl (n, r, s, p)) (inr (merged, skipped, m, a)) = absurd (conflicts_exclude policy rest new merged skipped n r s m)
+  merging_one rest new (inr (merged, skipped, m, a)) (inl (n, r, s, p)) = absurd (conflicts_exclude policy rest new merged skipped n r s m)
+  merging_one rest new {x} {y} (inr (merged, skipped, m, a)) (inr (merged1, skipped1, m1, a1)) =
+      let e = under_one policy rest new merged merged1 skipped skipped1 m m1 in
+      let a2 = subst (λ (k : ℕ). Appending merged1 k y) (sym e.1) a1 in
+      appending_one merged skipped a (subst (λ (l : List Placed). Appending l skipped y) (sym e.0) a2)
 
   fitting_one : (base : LawfulMap) (rest new : List Placed) {x y : Answer} → FittingNew base rest new x → FittingNew base rest new y → x ≡ y
   fitting_one base rest new (inl (z, f, p)) (inl (w, g, q)) = p ∙ ap (λ (i : Placed). Refused (DoesNotFit i.0)) (fit_stops_one f g) ∙ sym q
@@ -173,7 +176,7 @@ module _ (repo : List Patch) (b : Contents) where
   after_fits f m = after_bundle_split f.bundle_split (inr (f.base, f.folds, inr (f.fitted, f.leads, m)))
 
   -- each answer comes of these steps
-  refusal_steps : (why : Refusal) → why ≢ NoMemory → RefusesBundle repo b why → FindingContext (Refused why)
+  refusal_steps : (why : Refusal) → why ≢ NoMemory → RefusesBundle repo b policy why → FindingContext (Refused why)
   refusal_steps (MissingContext c) n f = inl (c, f, refl)
   refusal_steps (MissingDependency k d) n (knows, some, f) = inr (knows, inr (some, inl (k, d, f, refl)))
   refusal_steps (ContextDepends h r) n (p, s) = after_prerequisites p (inl (s.0, s.1, s.4, ap₂ (λ (i j : ℕ). Refused (ContextDepends i j)) s.2 s.3))
@@ -181,13 +184,13 @@ module _ (repo : List Patch) (b : Contents) where
   refusal_steps (DoesNotFit k) n (front, rest, new, p, s) = after_bundle_split p (inr (s.0, s.3, inl (s.1, s.4, ap (λ (i : ℕ). Refused (DoesNotFit i)) s.2)))
   refusal_steps (Conflicts k r) n (rest, new, f, s) = after_fits f (inl (s.0, s.1, s.4, ap₂ (λ (i j : ℕ). Refused (Conflicts i j)) s.2 s.3))
   refusal_steps Full n (inl (front, rest, new, p, s)) = after_bundle_split p (inl (s.0, s.1, s.2, refl))
-  refusal_steps Full n (inr (rest, new, merged, f, m, i)) = after_fits f (inr (merged, m, inl (i, refl)))
+  refusal_steps Full n (inr (rest, new, merged, skipped, f, m, i)) = after_fits f (inr (merged, skipped, m, inl (i, refl)))
   refusal_steps NoMemory n r = absurd (n refl)
 
-  answer_steps : (x : Answer) → x ≢ Refused NoMemory → AnswersWeighing repo b x → FindingContext x
+  answer_steps : (x : Answer) → x ≢ Refused NoMemory → AnswersWeighing repo b policy x → FindingContext x
   answer_steps (Refused why) n h = refusal_steps why (λ e. n (ap Refused e)) h
   answer_steps NothingNew n h = inr (h.knows, inl (h.all_held, refl))
-  answer_steps (Merged merged) n m = after_fits m.fits (inr (m.new', m.merge, inr (subst (Appends repo) m.is_merged m.appends, ap Merged m.is_merged)))
+  answer_steps (Merged merged skipped) n m = after_fits m.fits (inr (m.new', skipped, m.merge, inr (subst (Appends repo) m.is_merged m.appends, ap (λ (l : List Patch). Merged l skipped) m.is_merged)))
 
 pub weighing_one : WeighingHasOneAnswer
-weighing_one repo b x y n m h k = context_one repo b (answer_steps repo b x n h) (answer_steps repo b y m k)
+weighing_one repo b policy x y n m h k = context_one repo b policy (answer_steps repo b policy x n h) (answer_steps repo b policy y m k)

@@ -2,25 +2,26 @@
 use Rattle.std.proofs.Common.{◌≡◌, ◌≢◌, List, ◌++◌, Some, None, ◌⊎◌, inl, inr, refl, sym, ap, ap₂, ◌∙◌}
 use Rattle.dm_named.specs.Patches.{Patch}
 use Rattle.dm_bundle.specs.Bundles.{Contents}
+use Rattle.dm_repo.specs.declared.policy.Policy.TheVariants.{Refuse}
 use Rattle.dm_repo.specs.declared.refusal.Refusal.{Refusal}
 use Rattle.dm_repo.specs.declared.refusal.Refusal.TheVariants.{NoMemory}
 use Rattle.dm_repo.specs.Laws.{Refused, NothingNew, Merged, BothOrdersHaveOneAnswer}
 use Rattle.dm_repo.specs.Orders.{IsTaken, IsNotTaken, TakesInTurn, StopsInTurn}
 use Rattle.dm_repo.proofs.OneAnswer.{weighing_one}
 
-merged_is_answer : (m : List Patch) → Merged m ≢ Refused NoMemory
+merged_is_answer : (m : List Patch) → Merged m 0 ≢ Refused NoMemory
 merged_is_answer m e = cc
 
 taken_one : (repo : List Patch) (b : Contents) {x y : List Patch} → IsTaken repo b x → IsTaken repo b y → x ≡ y
-taken_one repo b p q = p.appended ∙ ap (λ l. repo ++ l) (inj (weighing_one repo b (Merged p.merged) (Merged q.merged) (merged_is_answer p.merged) (merged_is_answer q.merged) p.is_merge q.is_merge)) ∙ sym q.appended
+taken_one repo b p q = p.appended ∙ ap (λ l. repo ++ l) (inj (weighing_one repo b Refuse (Merged p.merged 0) (Merged q.merged 0) (merged_is_answer p.merged) (merged_is_answer q.merged) p.is_merge q.is_merge)) ∙ sym q.appended
   where
-    inj : {m n : List Patch} → Merged m ≡ Merged n → m ≡ n
+    inj : {m n : List Patch} → Merged m 0 ≡ Merged n 0 → m ≡ n
     inj e = cc
 
 not_both : (repo : List Patch) (b : Contents) {x : List Patch} → IsTaken repo b x → IsNotTaken repo b → ⊥
-not_both repo b p (inl n) = let e : Merged p.merged ≡ NothingNew = weighing_one repo b (Merged p.merged) NothingNew (merged_is_answer p.merged) (λ e. cc) p.is_merge n in cc
+not_both repo b p (inl n) = let e : Merged p.merged 0 ≡ NothingNew = weighing_one repo b Refuse (Merged p.merged 0) NothingNew (merged_is_answer p.merged) (λ e. cc) p.is_merge n in cc
 not_both repo b p (inr (why, n, r)) =
-    let e : Merged p.merged ≡ Refused why = weighing_one repo b (Merged p.merged) (Refused why) (merged_is_answer p.merged) (λ e. n (inj e)) p.is_merge r in cc
+    let e : Merged p.merged 0 ≡ Refused why = weighing_one repo b Refuse (Merged p.merged 0) (Refused why) (merged_is_answer p.merged) (λ e. n (inj e)) p.is_merge r in cc
   where
     inj : {v w : Refusal} → Refused v ≡ Refused w → v ≡ w
     inj e = cc

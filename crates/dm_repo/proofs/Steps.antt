@@ -5,6 +5,7 @@ use Rattle.dm_info.specs.PatchInfo.{PatchInfo}
 use Rattle.dm_named.specs.Patches.{Patch}
 use Rattle.dm_bundle.specs.Patches.{infos_of}
 use Rattle.dm_bundle.specs.Bundles.{Contents}
+use Rattle.dm_repo.specs.declared.policy.Policy.{Policy}
 use Rattle.dm_repo.specs.declared.refusal.Refusal.{Refusal}
 use Rattle.dm_repo.specs.declared.refusal.Refusal.TheVariants.{MissingContext, MissingDependency, ContextDepends, HeldDepends, DoesNotFit, Conflicts, Full, NoMemory}
 use Rattle.dm_repo.specs.declared.stop.Stop.{Stop}
@@ -42,15 +43,15 @@ context_to_split repo b (DoesNotFit n) h = absurd h
 context_to_split repo b (Conflicts n d) h = absurd h
 context_to_split repo b Full h = absurd h
 
-pub context_to_weigh : (repo : List Patch) (b : Contents) (why : Refusal) → RefusesContext repo b why → RefusesBundle repo b why
-context_to_weigh repo b (MissingContext c) h = h
-context_to_weigh repo b NoMemory h = tt
-context_to_weigh repo b (MissingDependency n d) h = absurd h
-context_to_weigh repo b (ContextDepends n d) h = absurd h
-context_to_weigh repo b (HeldDepends n d) h = absurd h
-context_to_weigh repo b (DoesNotFit n) h = absurd h
-context_to_weigh repo b (Conflicts n d) h = absurd h
-context_to_weigh repo b Full h = absurd h
+pub context_to_weigh : (repo : List Patch) (b : Contents) (policy : Policy) (why : Refusal) → RefusesContext repo b why → RefusesBundle repo b policy why
+context_to_weigh repo b policy (MissingContext c) h = h
+context_to_weigh repo b policy NoMemory h = tt
+context_to_weigh repo b policy (MissingDependency n d) h = absurd h
+context_to_weigh repo b policy (ContextDepends n d) h = absurd h
+context_to_weigh repo b policy (HeldDepends n d) h = absurd h
+context_to_weigh repo b policy (DoesNotFit n) h = absurd h
+context_to_weigh repo b policy (Conflicts n d) h = absurd h
+context_to_weigh repo b policy Full h = absurd h
 
 -- a block and a stop become the refusal that Q tells of
 pub between_places : (Q : Refusal → Type 0) (why : ℕ → ℕ → Refusal) (S : ℕ → ℕ → Type 0) (blocked : Blocked) → Q NoMemory → ((j k : ℕ) → S j k → Q (why j k)) → BlockedBy blocked S → Q (refusal_between why blocked)

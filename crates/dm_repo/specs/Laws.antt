@@ -1,15 +1,18 @@
 -- What holds of all repositories and bundles.
-use Rattle.std.specs.Prelude.{◌≡◌, ◌≢◌, ◌↔◌, List, ◌++◌, Option}
+use Rattle.std.specs.Prelude.{◌≡◌, ◌≢◌, ◌↔◌, ◌+◌, ℕ, List, ◌∷◌, ◌++◌, length, Option}
 use Rattle.dm_prim.specs.InTurn.{InTurn}
 use Rattle.dm_prim.specs.Primitives.{LawfulMap}
 use Rattle.dm_named.specs.Patches.{Patch}
 use Rattle.dm_bundle.specs.Bundles.{Contents}
 use Rattle.dm_repo.specs.Staircases.{Split, SplitStops}
 use Rattle.dm_repo.specs.Merging.{Merge, MergeStops}
+use Rattle.dm_repo.specs.Sifting.{MergesUnder}
 use Rattle.dm_repo.specs.Squares.{Placed, placed, patches, PlacedCommutes, PlacedMerges}
 use Rattle.dm_repo.specs.Folds.{PatchLeads, Fold}
 use Rattle.dm_bundle.specs.Patches.{infos_of, Distinct}
 use Rattle.dm_repo.specs.Repositories.{Repository, IsRepo}
+use Rattle.dm_repo.specs.declared.policy.Policy.{Policy}
+use Rattle.dm_repo.specs.declared.policy.Policy.TheVariants.{Refuse, Skip}
 use Rattle.dm_repo.specs.declared.refusal.Refusal.{Refusal}
 use Rattle.dm_repo.specs.declared.refusal.Refusal.TheVariants.{NoMemory}
 use Rattle.dm_repo.specs.Weighing.{IsCommon, Fits, RefusesBundle, IsNothingNew, IsMergeOf}
@@ -25,10 +28,10 @@ SplitFolds = (repo : List Patch) (b : Contents) (front rest : List Placed) →
 abbrev pub FoldIsOne : Type 0
 FoldIsOne = (xs : List Patch) (s t : LawfulMap) → Fold xs s → Fold xs t → s ≡ t
 
--- what fits and is merged applies after the repository
+-- what fits and is merged applies after the repository, also where others are skipped
 abbrev pub MergeApplies : Type 0
-MergeApplies = (repo : List Patch) (b : Contents) (rest new merged : List Placed) →
-    Fits repo b rest new → Merge PlacedMerges rest new merged →
+MergeApplies = (repo : List Patch) (b : Contents) (policy : Policy) (rest new merged : List Placed) (skipped : ℕ) →
+    Fits repo b rest new → MergesUnder policy rest new merged skipped →
     (s : LawfulMap) → Fold repo s → (t : LawfulMap) × InTurn PatchLeads (patches merged) s t
 
 -- a repository is split in one way
@@ -56,25 +59,36 @@ MergeStopsOnce = (rest new : List Placed) (n r : Placed) → MergeStops PlacedMe
 
 -- with a merged bundle appended a repository is one again
 abbrev pub MergeIsRepo : Type 0
-MergeIsRepo = (repo : List Patch) (b : Contents) (merged : List Patch) →
-    IsRepo repo → Distinct (infos_of b.patches) → IsMergeOf repo b merged → IsRepo (repo ++ merged)
+MergeIsRepo = (repo : List Patch) (b : Contents) (policy : Policy) (merged : List Patch) (skipped : ℕ) →
+    IsRepo repo → Distinct (infos_of b.patches) → IsMergeOf repo b policy merged skipped → IsRepo (repo ++ merged)
 
--- an answer to weighing: why the bundle isn't taken, that nothing is new, or the merged patches
+-- where nothing conflicts both policies say the same: what is merged where conflicts are refused is merged so where they are skipped, and nothing
+-- is skipped; and where nothing is skipped, all is merged so where they are refused
+abbrev pub PoliciesAgree : Type 0
+PoliciesAgree = (rest : List Placed) (n : Placed) (new merged : List Placed) →
+    MergesUnder Refuse rest (n ∷ new) merged 0 ↔ MergesUnder Skip rest (n ∷ new) merged 0
+
+-- each patch to merge is merged or skipped
+abbrev pub EachIsMergedOrSkipped : Type 0
+EachIsMergedOrSkipped = (policy : Policy) (rest new merged : List Placed) (skipped : ℕ) →
+    MergesUnder policy rest new merged skipped → length merged + skipped ≡ length new
+
+-- an answer to weighing: why the bundle isn't taken, that nothing is new, or the merged patches and how many are skipped
 pub data Answer : Type 0 where
   Refused : Refusal → Answer
   NothingNew : Answer
-  Merged : List Patch → Answer
+  Merged : List Patch → ℕ → Answer
 
 -- it answers the weighing of the bundle against the repository
-abbrev pub AnswersWeighing : List Patch → Contents → Answer → Type 0
-AnswersWeighing repo b (Refused why) = RefusesBundle repo b why
-AnswersWeighing repo b NothingNew = IsNothingNew repo b
-AnswersWeighing repo b (Merged merged) = IsMergeOf repo b merged
+abbrev pub AnswersWeighing : List Patch → Contents → Policy → Answer → Type 0
+AnswersWeighing repo b policy (Refused why) = RefusesBundle repo b policy why
+AnswersWeighing repo b policy NothingNew = IsNothingNew repo b
+AnswersWeighing repo b policy (Merged merged skipped) = IsMergeOf repo b policy merged skipped
 
--- weighing has one answer, where memory doesn't run out
+-- weighing has one answer under each policy, where memory doesn't run out
 abbrev pub WeighingHasOneAnswer : Type 0
-WeighingHasOneAnswer = (repo : List Patch) (b : Contents) (x y : Answer) → x ≢ Refused NoMemory → y ≢ Refused NoMemory →
-    AnswersWeighing repo b x → AnswersWeighing repo b y → x ≡ y
+WeighingHasOneAnswer = (repo : List Patch) (b : Contents) (policy : Policy) (x y : Answer) → x ≢ Refused NoMemory → y ≢ Refused NoMemory →
+    AnswersWeighing repo b policy x → AnswersWeighing repo b policy y → x ≡ y
 
 -- two answers to taking two bundles in both orders are the same: both none, or twice the same patches
 abbrev pub BothOrdersHaveOneAnswer : Type 0

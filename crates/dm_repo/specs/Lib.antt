@@ -1,6 +1,7 @@
 pub mod Staircases
 pub mod Merging
 pub mod Squares
+pub mod Sifting
 pub mod Stops
 pub mod MarkLists
 pub mod Folds

@@ -1,4 +1,4 @@
--- Two bundles that are taken in both orders.
+-- Two bundles that are taken in both orders, where conflicts are refused.
 use Rattle.std.specs.Prelude.{◌≡◌, ◌≢◌, ◌⊎◌, List, ◌++◌, Option, Some, None}
 use Rattle.dm_tree.specs.Trees.{Tree}
 use Rattle.dm_named.specs.Patches.{Patch}
@@ -7,18 +7,19 @@ use Rattle.dm_bundle.specs.Bundles.{Contents}
 use Rattle.dm_bundle.specs.Context.{AreDisjoint}
 use Rattle.dm_repo.specs.declared.refusal.Refusal.{Refusal}
 use Rattle.dm_repo.specs.declared.refusal.Refusal.TheVariants.{NoMemory}
+use Rattle.dm_repo.specs.declared.policy.Policy.TheVariants.{Refuse}
 use Rattle.dm_repo.specs.Repositories.{Repository, IsTreeOf}
 use Rattle.dm_repo.specs.Weighing.{IsNothingNew, IsMergeOf, RefusesBundle}
 
 -- the bundle is taken: its merged patches are appended, and these are all patches after that
 pub record IsTaken (repo : List Patch) (b : Contents) (after : List Patch) : Type 0 where
   pub merged : List Patch
-  pub is_merge : IsMergeOf repo b merged
+  pub is_merge : IsMergeOf repo b Refuse merged 0
   pub appended : after ≡ repo ++ merged
 
 -- the bundle isn't taken: nothing is new, or it is refused, out of memory aside
 abbrev pub IsNotTaken : List Patch → Contents → Type 0
-IsNotTaken repo b = IsNothingNew repo b ⊎ ((why : Refusal) × (why ≢ NoMemory) × RefusesBundle repo b why)
+IsNotTaken repo b = IsNothingNew repo b ⊎ ((why : Refusal) × (why ≢ NoMemory) × RefusesBundle repo b Refuse why)
 
 -- b is taken, and then c
 pub record TakesInTurn (repo : List Patch) (b c : Contents) (after : List Patch) : Type 0 where

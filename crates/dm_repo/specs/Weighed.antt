@@ -2,6 +2,7 @@
 use Rattle.std.specs.Prelude.{Bool, List, ◌++◌}
 use Rattle.dm_named.specs.Patches.{Patch}
 use Rattle.dm_bundle.specs.Bundles.{Contents}
+use Rattle.dm_repo.specs.declared.policy.Policy.{Policy}
 use Rattle.dm_repo.specs.declared.weighed.Weighed.{Weighed}
 use Rattle.dm_repo.specs.declared.weighed.Weighed.TheVariants.{NothingNew, Merged}
 use Rattle.dm_repo.specs.Repositories.{IsTreeOf, KeepsTree}
@@ -13,10 +14,10 @@ pub record IsLookedUp (repo : List Patch) (b : Contents) (common held : List Boo
   pub prerequisites : HasPrerequisites repo b
   pub marked : AreMarked repo b common held
 
--- nothing is new, or these are the merged patches and the tree after them
-abbrev pub Weighs : {Z : Type 0} → List Patch → Contents → Weighed Z → Type 0
-Weighs repo b NothingNew = IsNothingNew repo b
-Weighs repo b (Merged m) = IsMergeOf repo b m.patches.items × IsTreeOf (repo ++ m.patches.items) m.tree
+-- nothing is new, or these are the merged patches, the tree after them, and how many are skipped
+abbrev pub Weighs : {Z : Type 0} → List Patch → Contents → Policy → Weighed Z → Type 0
+Weighs repo b policy NothingNew = IsNothingNew repo b
+Weighs repo b policy (Merged m) = IsMergeOf repo b policy m.patches.items m.skipped × IsTreeOf (repo ++ m.patches.items) m.tree
 
 -- with the merged patches the repository is one again, and the tree after them is the one to keep
 abbrev pub LeavesRepo : {Z : Type 0} → List Patch → Weighed Z → Type 0

@@ -1,16 +1,17 @@
--- What weighing a bundle against a repository answers (`darcs apply --no-allow-conflicts`; the order of the refusals and the limits are
--- this project's). Each step, and each refusal, holds what the steps before it found.
+-- What weighing a bundle against a repository answers (`darcs apply --no-allow-conflicts` where a conflict is refused, `--skip-conflicts` where
+-- patches are skipped; the order of the refusals and the limits are this project's). Each step, and each refusal, holds what the steps before it found.
 use Rattle.std.specs.Prelude.{◌≡◌, ℕ, ◌+◌, ◌≤◌, ◌<◌, List, ◌∷◌, ◌++◌, length, ◌⊎◌}
 use Rattle.dm_prim.specs.InTurn.{InTurn}
 use Rattle.dm_prim.specs.Primitives.{Prim, LawfulMap}
 use Rattle.dm_named.specs.Patches.{Patch}
 use Rattle.dm_bundle.specs.Bundles.{Contents}
+use Rattle.dm_repo.specs.declared.policy.Policy.{Policy}
 use Rattle.dm_repo.specs.declared.refusal.Refusal.{Refusal}
 use Rattle.dm_repo.specs.declared.refusal.Refusal.TheVariants.{MissingContext, MissingDependency, ContextDepends, HeldDepends}
 use Rattle.dm_repo.specs.declared.refusal.Refusal.TheVariants.{DoesNotFit, Conflicts, Full, NoMemory}
 use Rattle.dm_repo.specs.Staircases.{Split, SplitStops}
-use Rattle.dm_repo.specs.Merging.{Merge, MergeStops}
-use Rattle.dm_repo.specs.Squares.{Placed, placed, patches, PlacedCommutes, PlacedMerges}
+use Rattle.dm_repo.specs.Sifting.{MergesUnder, ConflictsUnder}
+use Rattle.dm_repo.specs.Squares.{Placed, placed, patches, PlacedCommutes}
 use Rattle.dm_repo.specs.Stops.{AtPlaces}
 use Rattle.dm_repo.specs.Folds.{IsRoot, PatchLeadsShallowly, MakesTooDeep, IsStopped, PatchStops, ShallowFold}
 use Rattle.dm_repo.specs.Repositories.{Holds}
@@ -78,27 +79,27 @@ FrontIsFull repo b =
     IsBundleSplit repo b front rest new × ((start : LawfulMap) × IsRoot start × GoesTooDeep start front)
 
 -- the bundle is merged, and then the repository is too full for it
-abbrev pub MergeIsFull : List Patch → Contents → Type 0
-MergeIsFull repo b =
-    (rest : List Placed) × (new : List Placed) × (merged : List Placed) ×
-    Fits repo b rest new × Merge PlacedMerges rest new merged × IsFull repo merged
+abbrev pub MergeIsFull : List Patch → Contents → Policy → Type 0
+MergeIsFull repo b policy =
+    (rest : List Placed) × (new : List Placed) × (merged : List Placed) × (skipped : ℕ) ×
+    Fits repo b rest new × MergesUnder policy rest new merged skipped × IsFull repo merged
 
 -- when each refusal comes, in the order of the steps: the place or the pair is the first; memory may run out at any time
-abbrev pub RefusesBundle : List Patch → Contents → Refusal → Type 0
-RefusesBundle repo b (MissingContext c) = First (LacksAt repo b.context) c
-RefusesBundle repo b (MissingDependency n d) =
+abbrev pub RefusesBundle : List Patch → Contents → Policy → Refusal → Type 0
+RefusesBundle repo b policy (MissingContext c) = First (LacksAt repo b.context) c
+RefusesBundle repo b policy (MissingDependency n d) =
     KnowsContext repo b × (HasAll repo b → ⊥) × LacksFirst repo b n d
-RefusesBundle repo b (ContextDepends h r) = HasPrerequisites repo b × AtPlaces (SplitStops PlacedCommutes (IsCommon repo b) (placed repo)) h r
-RefusesBundle repo b (HeldDepends h n) =
+RefusesBundle repo b policy (ContextDepends h r) = HasPrerequisites repo b × AtPlaces (SplitStops PlacedCommutes (IsCommon repo b) (placed repo)) h r
+RefusesBundle repo b policy (HeldDepends h n) =
     (front : List Placed) × (rest : List Placed) × IsRepoSplit repo b front rest ×
     AtPlaces (SplitStops PlacedCommutes (IsHeld repo) (placed b.patches)) h n
-RefusesBundle repo b (DoesNotFit n) =
+RefusesBundle repo b policy (DoesNotFit n) =
     (front : List Placed) × (rest : List Placed) × (new : List Placed) × IsBundleSplit repo b front rest new ×
     ((base : LawfulMap) × (x : Placed) × (n ≡ x.0) × ShallowFold (patches front) base × FitStops IsStopped base new x)
-RefusesBundle repo b (Conflicts n r) =
-    (rest : List Placed) × (new : List Placed) × Fits repo b rest new × AtPlaces (MergeStops PlacedMerges rest new) n r
-RefusesBundle repo b Full = FrontIsFull repo b ⊎ MergeIsFull repo b
-RefusesBundle repo b NoMemory = Unit {0}
+RefusesBundle repo b policy (Conflicts n r) =
+    (rest : List Placed) × (new : List Placed) × Fits repo b rest new × AtPlaces (ConflictsUnder policy rest new) n r
+RefusesBundle repo b policy Full = FrontIsFull repo b ⊎ MergeIsFull repo b policy
+RefusesBundle repo b policy NoMemory = Unit {0}
 
 -- there is nothing to do: the context and every new patch are held
 pub record IsNothingNew (repo : List Patch) (b : Contents) : Type 0 where
@@ -113,12 +114,12 @@ pub record Appends (repo new : List Patch) : Type 0 where
   pub folds : ShallowFold repo tree
   pub leads : InTurn PatchLeadsShallowly new tree after
 
--- these are the bundle's patches, merged so that they apply after the repository
-pub record IsMergeOf (repo : List Patch) (b : Contents) (merged : List Patch) : Type 0 where
+-- these are the bundle's patches, merged so that they apply after the repository, but for so many that are skipped
+pub record IsMergeOf (repo : List Patch) (b : Contents) (policy : Policy) (merged : List Patch) (skipped : ℕ) : Type 0 where
   pub rest : List Placed
   pub new : List Placed
   pub new' : List Placed
   pub fits : Fits repo b rest new
-  pub merge : Merge PlacedMerges rest new new'
+  pub merge : MergesUnder policy rest new new' skipped
   pub is_merged : merged ≡ patches new'
   pub appends : Appends repo merged

@@ -5,6 +5,7 @@ ghost use Rattle.dm_prim.specs.Prims.{prim_of};
 ghost use Rattle.dm_prim.specs.InTurn.{InTurn};
 ghost use Rattle.dm_named.specs.Patches.{Patch};
 ghost use Rattle.dm_bundle.specs.Bundles.{Contents};
+ghost use Rattle.dm_repo.specs.declared.policy.Policy.{Policy};
 ghost use Rattle.dm_repo.specs.Folds.{IsStopped, LeadsShallowly, PatchLeadsShallowly, PatchStops};
 ghost use Rattle.dm_repo.specs.Squares.{Placed, patches, placed};
 ghost use Rattle.dm_repo.specs.Repositories.{IsMapOf, IsRepo};
@@ -118,9 +119,9 @@ pub(crate) fn check_fit<A: Allocator, B: Allocator + Copy>(
     copied: &[(usize, Passing<B>)],
     new: &[(usize, Passing<B>)],
 ) -> Result<(), Refusal>
-    ensures { (repo : List Patch) (b : Contents) (rest : List Placed) → IsRepo repo → IsBundleSplit repo b (placed kept.now ++ copied.now) rest new.now → MatchResult result
+    ensures { (repo : List Patch) (b : Contents) (policy : Policy) (rest : List Placed) → IsRepo repo → IsBundleSplit repo b (placed kept.now ++ copied.now) rest new.now → MatchResult result
         (λ _. Fits repo b rest new.now)
-        (λ why. RefusesBundle repo b why) }
+        (λ why. RefusesBundle repo b policy why) }
 {
     let mut tree = Tree::new(alloc);
     tree_is_lawful(&tree);

@@ -1,7 +1,7 @@
 //! Laws of the definitions alone. A call of them does nothing.
 
 ghost use Rattle.dm_repo.specs.Laws.{FoldIsOne, SplitFolds, SplitIsOne, SplitStopsOnce};
-ghost use Rattle.dm_repo.specs.Laws.{MergeApplies, MergeIsOne, MergeStopsOnce, MergeIsRepo, WeighingHasOneAnswer, BothOrdersHaveOneAnswer};
+ghost use Rattle.dm_repo.specs.Laws.{MergeApplies, MergeIsOne, MergeStopsOnce, MergeIsRepo, PoliciesAgree, EachIsMergedOrSkipped, WeighingHasOneAnswer, BothOrdersHaveOneAnswer};
 
 /// A list of patches makes at most one tree.
 pub fn fold()
@@ -16,17 +16,20 @@ pub fn split()
     ensures stops_once { SplitStopsOnce }
 {}
 
-/// What fits and is merged applies after the repository, and leaves a repository; two lists are merged in at most one way, and a
-/// pair that stops the merge is the only one, and excludes it.
+/// What fits and is merged applies after the repository, and leaves a repository, under either policy; each patch is merged or
+/// skipped, and where nothing conflicts both policies merge alike. Two lists are merged in at most one way, and a pair that
+/// stops the merge is the only one, and excludes it.
 pub fn merge()
     ensures applies { MergeApplies }
     ensures one { MergeIsOne }
     ensures stops_once { MergeStopsOnce }
     ensures is_repo { MergeIsRepo }
+    ensures policies_agree { PoliciesAgree }
+    ensures each { EachIsMergedOrSkipped }
 {}
 
-/// A repository and a bundle decide what weighing answers: which refusal, with its places, or that nothing is new, or which
-/// patches are merged. Out of memory is no answer of theirs.
+/// A repository, a bundle and a policy decide what weighing answers: which refusal, with its places, or that nothing is new,
+/// or which patches are merged, and how many are skipped. Out of memory is no answer of theirs.
 pub fn weighing_has_one_answer()
     ensures { WeighingHasOneAnswer }
 {}

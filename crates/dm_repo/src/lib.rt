@@ -22,16 +22,16 @@ mod names;
 mod orders;
 mod parted;
 mod passing;
+mod policy;
 mod refusal;
 mod repo;
+mod sifting;
 mod stop;
 mod weighed;
 
 pub use orders::law_both_orders;
 pub use parted::{Parted, split};
+pub use policy::Policy;
 pub use refusal::Refusal;
 pub use repo::{Ready, Repo};
 pub use weighed::{Merged, Weighed, weigh, weigh_owned};
-
-#[cfg(test)]
-mod tests;

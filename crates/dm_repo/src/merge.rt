@@ -1,7 +1,10 @@
 //! Merging patches that start where the rest of a repository does.
 ghost use Rattle.std.specs.Prelude.{◌≡◌, ◌↔◌, ◌+◌, ◌<◌, List, ◌++◌, [], length, map, IfOk, IsTrue, MatchResult};
 ghost use Rattle.dm_bundle.specs.Bundles.{Contents};
-ghost use Rattle.dm_repo.specs.Merging.{Merge, MergeRectangle, MergeStops};
+ghost use Rattle.dm_repo.specs.Merging.{MergeRectangle, MergeStops};
+ghost use Rattle.dm_repo.specs.Sifting.{MergesUnder};
+ghost use Rattle.dm_repo.specs.declared.policy.Policy.{Policy};
+ghost use Rattle.dm_repo.specs.declared.policy.Policy.TheVariants.{Refuse, Skip};
 ghost use Rattle.dm_repo.specs.Squares.{Placed, PlacedMerges, patches, placed, undone};
 ghost use Rattle.dm_repo.specs.Repositories.{IsTreeOf};
 ghost use Rattle.dm_repo.specs.Weighing.{Fits, IsBundleSplit, IsMergeOf, RefusesBundle, most_patches};
@@ -9,8 +12,10 @@ ghost use Rattle.dm_repo.specs.Stops.{AtPlaces, BlockedBy};
 
 use crate::fit::fit;
 use crate::passing::merge_past;
+use crate::policy::Policy;
 use crate::refusal::Refusal;
 use crate::repo::Repo;
+use crate::sifting::{first_conflict, is_all_skipped, sift};
 use crate::stop::Blocked;
 use crate::weighed::Merged;
 use dm_named::{Named, Passing};
@@ -74,16 +79,17 @@ fn without_places<A: Allocator + Copy>(
     Ok(list)
 }
 
-/// Applies the merged patches to the repository's tree.
+/// Applies the merged patches to the repository's tree; so many others were skipped.
 fn append<A: Allocator, B: Allocator + Copy>(
     alloc: B,
     repo: &Repo<A>,
     merged: Vec<(usize, Passing<B>), B>,
+    skipped: usize,
 ) -> Result<Merged<B>, Refusal>
-    ensures { (b : Contents) (rest new : List Placed) → Fits repo.now.patches b rest new → Merge PlacedMerges rest new merged.items →
-        MatchResult result
-        (λ m. IsMergeOf repo.now.patches b m.patches.items × IsTreeOf (repo.now.patches ++ m.patches.items) m.tree)
-        (λ why. RefusesBundle repo.now.patches b why) }
+    ensures { (b : Contents) (policy : Policy) (rest new : List Placed) →
+        Fits repo.now.patches b rest new → MergesUnder policy rest new merged.items skipped → MatchResult result
+        (λ m. IsMergeOf repo.now.patches b policy m.patches.items m.skipped × IsTreeOf (repo.now.patches ++ m.patches.items) m.tree)
+        (λ why. RefusesBundle repo.now.patches b policy why) }
 {
     if is_too_many(repo.len(), merged.len()) {
         return Err(Refusal::Full);
@@ -94,26 +100,73 @@ fn append<A: Allocator, B: Allocator + Copy>(
         Err(stop) => return Err(stop.full()),
     }
     let patches = without_places(alloc, merged)?;
-    Ok(Merged { patches, tree })
+    Ok(Merged {
+        patches,
+        tree,
+        skipped,
+    })
 }
 
-/// Merges the patches that fit with the rest of the repository.
-pub(crate) fn merge<A: Allocator, B: Allocator + Copy>(
+/// Merges the patches that fit with the rest of the repository: all of them, or none.
+fn merge_whole<A: Allocator, B: Allocator + Copy>(
     alloc: B,
     repo: &Repo<A>,
     rest: Vec<(usize, Passing<B>), B>,
     new: Vec<(usize, Passing<B>), B>,
 ) -> Result<Merged<B>, Refusal>
     ensures { (b : Contents) → Fits repo.now.patches b rest.items new.items → MatchResult result
-        (λ m. IsMergeOf repo.now.patches b m.patches.items × IsTreeOf (repo.now.patches ++ m.patches.items) m.tree)
-        (λ why. RefusesBundle repo.now.patches b why) }
+        (λ m. IsMergeOf repo.now.patches b Refuse m.patches.items m.skipped × IsTreeOf (repo.now.patches ++ m.patches.items) m.tree)
+        (λ why. RefusesBundle repo.now.patches b Refuse why) }
 {
     let mut rest = rest;
     let mut new = new;
     undo_all(alloc, rest.as_mut_slice());
     match merge_all(alloc, rest.as_mut_slice(), new.as_mut_slice()) {
-        Ok(()) => append(alloc, repo, new),
+        Ok(()) => append(alloc, repo, new, 0),
         Err(blocked) => Err(blocked.conflicts()),
+    }
+}
+
+/// Merges those of the patches that fit with the rest of the repository that can be, and skips the others.
+fn merge_some<A: Allocator, B: Allocator + Copy>(
+    alloc: B,
+    repo: &Repo<A>,
+    rest: Vec<(usize, Passing<B>), B>,
+    new: Vec<(usize, Passing<B>), B>,
+) -> Result<Merged<B>, Refusal>
+    ensures { (b : Contents) → Fits repo.now.patches b rest.items new.items → MatchResult result
+        (λ m. IsMergeOf repo.now.patches b Skip m.patches.items m.skipped × IsTreeOf (repo.now.patches ++ m.patches.items) m.tree)
+        (λ why. RefusesBundle repo.now.patches b Skip why) }
+{
+    let mut rest = rest;
+    undo_all(alloc, rest.as_mut_slice());
+    let mut sifted = sift(alloc, rest, new)?;
+    if is_all_skipped(&sifted) {
+        let blocked = first_conflict(
+            alloc,
+            sifted.rest.as_mut_slice(),
+            sifted.skipped.as_mut_slice(),
+        );
+        return Err(blocked.conflicts());
+    }
+    append(alloc, repo, sifted.merged, sifted.skipped.len())
+}
+
+/// Merges the patches that fit with the rest of the repository, as the policy says.
+pub(crate) fn merge<A: Allocator, B: Allocator + Copy>(
+    alloc: B,
+    repo: &Repo<A>,
+    rest: Vec<(usize, Passing<B>), B>,
+    new: Vec<(usize, Passing<B>), B>,
+    policy: Policy,
+) -> Result<Merged<B>, Refusal>
+    ensures { (b : Contents) → Fits repo.now.patches b rest.items new.items → MatchResult result
+        (λ m. IsMergeOf repo.now.patches b policy m.patches.items m.skipped × IsTreeOf (repo.now.patches ++ m.patches.items) m.tree)
+        (λ why. RefusesBundle repo.now.patches b policy why) }
+{
+    match policy {
+        Policy::Refuse => merge_whole(alloc, repo, rest, new),
+        Policy::Skip => merge_some(alloc, repo, rest, new),
     }
 }
 
@@ -123,9 +176,9 @@ pub(crate) fn append_to_whole<A: Allocator, B: Allocator + Copy>(
     repo: &Repo<A>,
     new: Vec<(usize, Passing<B>), B>,
 ) -> Result<Merged<B>, Refusal>
-    ensures { (b : Contents) → IsBundleSplit repo.now.patches b (placed repo.now.patches) [] new.items → MatchResult result
-        (λ m. IsMergeOf repo.now.patches b m.patches.items × IsTreeOf (repo.now.patches ++ m.patches.items) m.tree)
-        (λ why. RefusesBundle repo.now.patches b why) }
+    ensures { (b : Contents) (policy : Policy) → IsBundleSplit repo.now.patches b (placed repo.now.patches) [] new.items → MatchResult result
+        (λ m. IsMergeOf repo.now.patches b policy m.patches.items m.skipped × IsTreeOf (repo.now.patches ++ m.patches.items) m.tree)
+        (λ why. RefusesBundle repo.now.patches b policy why) }
 {
     let mut tree = repo.tree_copy(alloc)?;
     match fit(&new, &mut tree) {
@@ -136,5 +189,9 @@ pub(crate) fn append_to_whole<A: Allocator, B: Allocator + Copy>(
         return Err(Refusal::Full);
     }
     let patches = without_places(alloc, new)?;
-    Ok(Merged { patches, tree })
+    Ok(Merged {
+        patches,
+        tree,
+        skipped: 0,
+    })
 }

@@ -3,6 +3,7 @@ ghost use Rattle.std.specs.Prelude.{◌≡◌, ◌≢◌, false, IfOk, MatchBool
 ghost use Rattle.dm_bundle.specs.Bundles.{HasNoDoubles};
 ghost use Rattle.dm_repo.specs.Orders.{EndsAlike, IsNotTaken, IsTaken, StopsInTurn, TakesBothOrders, TakesInTurn};
 
+use crate::policy::Policy;
 use crate::refusal::Refusal;
 use crate::repo::Repo;
 use crate::weighed::{Merged, Weighed, weigh};
@@ -30,7 +31,11 @@ fn copy_of<A: Allocator, B: Allocator + Copy>(
     let patches = repo.to_bundle(alloc)?.into_new_patches();
     let tree = repo.tree_copy(alloc)?;
     let mut copy = Repo::new(alloc);
-    let ready = copy.prepare(&Merged { patches, tree })?;
+    let ready = copy.prepare(&Merged {
+        patches,
+        tree,
+        skipped: 0,
+    })?;
     let _ = copy.commit(ready);
     Ok(copy)
 }
@@ -45,7 +50,7 @@ fn take<A: Allocator + Copy>(
         (IsTaken repo.old.patches bundle.now repo.new.patches)
         (IsNotTaken repo.old.patches bundle.now)) }
 {
-    match weigh(alloc, repo, bundle) {
+    match weigh(alloc, repo, bundle, Policy::Refuse) {
         Ok(Weighed::NothingNew) => Ok(false),
         Ok(Weighed::Merged(merged)) => {
             let ready = repo.prepare(&merged)?;
@@ -77,8 +82,8 @@ fn take_in_turn<A: Allocator, B: Allocator + Copy>(
     Ok(Some(after))
 }
 
-/// Takes two bundles into copies of a repository: the first and then the second, and the second and then the first.
-/// None is answered exactly where one of the four isn't taken.
+/// Takes two bundles into copies of a repository: the first and then the second, and the second and then the first. A bundle
+/// that conflicts isn't taken. None is answered exactly where one of the four isn't taken.
 ///
 /// Where the two share no new patch, and the context of each names exactly the patches of the repository, both
 /// copies have equal trees and patches of the same names, in whatever order.

@@ -4,6 +4,7 @@ ghost use Rattle.dm_prim.specs.Primitives.{LawfulMap};
 ghost use Rattle.dm_named.specs.Patches.{Patch};
 ghost use Rattle.dm_bundle.specs.Patches.{infos_of};
 ghost use Rattle.dm_bundle.specs.Bundles.{Contents};
+ghost use Rattle.dm_repo.specs.declared.policy.Policy.{Policy};
 ghost use Rattle.dm_repo.specs.Staircases.{Split, SplitStops};
 ghost use Rattle.dm_repo.specs.Squares.{Placed, patches, placed, PlacedCommutes};
 ghost use Rattle.dm_repo.specs.Folds.{Fold};
@@ -172,9 +173,9 @@ pub(crate) fn split_common<A: Allocator, B: Allocator + Copy>(
     requires marks { length marks.now.common.items ≡ length repo.now.patches }
     requires within { kept ≤ length marks.now.common.items }
     requires marked { AreMarkedUpTo marks.now.common.items kept }
-    ensures { (b : Contents) → IsLookedUp repo.now.patches b marks.now.common.items marks.now.held.items → MatchResult result
+    ensures { (b : Contents) (policy : Policy) → IsLookedUp repo.now.patches b marks.now.common.items marks.now.held.items → MatchResult result
         (λ parted. IsRepoSplit repo.now.patches b (placed (take kept repo.now.patches) ++ parted.front.items) parted.rest.items)
-        (λ why. RefusesBundle repo.now.patches b why) }
+        (λ why. RefusesBundle repo.now.patches b policy why) }
 {
     match split_repo(alloc, repo, &marks.common, kept) {
         Ok(parted) => Ok(parted),
@@ -189,10 +190,10 @@ pub(crate) fn split_held<A: Allocator + Copy>(
     marks: &Marks<A>,
 ) -> Result<Vec<(usize, Passing<A>), A>, Refusal>
     requires { length marks.now.held.items ≡ length new.items }
-    ensures { (repo : List Patch) (b : Contents) (front rest : List Placed) → b.patches ≡ new.items →
+    ensures { (repo : List Patch) (b : Contents) (policy : Policy) (front rest : List Placed) → b.patches ≡ new.items →
         IsLookedUp repo b marks.now.common.items marks.now.held.items → IsRepoSplit repo b front rest → MatchResult result
         (λ chosen. IsBundleSplit repo b front rest chosen.items)
-        (λ why. RefusesBundle repo b why) }
+        (λ why. RefusesBundle repo b policy why) }
 {
     match split_new(alloc, new, &marks.held) {
         Ok(parted) => Ok(parted.rest),

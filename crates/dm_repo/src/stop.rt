@@ -26,6 +26,16 @@ impl From<AllocError> for Stop {
 }
 
 impl Stop {
+    /// Out of memory, where no patch stops the row.
+    pub(crate) fn refused(self) -> AllocError
+        requires { self ≡ stops.NoMemory }
+    {
+        match self {
+            Stop::At(_) => unreachable!(),
+            Stop::NoMemory => AllocError,
+        }
+    }
+
     /// The same of a list of rows, of which the row of the patch at this place ends early.
     pub(crate) fn blocked(self, at: usize) -> Blocked
         ensures { result ≡ blocked_at at self }

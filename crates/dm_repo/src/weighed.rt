@@ -11,6 +11,7 @@ use crate::lookup::look_up;
 use crate::marks::{Marks, are_set};
 use crate::merge::{append_to_whole, merge};
 use crate::parted::{kept_in_place, split_common, split_held};
+use crate::policy::Policy;
 use crate::refusal::Refusal;
 use crate::repo::{Repo, copy_patches};
 use dm_bundle::Bundle;
@@ -23,7 +24,7 @@ use std::alloc::Allocator;
 pub enum Weighed<A: Allocator> {
     /// The context and every new patch are held.
     NothingNew,
-    /// The bundle is merged.
+    /// The bundle is merged, or some of its patches are.
     Merged(Merged<A>),
 }
 
@@ -34,6 +35,8 @@ pub struct Merged<A: Allocator> {
     pub patches: Vec<Named<A>, A>,
     /// The repository's tree after them.
     pub tree: Tree<A>,
+    /// How many patches are skipped.
+    pub skipped: usize,
 }
 
 /// Merges new patches whose names were looked up.
@@ -42,13 +45,14 @@ fn weigh_new<A: Allocator, B: Allocator + Copy>(
     repo: &Repo<A>,
     new: Vec<Named<B>, B>,
     marks: &Marks<B>,
+    policy: Policy,
 ) -> Result<Merged<B>, Refusal>
     requires common { length marks.now.common.items ≡ length repo.now.patches }
     requires held { length marks.now.held.items ≡ length new.items }
     ensures { (b : Contents) → b.patches ≡ new.items → IsLookedUp repo.now.patches b marks.now.common.items marks.now.held.items →
         MatchResult result
-        (λ m. IsMergeOf repo.now.patches b m.patches.items × IsTreeOf (repo.now.patches ++ m.patches.items) m.tree)
-        (λ why. RefusesBundle repo.now.patches b why) }
+        (λ m. IsMergeOf repo.now.patches b policy m.patches.items m.skipped × IsTreeOf (repo.now.patches ++ m.patches.items) m.tree)
+        (λ why. RefusesBundle repo.now.patches b policy why) }
 {
     repo.lawful();
     if are_set(&marks.common) {
@@ -59,7 +63,7 @@ fn weigh_new<A: Allocator, B: Allocator + Copy>(
     let parted = split_common(alloc, repo, marks, kept)?;
     let chosen = split_held(alloc, new, marks)?;
     check_fit(alloc, &repo.patches()[..kept], &parted.front, &chosen)?;
-    merge(alloc, repo, parted.rest, chosen)
+    merge(alloc, repo, parted.rest, chosen, policy)
 }
 
 /// That the new patches of a bundle have distinct names; does nothing.
@@ -72,15 +76,17 @@ fn names_are_distinct<A: Allocator>(bundle: &Bundle<A>)
 /// What taking a bundle would append to a repository, or why it isn't taken; neither is changed.
 ///
 /// The bundle's context and dependencies are looked up; the repository is split into what the bundle was made from and the
-/// rest; the new patches are applied after the first part, and merged with the second (`darcs apply --no-allow-conflicts`).
-/// The first step that refuses decides. The new patches are copied; [`weigh_owned`] moves them.
+/// rest; the new patches are applied after the first part, and merged with the second. The policy says what a conflict does:
+/// the bundle is refused (`darcs apply --no-allow-conflicts`), or the patch is skipped (`--skip-conflicts`); where none could
+/// be merged the bundle is refused all the same. The first step that refuses decides. The new patches are copied; [`weigh_owned`] moves them.
 pub fn weigh<A: Allocator + Copy, B: Allocator + Copy>(
     alloc: B,
     repo: &Repo<A>,
     bundle: &Bundle<B>,
+    policy: Policy,
 ) -> Result<Weighed<B>, Refusal>
-    ensures weighed { IfOk result (Weighs repo.now.patches bundle.now) }
-    ensures refusal { IfErr result (RefusesBundle repo.now.patches bundle.now) }
+    ensures weighed { IfOk result (Weighs repo.now.patches bundle.now policy) }
+    ensures refusal { IfErr result (RefusesBundle repo.now.patches bundle.now policy) }
     ensures leaves_repo { IfOk result (LeavesRepo repo.now.patches) }
 {
     let Some(marks) = look_up(alloc, repo, bundle)? else {
@@ -89,7 +95,7 @@ pub fn weigh<A: Allocator + Copy, B: Allocator + Copy>(
     repo.lawful();
     names_are_distinct(bundle);
     let new = copy_patches(alloc, bundle.new_patches())?;
-    let merged = weigh_new(alloc, repo, new, &marks)?;
+    let merged = weigh_new(alloc, repo, new, &marks, policy)?;
     Ok(Weighed::Merged(merged))
 }
 
@@ -98,9 +104,10 @@ pub fn weigh_owned<A: Allocator + Copy, B: Allocator + Copy>(
     alloc: B,
     repo: &Repo<A>,
     bundle: Bundle<B>,
+    policy: Policy,
 ) -> Result<Weighed<B>, Refusal>
-    ensures weighed { IfOk result (Weighs repo.now.patches bundle) }
-    ensures refusal { IfErr result (RefusesBundle repo.now.patches bundle) }
+    ensures weighed { IfOk result (Weighs repo.now.patches bundle policy) }
+    ensures refusal { IfErr result (RefusesBundle repo.now.patches bundle policy) }
     ensures leaves_repo { IfOk result (LeavesRepo repo.now.patches) }
 {
     let Some(marks) = look_up(alloc, repo, &bundle)? else {
@@ -108,6 +115,6 @@ pub fn weigh_owned<A: Allocator + Copy, B: Allocator + Copy>(
     };
     repo.lawful();
     names_are_distinct(&bundle);
-    let merged = weigh_new(alloc, repo, bundle.into_new_patches(), &marks)?;
+    let merged = weigh_new(alloc, repo, bundle.into_new_patches(), &marks, policy)?;
     Ok(Weighed::Merged(merged))
 }

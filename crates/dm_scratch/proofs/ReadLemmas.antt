@@ -7,6 +7,7 @@ use Rattle.dm_named.specs.Patches.{Patch}
 use Rattle.dm_bundle.specs.Patches.{AreFew}
 use Rattle.dm_bundle.specs.Bundles.{Contents, BundleText}
 use Rattle.dm_bundle.specs.Faults.{FaultAt, most_bytes}
+use Rattle.dm_repo.specs.declared.policy.Policy.{Policy}
 use Rattle.dm_scratch.specs.declared.verdict.Verdict.{Verdict}
 use Rattle.dm_scratch.specs.Taking.{Reads, Takes, malformed, no_memory, IsUnread}
 
@@ -17,7 +18,7 @@ no_err x e is = cc
 pub reads : (text : List ℕ) (b : Contents) → BundleText text b → AreFew b.patches → (most_bytes < length text → ⊥) → Reads text b
 reads text b stands few small = record { stands = stands; small = omega (arith, small); few = few }
 
-pub unread_takes : (repo : List Patch) (text : List ℕ) (fault : ReadFault) (v : Verdict) (after : List Patch) → (fault.kind ≢ kind.NoMemory → FaultAt text fault.kind fault.at)
-    → IsUnread fault v → after ≡ repo → Takes repo text v after
-unread_takes repo text fault v after at (inl x) same = malformed fault (at x.0) x.1 same
-unread_takes repo text fault v after at (inr x) same = no_memory x.1 same
+pub unread_takes : (repo : List Patch) (text : List ℕ) (fault : ReadFault) (policy : Policy) (v : Verdict) (after : List Patch) → (fault.kind ≢ kind.NoMemory → FaultAt text fault.kind fault.at)
+    → IsUnread fault v → after ≡ repo → Takes repo text policy v after
+unread_takes repo text fault policy v after at (inl x) same = malformed fault (at x.0) x.1 same
+unread_takes repo text fault policy v after at (inr x) same = no_memory x.1 same

@@ -1,15 +1,16 @@
--- What taking a text does to a repository (`darcs apply --no-allow-conflicts`).
-use Rattle.std.specs.Prelude.{◌≡◌, ◌≢◌, ◌≤◌, ◌⊎◌, ℕ, List, [], ◌∷◌, ◌++◌, length}
+-- What taking a text does to a repository (`darcs apply --no-allow-conflicts`, where a conflict is refused).
+use Rattle.std.specs.Prelude.{◌≡◌, ◌≢◌, ◌≤◌, ◌<◌, ◌⊎◌, ℕ, List, [], ◌∷◌, ◌++◌, length}
 use Rattle.dm_named.specs.declared.fault.FaultKind.TheVariants as kind
 use Rattle.dm_named.specs.declared.fault.ReadFault.{ReadFault}
 use Rattle.dm_named.specs.Patches.{Patch}
 use Rattle.dm_bundle.specs.Patches.{AreFew}
 use Rattle.dm_bundle.specs.Bundles.{Contents, BundleText}
 use Rattle.dm_bundle.specs.Faults.{FaultAt, most_bytes}
+use Rattle.dm_repo.specs.declared.policy.Policy.{Policy}
 use Rattle.dm_repo.specs.declared.refusal.Refusal.TheVariants.{NoMemory}
 use Rattle.dm_repo.specs.Weighing.{IsNothingNew, IsMergeOf, RefusesBundle}
 use Rattle.dm_scratch.specs.declared.verdict.Verdict.{Verdict}
-use Rattle.dm_scratch.specs.declared.verdict.Verdict.TheVariants.{Taken, NothingNew, Malformed, Refused}
+use Rattle.dm_scratch.specs.declared.verdict.Verdict.TheVariants.{Taken, TakenSome, NothingNew, Malformed, Refused}
 
 -- the text stands for the bundle, and both are within the limits
 pub record Reads (text : List ℕ) (b : Contents) : Type 0 where
@@ -17,35 +18,39 @@ pub record Reads (text : List ℕ) (b : Contents) : Type 0 where
   pub small : length text ≤ most_bytes
   pub few : AreFew b.patches
 
--- the merged patches are appended
-pub record Appended (repo : List Patch) (b : Contents) (count : ℕ) (after : List Patch) : Type 0 where
+-- the merged patches are appended, and so many others are skipped
+pub record Appended (repo : List Patch) (b : Contents) (policy : Policy) (count skipped : ℕ) (after : List Patch) : Type 0 where
   pub merged : List Patch
-  pub is_merge : IsMergeOf repo b merged
+  pub is_merge : IsMergeOf repo b policy merged skipped
   pub counted : count ≡ length merged
   pub appended : after ≡ repo ++ merged
 
--- What taking a bundle does: its merged patches are appended; or nothing is new, or it is refused, and the repository stays as it was.
-abbrev pub TakesBundle : List Patch → Contents → Verdict → List Patch → Type 0
-TakesBundle repo b (Taken count) after = Appended repo b count after
-TakesBundle repo b NothingNew after = IsNothingNew repo b × (after ≡ repo)
-TakesBundle repo b (Refused why) after = RefusesBundle repo b why × (after ≡ repo)
-TakesBundle repo b (Malformed fault) after = ⊥
+-- What taking a bundle does: its merged patches are appended, which are all of it, or some, and the others are skipped; or nothing is new, or it is
+-- refused, and the repository stays as it was.
+abbrev pub TakesBundle : List Patch → Contents → Policy → Verdict → List Patch → Type 0
+TakesBundle repo b policy (Taken count) after = Appended repo b policy count 0 after
+TakesBundle repo b policy (TakenSome count skipped) after = Appended repo b policy count skipped after × (0 < count) × (0 < skipped)
+TakesBundle repo b policy NothingNew after = IsNothingNew repo b × (after ≡ repo)
+TakesBundle repo b policy (Refused why) after = RefusesBundle repo b policy why × (after ≡ repo)
+TakesBundle repo b policy (Malformed fault) after = ⊥
 
 -- What taking a text does: its bundle is taken; or it has a fault, or memory runs out, and the repository stays as it was.
-pub data Takes (repo : List Patch) (text : List ℕ) (verdict : Verdict) (after : List Patch) : Type 0 where
-  bundle : (b : Contents) → Reads text b → TakesBundle repo b verdict after → Takes repo text verdict after
-  malformed : (fault : ReadFault) → FaultAt text fault.kind fault.at → verdict ≡ Malformed fault → after ≡ repo → Takes repo text verdict after
-  no_memory : verdict ≡ Refused NoMemory → after ≡ repo → Takes repo text verdict after
+pub data Takes (repo : List Patch) (text : List ℕ) (policy : Policy) (verdict : Verdict) (after : List Patch) : Type 0 where
+  bundle : (b : Contents) → Reads text b → TakesBundle repo b policy verdict after → Takes repo text policy verdict after
+  malformed : (fault : ReadFault) → FaultAt text fault.kind fault.at → verdict ≡ Malformed fault → after ≡ repo → Takes repo text policy verdict after
+  no_memory : verdict ≡ Refused NoMemory → after ≡ repo → Takes repo text policy verdict after
 
--- texts are taken one after the other, each into the repository that the one before it left
-abbrev pub TakesEach : List Patch → List (List ℕ) → List Verdict → List Patch → Type 0
-TakesEach repo [] [] after = after ≡ repo
-TakesEach repo (text ∷ texts) (verdict ∷ verdicts) after = (next : List Patch) × Takes repo text verdict next × TakesEach next texts verdicts after
-TakesEach repo texts verdicts after = ⊥
+-- texts are taken under one policy, one after the other, each into the repository that the one before it left
+abbrev pub TakesEach : List Patch → List (List ℕ) → Policy → List Verdict → List Patch → Type 0
+TakesEach repo [] policy [] after = after ≡ repo
+TakesEach repo (text ∷ texts) policy (verdict ∷ verdicts) after =
+    (next : List Patch) × Takes repo text policy verdict next × TakesEach next texts policy verdicts after
+TakesEach repo texts policy verdicts after = ⊥
 
--- the repository has the bundle's patches then
+-- the repository has all of the bundle's patches then
 abbrev pub IsAccepted : Verdict → Type 0
 IsAccepted (Taken count) = Unit {0}
+IsAccepted (TakenSome count skipped) = ⊥
 IsAccepted NothingNew = Unit {0}
 IsAccepted (Malformed fault) = ⊥
 IsAccepted (Refused why) = ⊥

@@ -1,18 +1,23 @@
 //! Laws of the definitions alone. A call of them does nothing. Out of memory is no verdict of theirs.
 
-ghost use Rattle.dm_scratch.specs.Laws.{TakingABundleHasOneOutcome, TakingHasOneOutcome, TakingEachHasOneOutcome};
+ghost use Rattle.dm_scratch.specs.Laws.{TakingABundleHasOneOutcome, TakingHasOneOutcome, TakingEachHasOneOutcome, RefusingTakesAllOrNothing};
 
-/// A repository and a bundle decide the verdict, and the repository that is left.
+/// A repository, a bundle and a policy decide the verdict, and the repository that is left.
 pub fn taking_a_bundle_has_one_outcome()
     ensures { TakingABundleHasOneOutcome }
 {}
 
-/// A repository and a text decide the verdict, and the repository that is left.
+/// A repository, a text and a policy decide the verdict, and the repository that is left.
 pub fn taking_has_one_outcome()
     ensures { TakingHasOneOutcome }
 {}
 
-/// A repository and texts that are taken in turn decide the verdict of each, and the repository that is left.
+/// A repository, texts that are taken in turn and a policy decide the verdict of each, and the repository that is left.
 pub fn taking_each_has_one_outcome()
     ensures { TakingEachHasOneOutcome }
+{}
+
+/// Where conflicts are refused, a text whose verdict isn't accepted leaves the repository as it was.
+pub fn refusing_takes_all_or_nothing()
+    ensures { RefusingTakesAllOrNothing }
 {}

@@ -1,4 +1,5 @@
-//! Taking a bundle into a repository (`darcs apply --no-allow-conflicts`), from its bytes to the repository's tree.
+//! Taking a bundle into a repository (`darcs apply --no-allow-conflicts`, or with patches that conflict skipped), from its
+//! bytes to the repository's tree.
 //!
 //! [`take`] reads a text in an arena, weighs its bundle against the repository there, and copies what is accepted out of
 //! the arena, once, before it commits it in one step that can't fail. A text that isn't taken has touched nothing but the
@@ -16,6 +17,3 @@ mod verdict;
 pub use printing::{push_listing, push_verdict};
 pub use trial::{take, take_each};
 pub use verdict::Verdict;
-
-#[cfg(test)]
-mod tests;

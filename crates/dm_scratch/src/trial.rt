@@ -5,7 +5,7 @@ ghost use Rattle.dm_scratch.specs.Taking.{Takes, TakesBundle, TakesEach};
 use crate::verdict::Verdict;
 use bumpalo::Bump;
 use dm_bundle::{Bundle, read_bundle};
-use dm_repo::{Refusal, Repo, Weighed, weigh_owned};
+use dm_repo::{Policy, Refusal, Repo, Weighed, weigh_owned};
 use std::alloc::Allocator;
 
 /// Takes a bundle that was read in the trial's allocator.
@@ -13,15 +13,16 @@ fn take_bundle<A: Allocator + Copy, B: Allocator + Copy>(
     repo: &mut Repo<A>,
     trial: B,
     bundle: Bundle<B>,
+    policy: Policy,
 ) -> Result<Verdict, Refusal>
-    ensures ok { IfOk result (λ verdict. TakesBundle repo.old.patches bundle verdict repo.new.patches) }
-    ensures err { IfErr result (λ why. TakesBundle repo.old.patches bundle (Verdict.Refused why) repo.new.patches) }
+    ensures ok { IfOk result (λ verdict. TakesBundle repo.old.patches bundle policy verdict repo.new.patches) }
+    ensures err { IfErr result (λ why. TakesBundle repo.old.patches bundle policy (Verdict.Refused why) repo.new.patches) }
 {
-    match weigh_owned(trial, repo, bundle)? {
+    match weigh_owned(trial, repo, bundle, policy)? {
         Weighed::NothingNew => Ok(Verdict::NothingNew),
         Weighed::Merged(merged) => {
             let ready = repo.prepare(&merged)?;
-            Ok(Verdict::Taken(repo.commit(ready)))
+            Ok(Verdict::of_counts(repo.commit(ready), merged.skipped))
         }
     }
 }
@@ -30,13 +31,15 @@ fn take_bundle<A: Allocator + Copy, B: Allocator + Copy>(
 ///
 /// The arena is reset first. What the text and the trial need is made in it; what is taken is copied once into the
 /// repository's own memory and then appended in one step that can't fail. After any other verdict the repository is as it
-/// was. Out of memory, in the arena or in the repository, and a refused reset are `Refused(NoMemory)`.
+/// was. Out of memory, in the arena or in the repository, and a refused reset are `Refused(NoMemory)`. The policy says
+/// whether a patch that conflicts has the bundle refused, or is skipped.
 pub fn take<A: Allocator + Copy, P: Allocator>(
     repo: &mut Repo<A>,
     arena: &mut Bump<P>,
     text: &[u8],
+    policy: Policy,
 ) -> Verdict
-    ensures { Takes repo.old.patches text.now result repo.new.patches }
+    ensures { Takes repo.old.patches text.now policy result repo.new.patches }
 {
     if let Err(refused) = arena.reset() {
         return Verdict::from(refused);
@@ -46,23 +49,24 @@ pub fn take<A: Allocator + Copy, P: Allocator>(
         Ok(bundle) => bundle,
         Err(fault) => return Verdict::unread(fault),
     };
-    match take_bundle(repo, trial, bundle) {
+    match take_bundle(repo, trial, bundle, policy) {
         Ok(verdict) => verdict,
         Err(why) => Verdict::Refused(why),
     }
 }
 
-/// Takes texts in turn, and writes the verdict of each.
+/// Takes texts in turn under one policy, and writes the verdict of each.
 pub fn take_each<A: Allocator + Copy, P: Allocator>(
     repo: &mut Repo<A>,
     arena: &mut Bump<P>,
     texts: &[&[u8]],
+    policy: Policy,
     verdicts: &mut [Verdict],
 )
     requires { length texts.now ≡ length verdicts.old }
-    ensures { TakesEach repo.old.patches (map (λ text. text.now) texts.now) verdicts.new repo.new.patches }
+    ensures { TakesEach repo.old.patches (map (λ text. text.now) texts.now) policy verdicts.new repo.new.patches }
 {
     for i in 0..texts.len() {
-        verdicts[i] = take(repo, arena, texts[i]);
+        verdicts[i] = take(repo, arena, texts[i], policy);
     }
 }

@@ -1,5 +1,5 @@
 //! What becomes of a bundle.
-ghost use Rattle.std.specs.Prelude.{◌≡◌, ◌↔◌, IsTrue};
+ghost use Rattle.std.specs.Prelude.{◌≡◌, ◌≢◌, ◌↔◌, ◌⊎◌, IsTrue};
 ghost use Rattle.dm_repo.specs.declared.refusal.Refusal.TheVariants.{NoMemory};
 ghost use Rattle.dm_scratch.specs.Taking.{IsAccepted, IsUnread};
 ghost use Rattle.dm_scratch.specs.declared.verdict.Verdict.TheVariants.{Refused};
@@ -12,8 +12,10 @@ use std::fmt;
 /// What becomes of a text that is taken into a repository.
 #[derive(Clone, Copy, PartialEq, Eq, Debug)]
 pub enum Verdict {
-    /// So many patches were taken.
+    /// So many patches were taken, which is all that weren't held.
     Taken(usize),
+    /// So many patches were taken, and so many others skipped, at least one of each.
+    TakenSome(usize, usize),
     /// The repository has every new patch of the bundle already.
     NothingNew,
     /// The text is no bundle's: what is wrong, and at which byte. The repository is as it was.
@@ -33,12 +35,23 @@ impl Verdict {
         Verdict::Malformed(fault)
     }
 
-    /// Whether the repository has the bundle's patches now.
+    /// The verdict on a bundle of which so many patches were taken and so many skipped.
+    pub(crate) fn of_counts(taken: usize, skipped: usize) -> Verdict
+        ensures { ((skipped ≡ 0) × (result ≡ Verdict.Taken taken)) ⊎ ((skipped ≢ 0) × (result ≡ Verdict.TakenSome taken skipped)) }
+    {
+        if skipped == 0 {
+            return Verdict::Taken(taken);
+        }
+        Verdict::TakenSome(taken, skipped)
+    }
+
+    /// Whether the repository has all of the bundle's patches now.
     pub fn is_accepted(&self) -> bool
         ensures { IsTrue result ↔ IsAccepted self.now }
     {
         match self {
             Verdict::Taken(_) => true,
+            Verdict::TakenSome(_, _) => false,
             Verdict::NothingNew => true,
             Verdict::Malformed(_) => false,
             Verdict::Refused(_) => false,
@@ -63,6 +76,7 @@ impl fmt::Display for Verdict {
     fn fmt<W: fmt::Write>(&self, f: &mut fmt::Formatter<W>) -> fmt::Result {
         match self {
             Verdict::Taken(count) => write!(f, "taken {count}"),
+            Verdict::TakenSome(count, skipped) => write!(f, "taken {count} skipped {skipped}"),
             Verdict::NothingNew => f.write_str("nothing new"),
             Verdict::Malformed(fault) => write!(f, "malformed {} {}", fault.kind.word(), fault.at),
             Verdict::Refused(refusal) => write!(f, "refused {refusal}"),

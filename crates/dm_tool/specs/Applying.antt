@@ -3,6 +3,8 @@ use Rattle.std.specs.Prelude.{◌≡◌, ◌≢◌, ℕ, Bool, true, false, List
 use Rattle.dm_tree.specs.Trees.{Tree}
 use Rattle.dm_named.specs.Patches.{Patch}
 use Rattle.dm_bundle.specs.Canonical.{bundle_text}
+use Rattle.dm_repo.specs.declared.policy.Policy.{Policy}
+use Rattle.dm_repo.specs.declared.policy.Policy.TheVariants.{Refuse}
 use Rattle.dm_repo.specs.declared.refusal.Refusal.TheVariants as refusals
 use Rattle.dm_repo.specs.Repositories.{IsTreeOf}
 use Rattle.dm_scratch.specs.declared.verdict.Verdict.{Verdict}
@@ -14,16 +16,16 @@ use Rattle.dm_tool.specs.declared.fault.ToolFault.TheVariants.{NoMemory, BadBase
 use Rattle.dm_scratch.specs.Printing.{line_of, listing_text}
 use Rattle.dm_tool.specs.Printing.{status_of}
 
--- the base's text is taken into an empty repository, which then holds these patches
+-- the base's text is taken into an empty repository, where conflicts are refused, and that then holds these patches
 pub record IsBase (text : List ℕ) (repo : List Patch) : Type 0 where
   pub verdict : Verdict
   pub accepted : IsAccepted verdict
-  pub takes : Takes [] text verdict repo
+  pub takes : Takes [] text Refuse verdict repo
 
 -- the base's text isn't taken: memory ran out, or this verdict
 abbrev pub RefusesBase : List ℕ → ToolFault → Type 0
 RefusesBase text NoMemory = Unit {0}
-RefusesBase text (BadBase verdict) = (IsAccepted verdict → ⊥) × (verdict ≢ Refused refusals.NoMemory) × Takes [] text verdict []
+RefusesBase text (BadBase verdict) = (IsAccepted verdict → ⊥) × (verdict ≢ Refused refusals.NoMemory) × Takes [] text Refuse verdict []
 RefusesBase text other = ⊥
 
 -- what is shown of a repository: its canonical bundle with an empty context, or the listing of its tree
@@ -37,10 +39,10 @@ pub record Prints (as_bundle : Bool) (verdict : Verdict) (repo : List Patch) (ou
   pub shows : Shows as_bundle repo shown
   pub bytes : out ≡ line_of (verdict_text verdict) ++ shown
 
--- a text that is taken into the repository of these patches is answered by these bytes and this exit status
-pub record Answers (repo : List Patch) (as_bundle : Bool) (text out : List ℕ) (status : ℕ) : Type 0 where
+-- a text that is taken under a policy into the repository of these patches is answered by these bytes and this exit status
+pub record Answers (repo : List Patch) (as_bundle : Bool) (policy : Policy) (text out : List ℕ) (status : ℕ) : Type 0 where
   pub verdict : Verdict
   pub after : List Patch
-  pub takes : Takes repo text verdict after
+  pub takes : Takes repo text policy verdict after
   pub prints : Prints as_bundle verdict after out
   pub exit : status ≡ status_of verdict

@@ -2,9 +2,10 @@
 use Rattle.std.specs.Prelude.{◌≡◌, ◌⊎◌, ℕ, suc, List, [], ◌∷◌, ◌++◌, codes}
 use Rattle.std.specs.Fmt.{decimal}
 use Rattle.dm_named.specs.Patches.{Patch}
+use Rattle.dm_repo.specs.declared.policy.Policy.{Policy}
 use Rattle.dm_scratch.specs.Printing.{line_of}
 use Rattle.dm_mirror.specs.declared.outcome.Outcome.{Outcome}
-use Rattle.dm_mirror.specs.Plans.{AreStarts}
+use Rattle.dm_mirror.specs.Plans.{AreStarts, IsPlannable}
 use Rattle.dm_mirror.specs.Runs.{AllAccepted, IsRunOf}
 use Rattle.dm_mirror.specs.Report.{IsReport}
 
@@ -17,16 +18,18 @@ abbrev pub posters_text : ℕ → List (List ℕ) → List ℕ
 posters_text n [] = []
 posters_text n (name ∷ names) = poster_line n name ++ posters_text (suc n) names
 
--- the exit status: 0 where each mirror took every bundle or had its patches already, else 1
+-- the exit status: 0 where each mirror took all of every bundle or had its patches already, else 1
 abbrev pub IsStatusOf : Outcome → ℕ → Type 0
 IsStatusOf o status = (AllAccepted o.mirrors.items × (status ≡ 0)) ⊎ ((AllAccepted o.mirrors.items → ⊥) × (status ≡ 1))
 
--- a run of posters of these names, which send these texts, to mirrors of these bases is answered by these bytes and this exit status
-pub record RunsTo (names : List (List ℕ)) (texts : List (List (List ℕ))) (bases : List (List ℕ)) (out : List ℕ) (status : ℕ) : Type 0 where
+-- a run of posters of these names, which send these texts, to mirrors of these bases and policies, at each of which so many mails may wait, is
+-- answered by these bytes and this exit status
+pub record RunsTo (names : List (List ℕ)) (texts : List (List (List ℕ))) (bases : List (List ℕ)) (policies : List Policy) (bound : ℕ) (out : List ℕ) (status : ℕ) : Type 0 where
+  pub plannable : IsPlannable texts bases policies bound
   pub starts : List (List Patch)
   pub are_starts : AreStarts bases starts
   pub outcome : Outcome
-  pub is_run : IsRunOf texts starts outcome
+  pub is_run : IsRunOf texts starts policies outcome
   pub report : List ℕ
   pub is_report : IsReport outcome report
   pub bytes : out ≡ posters_text 0 names ++ report

@@ -11,12 +11,12 @@ use crate::print::answer_text;
 use crate::status::status_of;
 use crate::streams::{read_text, write_text};
 use bumpalo::Bump;
-use dm_repo::Repo;
+use dm_repo::{Policy, Repo};
 use dm_scratch::take;
 use std::alloc::Global;
 use std::io::{Read, Write};
 
-/// The repository that a base's text makes, or an empty one.
+/// The repository that a base's text makes, where a conflict refuses it, or an empty one.
 fn repo_of(alloc: Global, arena: &mut Bump, base: Option<&[u8]>) -> Result<Repo<Global>, ToolFault>
     ensures ok { IfOk result (λ repo. MatchOption base.entry (repo.patches ≡ []) (λ text. IsBase text.now repo.patches)) }
     ensures err { IfErr result (λ e. MatchOption base.entry ⊥ (λ text. RefusesBase text.now e)) }
@@ -25,16 +25,16 @@ fn repo_of(alloc: Global, arena: &mut Bump, base: Option<&[u8]>) -> Result<Repo<
     let Some(text) = base else {
         return Ok(repo);
     };
-    let verdict = take(&mut repo, arena, text);
+    let verdict = take(&mut repo, arena, text, Policy::Refuse);
     if verdict.is_accepted() {
         return Ok(repo);
     }
     Err(ToolFault::of_base(verdict))
 }
 
-/// Reads a bundle, takes it into the repository that a base's text makes, or into an empty one, and writes the verdict's
-/// line with the listing of the repository's tree, or `as_bundle` with the canonical bundle of all its patches. Answers the
-/// exit status: 0 where the bundle was taken or brought nothing new, else 1.
+/// Reads a bundle, takes it under a policy into the repository that a base's text makes, or into an empty one, and writes the
+/// verdict's line with the listing of the repository's tree, or `as_bundle` with the canonical bundle of all its patches.
+/// Answers the exit status: 0 where all of the bundle was taken or it brought nothing new, else 1.
 ///
 /// Errors: [`ToolFault::BadBase`] where the base isn't taken, before anything is read; [`ToolFault::Read`];
 /// [`ToolFault::NoMemory`] where the base was refused for memory, or where the text or the output could not be kept;
@@ -43,13 +43,14 @@ pub fn apply_over<R: Read, W: Write>(
     alloc: Global,
     base: Option<&[u8]>,
     as_bundle: bool,
+    policy: Policy,
     reader: &mut R,
     writer: &mut W,
 ) -> Result<u8, ToolFault>
     ensures ok { IfOk result (λ status. (start : List Patch) × (text : List ℕ) × (out : List ℕ) ×
         MatchOption base.entry (start ≡ []) (λ b. IsBase b.now start) ×
         Gives (R.remaining reader.old) (R.remaining reader.new) text ×
-        Answers start as_bundle text out status × Appends (W.contents writer.old) (W.contents writer.new) out) }
+        Answers start as_bundle policy text out status × Appends (W.contents writer.old) (W.contents writer.new) out) }
     ensures base_first { IfErr result (λ e. ((e ≢ ToolFault.Read) × (R.remaining reader.new ≡ R.remaining reader.old)) ⊎
         ((start : List Patch) × MatchOption base.entry (start ≡ []) (λ b. IsBase b.now start))) }
     ensures bad_base { IfErr result (λ e. (v : Verdict) → (e ≡ ToolFault.BadBase v) → MatchOption base.entry ⊥ (λ b. RefusesBase b.now e)) }
@@ -58,12 +59,12 @@ pub fn apply_over<R: Read, W: Write>(
     ensures prefix { IfErr result (λ e. (e ≡ ToolFault.Write) → (start : List Patch) × (text : List ℕ) × (out : List ℕ) × (status : ℕ) × (count : ℕ) ×
         MatchOption base.entry (start ≡ []) (λ b. IsBase b.now start) ×
         Gives (R.remaining reader.old) (R.remaining reader.new) text ×
-        Answers start as_bundle text out status × Appends (W.contents writer.old) (W.contents writer.new) (take count out)) }
+        Answers start as_bundle policy text out status × Appends (W.contents writer.old) (W.contents writer.new) (take count out)) }
 {
     let mut arena = Bump::new(alloc);
     let mut repo = repo_of(alloc, &mut arena, base)?;
     let bundle = read_text(alloc, reader)?;
-    let verdict = take(&mut repo, &mut arena, &bundle);
+    let verdict = take(&mut repo, &mut arena, &bundle, policy);
     let text = answer_text(alloc, verdict, &repo, as_bundle)?;
     write_text(&text, writer)?;
     Ok(status_of(verdict))

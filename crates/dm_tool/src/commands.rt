@@ -3,7 +3,7 @@ use crate::apply::apply_over;
 use crate::check::check_over;
 use crate::fault::ToolFault;
 use crate::files::{WordFault, read_file};
-use crate::plan_words::run_plan;
+use crate::plan_words::{policy_of, run_plan};
 use clap::error::ErrorKind;
 use clap::{Arg, ArgAction, ArgMatches, Command, Error, value_parser};
 use std::alloc::{AllocError, Global};
@@ -34,6 +34,14 @@ fn bundle<'a>(alloc: Global) -> Arg<'a> {
         .help("Print the repository as a bundle in place of the listing")
 }
 
+/// The word that has patches skipped.
+fn skip<'a>(alloc: Global) -> Arg<'a> {
+    Arg::new(alloc, "skip")
+        .long("skip")
+        .action(ArgAction::SetTrue)
+        .help("Skip patches that conflict, and take the others")
+}
+
 /// A word that takes a number, which has to be there.
 fn number<'a>(alloc: Global, name: &'a str, value: &'a str, help: &'a str) -> Arg<'a> {
     Arg::new(alloc, name)
@@ -61,7 +69,8 @@ fn apply_words<'a>(alloc: Global) -> Result<Command<'a>, AllocError> {
             "Take the patch bundle on standard input; print the verdict and the listing of the tree",
         )
         .arg(base(alloc, "Take the bundle of FILE first"))?
-        .arg(bundle(alloc))
+        .arg(bundle(alloc))?
+        .arg(skip(alloc))
 }
 
 /// The words of `dm check`.
@@ -79,9 +88,15 @@ fn run_words<'a>(alloc: Global) -> Result<Command<'a>, AllocError> {
         .about(
             "Let posters send bundles to mirrors, all at once; print what each mirror took, and its tree",
         )
-        .arg(number(alloc, "mirrors", "M", "How many mirrors there are; two"))?
+        .arg(number(
+            alloc,
+            "mirrors",
+            "M",
+            "How many mirrors there are; one to eight",
+        ))?
         .arg(number(alloc, "bound", "B", waiting))?
         .arg(base(alloc, start))?
+        .arg(skip(alloc))?
         .arg(posters(alloc))
 }
 
@@ -135,6 +150,7 @@ fn apply<'a, R: Runtime + AllocGlobal>(
         rt.alloc(),
         base.as_deref(),
         as_bundle,
+        policy_of(words),
         &mut reader,
         &mut writer,
     )?;

@@ -24,8 +24,6 @@ mod print;
 mod running;
 mod status;
 mod streams;
-#[cfg(test)]
-mod tests;
 
 use std::process::ExitCode;
 

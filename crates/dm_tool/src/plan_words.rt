@@ -3,6 +3,7 @@ use crate::fault::ToolFault;
 use crate::files::{WordFault, read_file};
 use crate::running::run_over;
 use clap::ArgMatches;
+use dm_repo::Policy;
 use indexmap::IndexMap;
 use memchr::memchr;
 use std::alloc::{AllocError, Global};
@@ -14,8 +15,8 @@ use std::thread::Threads;
 /// The most bases that are handed in, one more than any plan takes.
 const MOST_BASES: u32 = 9;
 
-/// Posters in the order in which they were first named, each with the names of its files.
-type Posters<'a> = IndexMap<&'a str, Vec<&'a str>>;
+/// Posters in the order in which they were first named, each with its texts.
+type Posters<'a> = IndexMap<&'a str, Vec<Vec<u8>>>;
 
 /// The poster and the file of a word `POSTER=FILE`. The file may be empty, the poster not.
 fn split_word(word: &str) -> Option<(&str, &str)> {
@@ -26,43 +27,34 @@ fn split_word(word: &str) -> Option<(&str, &str)> {
     Some((word.get(..at)?, word.get(at + 1..)?))
 }
 
-/// The posters that these words name.
-fn posters_of<'a>(alloc: Global, words: &[&'a str]) -> Result<Posters<'a>, WordFault<'a>> {
-    let mut posters = IndexMap::new(alloc);
+/// The poster and the file of each of these words.
+fn split_words<'a>(
+    alloc: Global,
+    words: &[&'a str],
+) -> Result<Vec<(&'a str, &'a str)>, WordFault<'a>> {
+    let mut pairs = Vec::with_capacity(alloc, words.len())?;
     for word in words {
-        let Some((poster, file)) = split_word(word) else {
-            return Err(WordFault::BadPosterWord(word));
-        };
-        let files = posters.entry(poster)?.or_insert(Vec::new(alloc));
-        if !file.is_empty() {
-            files.push(file)?;
+        match split_word(word) {
+            Some(pair) => pairs.push(pair)?,
+            None => return Err(WordFault::BadPosterWord(word)),
+        }
+    }
+    Ok(pairs)
+}
+
+/// Each poster with the bytes of its files, which are read in this order.
+fn read_posters<'a, R: Runtime + AllocGlobal>(
+    rt: &R,
+    words: &[(&'a str, &'a str)],
+) -> Result<Posters<'a>, WordFault<'a>> {
+    let mut posters = IndexMap::new(rt.alloc());
+    for word in words {
+        let texts = posters.entry(word.0)?.or_insert(Vec::new(rt.alloc()));
+        if !word.1.is_empty() {
+            texts.push(read_file(rt, word.1)?)?;
         }
     }
     Ok(posters)
-}
-
-/// The bytes of each of these files.
-fn read_files<'a, R: Runtime + AllocGlobal>(
-    rt: &R,
-    files: &[&'a str],
-) -> Result<Vec<Vec<u8>>, WordFault<'a>> {
-    let mut texts = Vec::new(rt.alloc());
-    for file in files {
-        texts.push(read_file(rt, file)?)?;
-    }
-    Ok(texts)
-}
-
-/// Each poster with the bytes of its files.
-fn read_posters<'a, R: Runtime + AllocGlobal>(
-    rt: &R,
-    posters: &Posters<'a>,
-) -> Result<Vec<(&'a str, Vec<Vec<u8>>)>, WordFault<'a>> {
-    let mut read = Vec::new(rt.alloc());
-    for (poster, files) in posters.iter() {
-        read.push((*poster, read_files(rt, files)?))?;
-    }
-    Ok(read)
 }
 
 /// Each of these texts, borrowed.
@@ -77,11 +69,11 @@ fn slices_of<'t>(alloc: Global, texts: &'t [Vec<u8>]) -> Result<Vec<&'t [u8]>, A
 /// Each poster with its texts, borrowed.
 fn lists_of<'n, 't>(
     alloc: Global,
-    posters: &'t [(&'n str, Vec<Vec<u8>>)],
+    posters: &'t Posters<'n>,
 ) -> Result<Vec<(&'n str, Vec<&'t [u8]>)>, AllocError> {
     let mut lists = Vec::with_capacity(alloc, posters.len())?;
-    for poster in posters {
-        lists.push((poster.0, slices_of(alloc, &poster.1)?))?;
+    for (poster, texts) in posters.iter() {
+        lists.push((*poster, slices_of(alloc, texts)?))?;
     }
     Ok(lists)
 }
@@ -98,6 +90,23 @@ fn named_lists<'n, 'l, 't>(
     Ok(named)
 }
 
+/// What each mirror does with patches that conflict, as the words say.
+pub fn policy_of(words: &ArgMatches<'_>) -> Policy {
+    if words.get_flag("skip") {
+        return Policy::Skip;
+    }
+    Policy::Refuse
+}
+
+/// The same policy for each of these mirrors.
+fn policies_of(alloc: Global, policy: Policy, mirrors: usize) -> Result<Vec<Policy>, AllocError> {
+    let mut policies = Vec::with_capacity(alloc, mirrors)?;
+    for _ in 0..mirrors {
+        policies.push(policy)?;
+    }
+    Ok(policies)
+}
+
 /// The same base for each mirror.
 fn bases_of<'t>(alloc: Global, base: &'t [u8], mirrors: u32) -> Result<Vec<&'t [u8]>, AllocError> {
     let mut bases = Vec::new(alloc);
@@ -107,11 +116,12 @@ fn bases_of<'t>(alloc: Global, base: &'t [u8], mirrors: u32) -> Result<Vec<&'t [
     Ok(bases)
 }
 
-/// Runs the plan of these posters, each with its texts, and of so many mirrors of this base.
+/// Runs the plan of these posters, each with its texts, and of so many mirrors of this base and policy.
 fn run_texts<'a, R: Runtime + AllocGlobal + Threads + Wait + Sync>(
     rt: &R,
-    posters: &[(&'a str, Vec<Vec<u8>>)],
+    posters: &Posters<'a>,
     base: &[u8],
+    policy: Policy,
     mirrors: u32,
     bound: u32,
 ) -> Result<u8, ToolFault> {
@@ -119,8 +129,17 @@ fn run_texts<'a, R: Runtime + AllocGlobal + Threads + Wait + Sync>(
     let lists = lists_of(alloc, posters)?;
     let named = named_lists(alloc, &lists)?;
     let bases = bases_of(alloc, base, mirrors)?;
+    let policies = policies_of(alloc, policy, bases.len())?;
     let mut writer = io::writer(rt);
-    run_over(rt, alloc, &named, &bases, bound as usize, &mut writer)
+    run_over(
+        rt,
+        alloc,
+        &named,
+        &bases,
+        &policies,
+        bound as usize,
+        &mut writer,
+    )
 }
 
 /// The bytes of the base that the words name, or an empty text.
@@ -134,16 +153,16 @@ fn read_base<'a, R: Runtime + AllocGlobal>(
     }
 }
 
-/// Runs the plan that the words name: the base is read first, then the files in the order of their posters. Answers the
-/// exit status.
+/// Runs the plan that the words name: the base is read first, then the files in the order of the words. Answers the exit
+/// status.
 pub fn run_plan<'a, R: Runtime + AllocGlobal + Threads + Wait + Sync>(
     rt: &R,
     words: &ArgMatches<'a>,
 ) -> Result<u8, WordFault<'a>> {
-    let posters = posters_of(rt.alloc(), words.get_strs("posters").unwrap_or(&[]))?;
+    let files = split_words(rt.alloc(), words.get_strs("posters").unwrap_or(&[]))?;
     let base = read_base(rt, words)?;
-    let texts = read_posters(rt, &posters)?;
+    let posters = read_posters(rt, &files)?;
     let mirrors = words.get_one::<u32>("mirrors").unwrap_or(0);
     let bound = words.get_one::<u32>("bound").unwrap_or(0);
-    Ok(run_texts(rt, &texts, &base, mirrors, bound)?)
+    Ok(run_texts(rt, &posters, &base, policy_of(words), mirrors, bound)?)
 }

@@ -10,6 +10,7 @@ ghost use Rattle.dm_tool.specs.Running.{IsStatusOf, RunsTo, poster_line, posters
 use crate::fault::ToolFault;
 use crate::streams::write_text;
 use dm_mirror::{Open, Outcome, Plan, report_text, run};
+use dm_repo::Policy;
 use std::alloc::{AllocError, Global};
 use std::io::Write;
 use std::sync::Wait;
@@ -63,7 +64,7 @@ fn run_text(
     Ok(text)
 }
 
-/// The exit status of a run: 0 where each mirror took every bundle or had its patches already, else 1.
+/// The exit status of a run: 0 where each mirror took all of every bundle or had its patches already, else 1.
 fn status_of(outcome: &Outcome) -> u8
     ensures { IsStatusOf outcome.now result }
 {
@@ -76,24 +77,25 @@ fn answer_of<R: Threads + Wait + Sync>(
     alloc: Global,
     posters: &[(&str, &[&[u8]])],
     bases: &[&[u8]],
+    policies: &[Policy],
     bound: usize,
 ) -> Result<(Vec<u8>, u8), ToolFault>
-    ensures ok { IfOk result (λ x. RunsTo (map (λ p. p.0.now) posters.now) (map (λ p. map (λ text. text.now) p.1.now) posters.now) (map (λ base. base.now) bases.now) x.0.items x.1) }
-    ensures bad_plan { IfErr result (λ e. (fault : PlanFault) → (e ≡ ToolFault.BadPlan fault) → IsFirstFault (map (λ p. map (λ text. text.now) p.1.now) posters.now) (map (λ base. base.now) bases.now) bound fault) }
+    ensures ok { IfOk result (λ x. RunsTo (map (λ p. p.0.now) posters.now) (map (λ p. map (λ text. text.now) p.1.now) posters.now) (map (λ base. base.now) bases.now) policies.now bound x.0.items x.1) }
+    ensures bad_plan { IfErr result (λ e. (fault : PlanFault) → (e ≡ ToolFault.BadPlan fault) → IsFirstFault (map (λ p. map (λ text. text.now) p.1.now) posters.now) (map (λ base. base.now) bases.now) policies.now bound fault) }
     ensures unwritten { IfErr result (λ e. e ≢ ToolFault.Write) }
     ensures unread { IfErr result (λ e. e ≢ ToolFault.Read) }
     ensures no_base { IfErr result (λ e. (v : Verdict) → e ≢ ToolFault.BadBase v) }
 {
     let texts = texts_of(alloc, posters)?;
-    let plan = Plan::build(alloc, &texts, bases, bound)?;
+    let plan = Plan::build(alloc, &texts, bases, policies, bound)?;
     let outcome = run(rt, alloc, plan, &Open)?;
     let text = run_text(alloc, posters, &outcome)?;
     Ok((text, status_of(&outcome)))
 }
 
 /// Runs a plan of posters, each with its name and the texts of its bundles, and of mirrors, each with the text of its base,
-/// where an empty text is an empty repository. Writes a line for each poster and then the report. Answers the exit status:
-/// 0 where each mirror took every bundle or had its patches already, else 1.
+/// where an empty text is an empty repository, and with its policy. Writes a line for each poster and then the report. Answers
+/// the exit status: 0 where each mirror took all of every bundle or had its patches already, else 1.
 ///
 /// Errors: [`ToolFault::BadPlan`] where there is no such plan; [`ToolFault::NoThread`]; [`ToolFault::NoMemory`];
 /// [`ToolFault::Write`]. Only after the last has anything been written, which is a prefix of the output.
@@ -102,21 +104,22 @@ pub fn run_over<R: Threads + Wait + Sync, W: Write>(
     alloc: Global,
     posters: &[(&str, &[&[u8]])],
     bases: &[&[u8]],
+    policies: &[Policy],
     bound: usize,
     writer: &mut W,
 ) -> Result<u8, ToolFault>
     ensures ok { IfOk result (λ status. (out : List ℕ) ×
-        RunsTo (map (λ p. p.0.now) posters.now) (map (λ p. map (λ text. text.now) p.1.now) posters.now) (map (λ base. base.now) bases.now) out status ×
+        RunsTo (map (λ p. p.0.now) posters.now) (map (λ p. map (λ text. text.now) p.1.now) posters.now) (map (λ base. base.now) bases.now) policies.now bound out status ×
         Appends (W.contents writer.old) (W.contents writer.new) out) }
-    ensures bad_plan { IfErr result (λ e. (fault : PlanFault) → (e ≡ ToolFault.BadPlan fault) → IsFirstFault (map (λ p. map (λ text. text.now) p.1.now) posters.now) (map (λ base. base.now) bases.now) bound fault) }
+    ensures bad_plan { IfErr result (λ e. (fault : PlanFault) → (e ≡ ToolFault.BadPlan fault) → IsFirstFault (map (λ p. map (λ text. text.now) p.1.now) posters.now) (map (λ base. base.now) bases.now) policies.now bound fault) }
     ensures silent { IfErr result (λ e. (e ≢ ToolFault.Write) → Keeps (W.contents writer.old) (W.contents writer.new)) }
     ensures prefix { IfErr result (λ e. (e ≡ ToolFault.Write) → (out : List ℕ) × (status : ℕ) × (count : ℕ) ×
-        RunsTo (map (λ p. p.0.now) posters.now) (map (λ p. map (λ text. text.now) p.1.now) posters.now) (map (λ base. base.now) bases.now) out status ×
+        RunsTo (map (λ p. p.0.now) posters.now) (map (λ p. map (λ text. text.now) p.1.now) posters.now) (map (λ base. base.now) bases.now) policies.now bound out status ×
         Appends (W.contents writer.old) (W.contents writer.new) (take count out)) }
     ensures unread { IfErr result (λ e. e ≢ ToolFault.Read) }
     ensures no_base { IfErr result (λ e. (v : Verdict) → e ≢ ToolFault.BadBase v) }
 {
-    let (out, status) = answer_of(rt, alloc, posters, bases, bound)?;
+    let (out, status) = answer_of(rt, alloc, posters, bases, policies, bound)?;
     write_text(&out, writer)?;
     Ok(status)
 }

@@ -4,7 +4,7 @@ ghost use Rattle.dm_tool.specs.Printing.{status_of};
 
 use dm_scratch::Verdict;
 
-/// The exit status that tells a verdict: 0 where the bundle was taken or brought nothing new, else 1.
+/// The exit status that tells a verdict: 0 where all of the bundle was taken or it brought nothing new, else 1.
 pub fn status_of(verdict: Verdict) -> u8
     ensures { result ≡ status_of verdict }
 {

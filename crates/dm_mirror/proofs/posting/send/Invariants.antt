@@ -6,5 +6,5 @@ abbrev pub invariant-loop : goal.invariant-loop
 invariant-loop g l = record {
   same : SameOutlet l.initial.outlet l.outlet;
   mails : outlet_mails l.outlet ≡ outlet_mails l.initial.outlet;
-  text : l.text.items ≡ l.initial.text.items;
+  text : l.text ≡ l.initial.text;
 }

@@ -1,50 +1,69 @@
-use Rattle.std.proofs.Common.{ap, length, ◌∙◌, refl}
-use Rattle.dm_mirror.specs.Deliveries.{all_mails, texts_of}
-use Rattle.dm_mirror.proofs.DeliveryLemmas.{served, both_sent, complete, complete_two, run_of_two, two_items}
+use Rattle.std.proofs.Common.{arith, length, map, ap, sym, subst, ◌≡◌, ◌∙◌}
+use Rattle.std.proofs.lemmas.List.{length-map}
+use Rattle.std.specs.List.{All}
+use Rattle.dm_mail.specs.Ends.{AreNewOutlets}
+use Rattle.dm_mirror.specs.Lists.{EachWith}
+use Rattle.dm_mirror.specs.Jobs.{DoesTake}
+use Rattle.dm_mirror.specs.Plans.{plan_texts}
+use Rattle.dm_mirror.proofs.ListLemmas.{each_length, each_from_length}
+use Rattle.dm_mirror.proofs.RunLemmas.{all_complete, run_of}
+use Rattle.dm_mirror.proofs.SettleLemmas.{run_rows, run_kept, run_done}
 use Rattle.dm_mirror.proofs.running.run.Goals as goal
 
-pub settled-requires-clause-count : goal.settled-requires-clause-count
-settled-requires-clause-count g c =
-    let jobs = c.in_ok-posters.ensures in
-    let done = c.in_ok-one.ensures in
-    both_sent _ _ _ _ _ c.args.plan.first_poster.items c.args.plan.second_poster.items (rw jobs.texts.0 at done.posters.0.first) (rw jobs.texts.1 at done.posters.1.first)
-    (done.mirrors.0.count ∙ jobs.expected.0)
+pub jobs_of-requires-clause-outlets : goal.jobs_of-requires-clause-outlets
+jobs_of-requires-clause-outlets g c =
+    let many : c.len-count.result ≡ length c.args.plan.posters.items = omega (arith, c.len-count.ensures) in
+    subst (λ n. EachWith (λ job row. (length row ≡ n) × AreNewOutlets job.inlet 0 row) c.in_ok-opened.opened.mirrors.items (map (λ row. row.items) c.in_ok-opened.opened.outlets.items)) many c.in_ok-opened.ensures.outlets
 
-pub settled-requires-2-clause-count : goal.settled-requires-2-clause-count
-settled-requires-2-clause-count g c =
+pub jobs_of-requires-clause-copied : goal.jobs_of-requires-clause-copied
+jobs_of-requires-clause-copied g c =
+    subst (λ n. All (λ poster. length poster.copies.items ≡ n) c.args.plan.posters.items) (sym (each_length _ c.args.plan.mirrors.items c.in_ok-opened.opened.mirrors.items c.in_ok-opened.ensures.mirrors)) c.args.plan.copied
+
+pub in_threads-requires-after_bounds : goal.in_threads-requires-after_bounds
+in_threads-requires-after_bounds g c κs within =
     let jobs = c.in_ok-posters.ensures in
-    let done = c.in_ok-one.ensures in
-    both_sent _ _ _ _ _ c.args.plan.first_poster.items c.args.plan.second_poster.items (rw jobs.texts.0 at done.posters.0.second) (rw jobs.texts.1 at done.posters.1.second)
-    (done.mirrors.1.count ∙ jobs.expected.1)
+    let posters = each_from_length _ 0 c.args.plan.posters.items c.in_ok-posters.posters.items jobs.posters in
+    let mirrors = each_length _ c.args.plan.mirrors.items c.in_ok-opened.opened.mirrors.items c.in_ok-opened.ensures.mirrors in
+    (omega (arith, posters, c.args.plan.shape.0.1), omega (arith, mirrors, ap (λ q. length q.items) jobs.mirrors, c.args.plan.shape.1.1))
+
+pub settle_each-mirrors-requires-clause-rows : goal.settle_each-mirrors-requires-clause-rows
+settle_each-mirrors-requires-clause-rows g c =
+    let jobs = c.in_ok-posters.ensures in
+    let ended = c.in_ok-ended.ensures in
+    run_rows (λ row. row.items) c.args.plan c.of-whole_plan.result.value c.in_ok-opened.opened.mirrors.items c.in_ok-posters.mirrors.items c.in_ok-posters.posters.items c.in_ok-ended.ended.rows.items c.in_ok-ended.ended.kept.items
+    c.of-whole_plan.ensures (ap (λ q. q.items) jobs.mirrors) jobs.posters ended.posters ended.mirrors
+
+pub settle_each-mirrors-requires-clause-kept : goal.settle_each-mirrors-requires-clause-kept
+settle_each-mirrors-requires-clause-kept g c =
+    let many : c.len-count.result ≡ length c.args.plan.posters.items = omega (arith, c.len-count.ensures) in
+    run_kept c.args.plan c.of-whole_plan.result.value c.len-count.result c.in_ok-opened.opened.mirrors.items c.in_ok-posters.mirrors.items c.in_ok-ended.ended.kept.items
+    c.of-whole_plan.ensures (ap (λ q. q.items) c.in_ok-posters.ensures.mirrors) many c.in_ok-opened.ensures.mirrors c.in_ok-ended.ensures.mirrors
+
+pub settle_each-mirrors-requires-clause-fits : goal.settle_each-mirrors-requires-clause-fits
+settle_each-mirrors-requires-clause-fits g c =
+    let rows = each_length _ c.in_ok-posters.posters.items c.in_ok-ended.ended.rows.items c.in_ok-ended.ensures.posters in
+    let posters = each_from_length _ 0 c.args.plan.posters.items c.in_ok-posters.posters.items c.in_ok-posters.ensures.posters in
+    (c.in_ok-ended.ensures.room, omega (arith, rows, posters, c.len-count.ensures, c.in_ok-room.ensures.capacity), omega (arith, rows, posters, c.len-count.ensures, c.in_ok-room_for_ends.ensures.capacity))
+
+pub settle_each-mirrors-requires-clause-fits_outcome : goal.settle_each-mirrors-requires-clause-fits_outcome
+settle_each-mirrors-requires-clause-fits_outcome g c =
+    let kept = each_length DoesTake c.in_ok-posters.mirrors.items c.in_ok-ended.ended.kept.items c.in_ok-ended.ensures.mirrors in
+    let mirrors = each_length _ c.args.plan.mirrors.items c.in_ok-opened.opened.mirrors.items c.in_ok-opened.ensures.mirrors in
+    omega (arith, kept, mirrors, ap (λ q. length q.items) c.in_ok-posters.ensures.mirrors, c.args.plan.room)
 
 pub invariant_of-result : goal.invariant_of-result
 invariant_of-result g c =
-    let jobs = c.in_ok-posters.ensures in
-    let done = c.in_ok-one.ensures in
-    let left = c.settled.ensures.same in
-    let right = c.settled-2.ensures.same in
-    let empty = ap (λ m. m.items) jobs.room ∙ c.args.plan.empty in
+    let many : c.len-count.result ≡ length c.args.plan.posters.items = omega (arith, c.len-count.ensures) in
     record {
-      complete = complete_two 2 c.push_reserved-2.new.self.items c.settled.result c.settled-2.result (two_items {ys = c.push_reserved.new.self.items} {zs = c.push_reserved-2.new.self.items} empty c.push_reserved.ensures.items c.push_reserved-2.ensures.items)
-          (complete c.args.plan.first_mirror.repo.patches c.settled.result (rw (left.0, left.1, left.2) (rw jobs.mirrors.0 at done.mirrors.0.fold)) (ap length c.settled.ensures.receipts))
-          (complete c.args.plan.second_mirror.repo.patches c.settled-2.result (rw (right.0, right.1, right.2) (rw jobs.mirrors.1 at done.mirrors.1.fold)) (ap length c.settled-2.ensures.receipts));
+      complete = all_complete c.len-count.result (plan_texts c.args.plan) c.in_ok-opened.opened.mirrors.items c.settle_each-mirrors.result.items (many ∙ sym (length-map c.args.plan.posters.items (λ poster. poster.texts.value.items)))
+          (run_done c.args.plan c.of-whole_plan.result.value c.len-count.result c.in_ok-opened.opened.mirrors.items c.in_ok-posters.mirrors.items c.in_ok-ended.ended.kept.items c.settle_each-mirrors.result.items
+          c.of-whole_plan.ensures (ap (λ q. q.items) c.in_ok-posters.ensures.mirrors) many c.in_ok-opened.ensures.mirrors c.in_ok-ended.ensures.mirrors c.settle_each-mirrors.ensures);
     }
 
 pub returns : goal.returns
 returns g c =
-    let jobs = c.in_ok-posters.ensures in
-    let done = c.in_ok-one.ensures in
-    let ts = texts_of c.args.plan.first_poster.items in
-    let us = texts_of c.args.plan.second_poster.items in
-    let left = c.settled.ensures.same in
-    let right = c.settled-2.ensures.same in
-    let empty = ap (λ m. m.items) jobs.room ∙ c.args.plan.empty in
-    run_of_two _ _ _ _ c.settled.result c.settled-2.result refl (two_items {ys = c.push_reserved.new.self.items} {zs = c.push_reserved-2.new.self.items} empty c.push_reserved.ensures.items c.push_reserved-2.ensures.items)
-    (served ts us c.args.plan.first_mirror.repo.patches c.settled.result _ _ c.settled.ensures.first c.settled.ensures.second
-    ((rw jobs.texts.0 at done.posters.0.first) ∙ ap (λ k. all_mails k ts) jobs.first_mail.first_poster)
-    ((rw jobs.texts.1 at done.posters.1.first) ∙ ap (λ k. all_mails k us) jobs.first_mail.second_poster)
-    (rw left.0 (rw jobs.first_mail.posters at done.mirrors.0.below)) c.settled.ensures.receipts (rw (left.0, left.1, left.2) (rw jobs.mirrors.0 at done.mirrors.0.fold)))
-    (served ts us c.args.plan.second_mirror.repo.patches c.settled-2.result _ _ c.settled-2.ensures.first c.settled-2.ensures.second
-    ((rw jobs.texts.0 at done.posters.0.second) ∙ ap (λ k. all_mails k ts) jobs.second_mail.first_poster)
-    ((rw jobs.texts.1 at done.posters.1.second) ∙ ap (λ k. all_mails k us) jobs.second_mail.second_poster)
-    (rw right.0 (rw jobs.second_mail.posters at done.mirrors.1.below)) c.settled-2.ensures.receipts (rw (right.0, right.1, right.2) (rw jobs.mirrors.1 at done.mirrors.1.fold)))
+    let many : c.len-count.result ≡ length c.args.plan.posters.items = omega (arith, c.len-count.ensures) in
+    run_of c.len-count.result c.args.plan.expected c.args.plan.bound (plan_texts c.args.plan) c.args.plan.mirrors.items c.args.plan.policies.items c.in_ok-opened.opened.mirrors.items _ (many ∙ sym (length-map c.args.plan.posters.items (λ poster. poster.texts.value.items)))
+    c.in_ok-opened.ensures.mirrors (c.in_ok-opened.ensures.policies ∙ c.deref.ensures.value)
+    (run_done c.args.plan c.of-whole_plan.result.value c.len-count.result c.in_ok-opened.opened.mirrors.items c.in_ok-posters.mirrors.items c.in_ok-ended.ended.kept.items c.settle_each-mirrors.result.items
+    c.of-whole_plan.ensures (ap (λ q. q.items) c.in_ok-posters.ensures.mirrors) many c.in_ok-opened.ensures.mirrors c.in_ok-ended.ensures.mirrors c.settle_each-mirrors.ensures)

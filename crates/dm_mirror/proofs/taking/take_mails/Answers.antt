@@ -15,5 +15,5 @@ loop-preserved-in-Ok g c =
       most = search rules;
       as_many = search rules;
       below = rw (c.in-Ok.ensures.same.1, mails) (below_more _ c.loop.mails.items c.in-Ok.mail inv.below c.in-Ok.ensures.taken.0.poster);
-      fold = rw (mails, c.push_reserved.ensures.items) (fold_more c.args.mirror.repo.patches c.loop.mails.items c.loop.verdicts.items c.loop.repo.patches c.in-Ok.mail c.take_body.result c.take_body.new.repo.patches inv.fold c.take_body.ensures);
+      fold = rw (mails, c.push_reserved.ensures.items) (fold_more c.args.mirror.repo.patches c.loop.mails.items c.args.policy c.loop.verdicts.items c.loop.repo.patches c.in-Ok.mail c.take_body.result c.take_body.new.repo.patches inv.fold c.take_body.ensures);
     }

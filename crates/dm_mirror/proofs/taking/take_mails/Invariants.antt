@@ -14,5 +14,5 @@ invariant-loop g l = record {
   most : length l.mails.items ≤ l.expected;
   as_many : length l.verdicts.items ≡ length l.mails.items;
   below : AllBelow (inlet_posters l.inlet) l.mails.items;
-  fold : IsPlainFold l.initial.repo.patches l.mails.items l.verdicts.items l.repo.patches;
+  fold : IsPlainFold l.initial.repo.patches l.mails.items l.policy l.verdicts.items l.repo.patches;
 }

@@ -12,22 +12,22 @@ use Rattle.dm_repo.proofs.Depths.{merge_is_full}
 use Rattle.dm_repo.proofs.merge.append.Goals as goal
 
 pub returns-then-is_too_many : goal.returns-then-is_too_many
-returns-then-is_too_many g c = λ b rest new fits m.
+returns-then-is_too_many g c = λ b policy rest new fits m.
     let merged = c.args.merged.items in
     let count : c.len-2.result ≡ length merged = c.len-2.ensures ∙ c.args.merged.ok.0 in
-    inr (rest, new, merged, fits, m, inl (rw (c.len.ensures.value, count) at (c.if-is_too_many.ensures.0 refl)))
+    inr (rest, new, merged, c.args.skipped, fits, m, inl (rw (c.len.ensures.value, count) at (c.if-is_too_many.ensures.0 refl)))
 
 pub returns-in-Err : goal.returns-in-Err
-returns-in-Err g c = λ b rest new fits m.
+returns-in-Err g c = λ b policy rest new fits m.
     let repo = c.args.repo.now.patches in
     let t = c.in_ok-tree.ensures in
     rw c.full.ensures
-    (of_place (RefusesBundle repo b) (λ k. Full) (FitStops IsStopped t.0 c.args.merged.items) c.in-Err.stop tt
-    (λ x q. inr (merge_is_full repo b x fits m t.2 q))
+    (of_place (RefusesBundle repo b policy) (λ k. Full) (FitStops IsStopped t.0 c.args.merged.items) c.in-Err.stop tt
+    (λ x q. inr (merge_is_full repo b policy c.args.skipped x fits m t.2 q))
     (rw c.deref.ensures.value at (c.in-Err.ensures t.0 t.1)))
 
 pub returns : goal.returns
-returns g c = λ b rest new fits m.
+returns g c = λ b policy rest new fits m.
     let repo = c.args.repo.now.patches in
     let merged = c.args.merged.items in
     let count : c.len-2.result ≡ length merged = c.len-2.ensures ∙ c.args.merged.ok.0 in
@@ -47,4 +47,4 @@ returns g c = λ b rest new fits m.
     )
 
 pub returns-in_err-patches : goal.returns-in_err-patches
-returns-in_err-patches g c = λ b rest new fits m. let p = err_from_is_err_and c.from_residual-in_err-patches.result c.from_residual-in_err-patches.ensures.1 in rw (p.1, p.2) tt
+returns-in_err-patches g c = λ b policy rest new fits m. let p = err_from_is_err_and c.from_residual-in_err-patches.result c.from_residual-in_err-patches.ensures.1 in rw (p.1, p.2) tt

@@ -1,32 +1,7 @@
-use Rattle.std.proofs.Common.{rules, ◌≡◌, ◌∙◌, ap, map, drop, length}
-use Rattle.dm_repo.specs.Stops.{AtPlaces}
-use Rattle.dm_repo.specs.Merging.{MergeStops}
-use Rattle.dm_repo.specs.Squares.{PlacedMerges, undone}
-use Rattle.dm_repo.specs.Weighing.{RefusesBundle}
-use Rattle.dm_repo.specs.declared.refusal.Refusal.TheVariants.{Conflicts}
-use Rattle.dm_repo.proofs.Splits.{whole}
-use Rattle.dm_repo.proofs.Steps.{between_places, undone_twice}
 use Rattle.dm_repo.proofs.merge.merge.Goals as goal
 
-pub returns-in-Ok : goal.returns-in-Ok
-returns-in-Ok g c = λ b fits.
-    let rest = c.args.rest.items in
-    let new = c.args.new.items in
-    let merged = c.merge_all.new.new in
-    let kept = whole c.undo_all.new.patches (drop (length c.undo_all.new.patches) rest) c.args.rest.len (search rules) in
-    let kept_new = whole merged (drop (length merged) new) c.args.new.len (search rules) in
-    let e : c.as_mut_slice-2.result.now ≡ map undone rest = c.as_mut_slice-2.ensures.value ∙ kept ∙ c.undo_all.ensures ∙ ap (map undone) c.as_mut_slice.ensures.value in
-    let f : map undone c.as_mut_slice-2.result.now ≡ rest = ap (map undone) e ∙ undone_twice rest in
-    let rectangle = rw (f, c.as_mut_slice-3.ensures.value) at c.in-Ok.ensures in
-    (rw kept_new at c.append.ensures) b rest new fits (map undone c.merge_all.new.rest, rectangle)
+pub returns-in-Refuse : goal.returns-in-Refuse
+returns-in-Refuse g c = rw c.in-Refuse.is c.merge_whole.ensures
 
-pub returns : goal.returns
-returns g c = λ b fits.
-    let repo = c.args.repo.now.patches in
-    let rest = c.args.rest.items in
-    let new = c.args.new.items in
-    let kept = whole c.undo_all.new.patches (drop (length c.undo_all.new.patches) rest) c.args.rest.len (search rules) in
-    let e : c.as_mut_slice-2.result.now ≡ map undone rest = c.as_mut_slice-2.ensures.value ∙ kept ∙ c.undo_all.ensures ∙ ap (map undone) c.as_mut_slice.ensures.value in
-    let f : map undone c.as_mut_slice-2.result.now ≡ rest = ap (map undone) e ∙ undone_twice rest in
-    rw c.conflicts.ensures
-    (between_places (RefusesBundle repo b) Conflicts (AtPlaces (MergeStops PlacedMerges rest new)) c.in-Err.blocked tt (λ j k s. (rest, new, fits, s)) (rw (f, c.as_mut_slice-3.ensures.value) at c.in-Err.ensures))
+pub returns-in-Skip : goal.returns-in-Skip
+returns-in-Skip g c = rw c.in-Skip.is c.merge_some.ensures

@@ -14,5 +14,8 @@ returns g c =
     record {
       weighed = merged;
       refusal = tt;
-      leaves_repo = record { good = merge_is_repo c.args.repo.now.patches c.args.bundle c.in_ok-merged.merged.patches.items c.lawful.ensures c.names_are_distinct.ensures merged.0; makes = merged.1 };
+      leaves_repo = record { good = merge_is_repo c.args.repo.now.patches c.args.bundle c.args.policy c.in_ok-merged.merged.patches.items c.in_ok-merged.merged.skipped c.lawful.ensures c.names_are_distinct.ensures merged.0; makes = merged.1 };
     }
+
+pub returns-in_err-marks-clause-refusal : goal.returns-in_err-marks-clause-refusal
+returns-in_err-marks-clause-refusal g c = let p = err_from_is_err_and c.from_residual.result c.from_residual.ensures.1 in rw (p.1, p.2) (c.in_err-marks.ensures c.args.policy)

@@ -4,7 +4,7 @@ use Rattle.dm_scratch.proofs.ReadLemmas.{no_err, reads, unread_takes}
 use Rattle.dm_scratch.proofs.trial.take.Goals as goal
 
 pub returns-in-Err-read_bundle : goal.returns-in-Err-read_bundle
-returns-in-Err-read_bundle g c = unread_takes c.args.repo.now.patches c.args.text.now c.in-Err-read_bundle.fault c.unread.result c.args.repo.now.patches c.in-Err-read_bundle.ensures.err c.unread.ensures refl
+returns-in-Err-read_bundle g c = unread_takes c.args.repo.now.patches c.args.text.now c.in-Err-read_bundle.fault c.args.policy c.unread.result c.args.repo.now.patches c.in-Err-read_bundle.ensures.err c.unread.ensures refl
 
 pub returns-in-Ok-take_bundle : goal.returns-in-Ok-take_bundle
 returns-in-Ok-take_bundle g c =

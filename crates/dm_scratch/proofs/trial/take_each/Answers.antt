@@ -8,7 +8,7 @@ loop-i-init g c = refl
 
 pub loop-i-preserved : goal.loop-i-preserved
 loop-i-preserved g c =
-    each_step (λ text. text.now) c.args.repo.now.patches c.args.texts.now c.loop-i.verdicts c.loop-i.i _ c.loop-i.repo.patches c.take.result c.take.new.repo.patches
+    each_step (λ text. text.now) c.args.repo.now.patches c.args.texts.now c.args.policy c.loop-i.verdicts c.loop-i.i _ c.loop-i.repo.patches c.take.result c.take.new.repo.patches
     c.loop-i-test.true (omega (arith, c.loop-i-test.true, c.loop-i.auto.verdicts, c.requires)) c.loop-i.invariant c.take.ensures
 
 pub returns : goal.returns

@@ -41,7 +41,7 @@ returns-in_err-write_text-clause-prefix g c =
       record {
         verdict = c.take-verdict.result;
         after = c.take-verdict.new.repo.patches;
-        takes = subst (λ (t : List ℕ). Takes c.in_ok-repo.repo.patches t c.take-verdict.result c.take-verdict.new.repo.patches) c.deref.ensures.value c.take-verdict.ensures;
+        takes = subst (λ (t : List ℕ). Takes c.in_ok-repo.repo.patches t c.args.policy c.take-verdict.result c.take-verdict.new.repo.patches) c.deref.ensures.value c.take-verdict.ensures;
         prints = c.in_ok-text.ensures;
         exit = refl;
       },
@@ -58,7 +58,7 @@ returns-clause-ok g c = (
   record {
     verdict = c.take-verdict.result;
     after = c.take-verdict.new.repo.patches;
-    takes = subst (λ (t : List ℕ). Takes c.in_ok-repo.repo.patches t c.take-verdict.result c.take-verdict.new.repo.patches) c.deref.ensures.value c.take-verdict.ensures;
+    takes = subst (λ (t : List ℕ). Takes c.in_ok-repo.repo.patches t c.args.policy c.take-verdict.result c.take-verdict.new.repo.patches) c.deref.ensures.value c.take-verdict.ensures;
     prints = c.in_ok-text.ensures;
     exit = c.status_of.ensures;
   },

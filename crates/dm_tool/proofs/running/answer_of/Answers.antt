@@ -1,6 +1,6 @@
 use Rattle.std.proofs.Common.{map, subst, ◌∙◌}
 use Rattle.std.proofs.lemmas.Result.{err_from_is_err_and}
-use Rattle.dm_mirror.specs.Plans.{plan_starts}
+use Rattle.dm_mirror.specs.Plans.{plan_starts, plan_policies, IsPlannable}
 use Rattle.dm_mirror.specs.Runs.{IsRunOf}
 use Rattle.dm_tool.proofs.RunLemmas.{bad_plan, same_lists}
 use Rattle.dm_tool.proofs.running.answer_of.Goals as goal
@@ -9,17 +9,19 @@ pub returns-in_err-plan-clause-bad_plan : goal.returns-in_err-plan-clause-bad_pl
 returns-in_err-plan-clause-bad_plan g c =
     let q = err_from_is_err_and c.from_residual-in_err-plan.result c.from_residual-in_err-plan.ensures.1 in
     let texts = same_lists _ _ _ _ c.deref.ensures.value c.in_ok-texts.ensures in
-    rw q.1 (bad_plan _ _ (map (λ base. base.now) c.args.bases.now) c.args.bound c.in_err-plan.field-0.0 q.0 texts c.in_err-plan.ensures.fault q.2)
+    rw q.1 (bad_plan _ _ (map (λ base. base.now) c.args.bases.now) c.args.policies.now c.args.bound c.in_err-plan.field-0.0 q.0 texts c.in_err-plan.ensures.fault q.2)
 
 pub returns-clause-ok : goal.returns-clause-ok
 returns-clause-ok g c =
     let plan = c.in_ok-plan.plan in
-    let texts = c.in_ok-plan.ensures.texts ∙ same_lists _ _ _ _ c.deref.ensures.value c.in_ok-texts.ensures in
+    let lists = same_lists _ _ _ _ c.deref.ensures.value c.in_ok-texts.ensures in
+    let texts = c.in_ok-plan.ensures.texts ∙ lists in
     record {
+      plannable = subst (λ ts. IsPlannable ts (map (λ base. base.now) c.args.bases.now) c.args.policies.now c.args.bound) lists c.in_ok-plan.ensures.good;
       starts = plan_starts plan;
       are_starts = c.in_ok-plan.ensures.starts;
       outcome = c.in_ok-outcome.outcome;
-      is_run = subst (λ ts. IsRunOf ts (plan_starts plan) c.in_ok-outcome.outcome) texts c.in_ok-outcome.ensures;
+      is_run = rw c.in_ok-plan.ensures.policies at (subst (λ ts. IsRunOf ts (plan_starts plan) (plan_policies plan) c.in_ok-outcome.outcome) texts c.in_ok-outcome.ensures);
       report = c.in_ok-text.ensures.0;
       is_report = c.in_ok-text.ensures.1;
       bytes = c.in_ok-text.ensures.2;

@@ -9,9 +9,9 @@ pub send_as-requires-clause-rule : goal.send_as-requires-clause-rule
 send_as-requires-clause-rule g c =
     let o = c.args.self.now in
     let counted : length (view o.pass).sent ≡ o.count = o.counted in
-    (posts _ _ _ c.new.result _ o.bound o.told o.is_poster o.unclosed (omega arith) (λ i. mail (sym o.named i) (sym o.counted i) (bundle c.new.result)), λ _ _ _ _. tt)
+    (posts _ _ _ c.args.text _ o.bound o.told o.is_poster o.unclosed (omega arith) (λ i. mail (sym o.named i) (sym o.counted i) (bundle c.args.text)), λ _ _ _ _. tt)
 
 pub invariant_of-self-clause-unclosed : goal.invariant_of-self-clause-unclosed
 invariant_of-self-clause-unclosed g c =
     let o = c.args.self.now in
-    accepted_closed (view o.pass) _ (mail o.poster o.count (bundle c.new.result)) _ _ c.in-Ok.ensures.rule o.unclosed refl
+    accepted_closed (view o.pass) _ (mail o.poster o.count (bundle c.args.text)) _ _ c.in-Ok.ensures.rule o.unclosed refl
