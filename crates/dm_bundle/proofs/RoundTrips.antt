@@ -4,14 +4,14 @@ use Rattle.std.proofs.lemmas.List.{append-nil}
 use Rattle.std.specs.List.{AllByRecursion, flat_map}
 use Rattle.dm_named.specs.Many.{Many}
 use Rattle.dm_named.specs.Words.{skipped, Word}
-use Rattle.dm_named.specs.Patches.{Patch, PatchText, IsGoodPatch, RunEnds, prim_words, unsupported_words}
+use Rattle.dm_named.specs.Patches.{Patch, PatchText, IsValidPatch, RunEnds, prim_words, unsupported_words}
 use Rattle.dm_named.specs.Canonical.{info_line, patch_text}
 use Rattle.dm_named.specs.Laws.{NoLine}
 use Rattle.dm_named.proofs.NoPatch.{no_lead}
 use Rattle.dm_named.proofs.PatchRoundTrip.{front_same, patch_back, infos_back, infos_skip}
 use Rattle.dm_bundle.specs.Patches.{NextPatch}
 use Rattle.dm_bundle.specs.Context.{context_word}
-use Rattle.dm_bundle.specs.Bundles.{Contents, IsGoodBundle, BundleText}
+use Rattle.dm_bundle.specs.Bundles.{Contents, IsValidBundle, BundleText}
 use Rattle.dm_bundle.specs.Canonical.{bundle_text}
 
 -- new patches stand in a text; a newline may be left after them
@@ -43,34 +43,34 @@ run_ends_patches : (ps : List Patch) (rest : List ℕ) → RunEnds (skipped rest
 run_ends_patches [] rest ends = ends
 run_ends_patches (p ∷ ps) rest ends = run_ends_info _
 
-patches_back : (ps : List Patch) (rest : List ℕ) → AllByRecursion IsGoodPatch ps → NoLine rest → RunEnds (skipped rest) → ReadsPatches (flat_map patch_text ps ++ rest) ps rest
-patches_back [] rest good none ends = record { mid = rest; read = refl; left = refl }
-patches_back (p ∷ ps) rest good none ends =
+patches_back : (ps : List Patch) (rest : List ℕ) → AllByRecursion IsValidPatch ps → NoLine rest → RunEnds (skipped rest) → ReadsPatches (flat_map patch_text ps ++ rest) ps rest
+patches_back [] rest valid none ends = record { mid = rest; read = refl; left = refl }
+patches_back (p ∷ ps) rest valid none ends =
     let tail = flat_map patch_text ps ++ rest in
-    let one = patch_back p tail good.0 (no_line_patches ps rest none) (run_ends_patches ps rest ends) in
-    let more = patches_skip tail one.after ps rest (sym one.left) (patches_back ps rest good.1 none ends) in
+    let one = patch_back p tail valid.0 (no_line_patches ps rest none) (run_ends_patches ps rest ends) in
+    let more = patches_skip tail one.after ps rest (sym one.left) (patches_back ps rest valid.1 none ends) in
     let whole : patch_text p ++ tail ≡ (patch_text p ++ flat_map patch_text ps) ++ rest = sym (append_assoc (patch_text p) (flat_map patch_text ps) rest) in
     record { mid = more.mid; read = (one.after, subst (λ (t : List ℕ). PatchText (skipped t) p one.after) whole one.read, more.read); left = more.left }
 
 nothing : (rest : List ℕ) → [] ≡ 91 ∷ rest → ⊥
 nothing rest e = cc
 
-pub round_trip : (b : Contents) → IsGoodBundle b → BundleText (bundle_text b) b
-round_trip b good =
+pub round_trip : (b : Contents) → IsValidBundle b → BundleText (bundle_text b) b
+round_trip b valid =
     let infos = flat_map info_line b.context in
     let context = 10 ∷ (context_word ++ 10 ∷ 10 ∷ infos) in
     let patches = flat_map patch_text b.patches ++ context in
-    let ps = patches_back b.patches context good.patches (no_line_at 10 _ (λ e. omega (arith, e)) (λ e. omega (arith, e)) (λ e. omega (arith, e))) (run_ends_context _) in
+    let ps = patches_back b.patches context valid.patches (no_line_at 10 _ (λ e. omega (arith, e)) (λ e. omega (arith, e)) (λ e. omega (arith, e))) (run_ends_context _) in
     let new = patches_skip patches (10 ∷ patches) b.patches context refl ps in
-    let is = infos_skip (infos ++ []) (10 ∷ 10 ∷ infos) b.context [] (ap skipped (append-nil infos)) (infos_back b.context [] good.context) in
+    let is = infos_skip (infos ++ []) (10 ∷ 10 ∷ infos) b.context [] (ap skipped (append-nil infos)) (infos_back b.context [] valid.context) in
     record {
       new = 10 ∷ patches;
       heading = record { summary = []; here = bundle_text b; before = refl; line = record { free = (refl, (refl, (refl, (refl, (refl, (refl, (refl, (refl, (refl, (refl, (refl, (refl, tt)))))))))))); parts = inl refl } };
       sections = record {
         between = new.mid;
         after_word = 10 ∷ 10 ∷ infos;
-        patches = record { read = new.read; distinct = good.no_doubles.distinct };
+        patches = record { read = new.read; distinct = valid.no_doubles.distinct };
         word = subst (λ (t : List ℕ). Word t context_word (10 ∷ 10 ∷ infos)) (sym new.left) (record { parts = refl; solid = (refl, (refl, (refl, (refl, (refl, (refl, (refl, (refl, tt)))))))); ends = refl });
-        context = record { rest = is.mid; read = is.read; ends = λ o. nothing o.0 (sym is.left ∙ o.1); apart = good.no_doubles.apart };
+        context = record { rest = is.mid; read = is.read; ends = λ o. nothing o.0 (sym is.left ∙ o.1); apart = valid.no_doubles.apart };
       };
     }

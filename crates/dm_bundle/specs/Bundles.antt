@@ -2,7 +2,7 @@
 use Rattle.std.specs.Prelude.{ℕ, List}
 use Rattle.std.specs.List.{AllByRecursion}
 use Rattle.dm_info.specs.PatchInfo.{PatchInfo, IsInfo}
-use Rattle.dm_named.specs.Patches.{Patch, IsGoodPatch}
+use Rattle.dm_named.specs.Patches.{Patch, IsValidPatch}
 use Rattle.dm_bundle.specs.Heading.{Heading}
 use Rattle.dm_bundle.specs.Patches.{infos_of, Distinct, NewPatches}
 use Rattle.dm_bundle.specs.Context.{ContextWord, AreDisjoint, Context}
@@ -12,14 +12,14 @@ pub record Contents : Type 0 where
   pub patches : List Patch
   pub context : List PatchInfo
 
--- no patch info is twice among the new patches, nor both there and in the context
+-- no patch info occurs twice among the new patches, nor both there and in the context
 pub record HasNoDoubles (patches : List Patch) (context : List PatchInfo) : Type 0 where
   pub distinct : Distinct (infos_of patches)
   pub apart : AreDisjoint (infos_of patches) context
 
--- what a bundle may hold
-pub record IsGoodBundle (b : Contents) : Type 0 where
-  pub patches : AllByRecursion IsGoodPatch b.patches
+-- its parts are valid, and none is doubled
+pub record IsValidBundle (b : Contents) : Type 0 where
+  pub patches : AllByRecursion IsValidPatch b.patches
   pub context : AllByRecursion IsInfo b.context
   pub no_doubles : HasNoDoubles b.patches b.context
 

@@ -18,7 +18,7 @@ ContextWord text rest = Word (skipped text) context_word rest
 abbrev pub AreDisjoint : List PatchInfo → List PatchInfo → Type 0
 AreDisjoint new context = (i : PatchInfo) → Contains new i → Contains context i → ⊥
 
--- as many patch infos as stand there, each after white space, and none of a new patch; what follows them is left unread
+-- all patch infos that follow one another, each after white space, and none of a new patch; what follows them is left unread
 pub record Context (new : List PatchInfo) (text : List ℕ) (context : List PatchInfo) : Type 0 where
   pub rest : List ℕ
   pub read : Many NextInfo text context rest

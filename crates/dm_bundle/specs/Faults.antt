@@ -1,4 +1,5 @@
--- What can be wrong with a bundle's text, and where: the text before the place is accounted for, and the part due there is missing.
+-- What can be wrong with a bundle's text, and where. The text before the place is as it must be, and the part that is due there is
+-- missing.
 use Rattle.std.specs.Prelude.{◌≡◌, ◌≢◌, ◌≤◌, ◌<◌, ℕ, List, length, drop, Contains}
 use Rattle.dm_info.specs.PatchInfo.{PatchInfo}
 use Rattle.dm_info.specs.Spelling.{Stands, open_bracket}
@@ -24,22 +25,25 @@ IsWithinSize text = length text ≤ most_bytes
 abbrev pub HasNoHeading : List ℕ → Type 0
 HasNoHeading text = (rest : List ℕ) → Heading text rest → ⊥
 
--- the patch info here is one of those known
+-- the patch info that stands here is one of those known
 pub record IsDoubled (known : List PatchInfo) (here : List ℕ) : Type 0 where
   pub info : PatchInfo
   pub rest : List ℕ
   pub stands : Stands here info rest
   pub is_known : Contains known info
 
--- where a named patch or the word `Context:` is due, after patches of these patch infos: something else; one patch too many; a doubled patch; or a fault of the patch's own
+-- where a named patch or the word `Context:` is due, after patches of these patch infos: something else; one patch too many; a
+-- doubled patch; or a fault in the patch itself
 pub data DueFaultAt (kind : FaultKind) (known : List PatchInfo) (text here : List ℕ) : Type 0 where
-  no_context : kind ≡ NoContext → here ≡ text → (Begins open_bracket text → ⊥) → ((rest : List ℕ) → Word text context_word rest → ⊥) → DueFaultAt kind known text here
+  no_context : kind ≡ NoContext → here ≡ text → (Begins open_bracket text → ⊥) → ((rest : List ℕ) → Word text context_word rest → ⊥)
+      → DueFaultAt kind known text here
   too_many : kind ≡ TooMany → here ≡ text → Begins open_bracket text → length known ≡ 1000 → DueFaultAt kind known text here
   doubled : kind ≡ Doubled → here ≡ text → length known < 1000 → IsDoubled known text → DueFaultAt kind known text here
-  in_patch : Begins open_bracket text → length known < 1000 → (IsDoubled known text → ⊥) → PatchFaultAt kind text here → DueFaultAt kind known text here
+  in_patch : Begins open_bracket text → length known < 1000 → (IsDoubled known text → ⊥) → PatchFaultAt kind text here
+      → DueFaultAt kind known text here
   no_memory : kind ≡ NoMemory → DueFaultAt kind known text here
 
--- after new patches, not too many, the next one is at fault, or what stands in its place
+-- after new patches, not too many, there is a fault in the next one, or in what is there instead
 pub record NewPatchesFaultAt (kind : FaultKind) (text here : List ℕ) : Type 0 where
   pub patches : List Patch
   pub mid : List ℕ
@@ -47,12 +51,12 @@ pub record NewPatchesFaultAt (kind : FaultKind) (text here : List ℕ) : Type 0 
   pub few : AreFew patches
   pub wrong : DueFaultAt kind (infos_of patches) (skipped mid) here
 
--- where a patch info of the context stands: it is that of a new patch, or no patch info
+-- where a patch info of the context begins: it is that of a new patch, or no patch info
 pub data ContextInfoFaultAt (kind : FaultKind) (known : List PatchInfo) (text here : List ℕ) : Type 0 where
   doubled : kind ≡ Doubled → here ≡ text → IsDoubled known text → ContextInfoFaultAt kind known text here
   in_info : Begins open_bracket text → InfoFaultAt kind text here → ContextInfoFaultAt kind known text here
 
--- after patch infos of the context, none of a new patch, the next one is at fault
+-- after patch infos of the context, none of a new patch, there is a fault in the next one
 pub record ContextFaultAt (kind : FaultKind) (new : List PatchInfo) (text here : List ℕ) : Type 0 where
   pub infos : List PatchInfo
   pub mid : List ℕ
@@ -63,15 +67,17 @@ pub record ContextFaultAt (kind : FaultKind) (new : List PatchInfo) (text here :
 -- a fault after the heading: among the new patches, or after them and the word `Context:`
 pub data AfterHeadingFaultAt (kind : FaultKind) (text here : List ℕ) : Type 0 where
   in_new : NewPatchesFaultAt kind text here → AfterHeadingFaultAt kind text here
-  in_context : (patches : List Patch) (between after_word : List ℕ) → NewPatches text patches between → AreFew patches → ContextWord between after_word → ContextFaultAt kind (infos_of patches) after_word here → AfterHeadingFaultAt kind text here
+  in_context : (patches : List Patch) (between after_word : List ℕ) → NewPatches text patches between → AreFew patches
+      → ContextWord between after_word → ContextFaultAt kind (infos_of patches) after_word here → AfterHeadingFaultAt kind text here
 
--- The fault of a text and its place: too many bytes, else no heading, else a fault after the heading. Running out of memory is none.
+-- the fault of a text and its place: too many bytes, else no heading, else a fault after the heading; that memory runs out is none
 pub data FaultAt (text : List ℕ) (kind : FaultKind) (at : ℕ) : Type 0 where
   too_large : kind ≡ TooLarge → at ≡ most_bytes → most_bytes < length text → FaultAt text kind at
   no_new_patches : kind ≡ NoNewPatches → at ≡ length text → IsWithinSize text → HasNoHeading text → FaultAt text kind at
-  after_heading : kind ≢ NoMemory → at ≤ length text → IsWithinSize text → (new : List ℕ) → Heading text new → AfterHeadingFaultAt kind new (drop at text) → FaultAt text kind at
+  after_heading : kind ≢ NoMemory → at ≤ length text → IsWithinSize text → (new : List ℕ) → Heading text new
+      → AfterHeadingFaultAt kind new (drop at text) → FaultAt text kind at
 
--- a kind that says that the text is no bundle's: the limits and memory don't
+-- a fault of this kind says that the text stands for no bundle: faults of the limits and of memory don't
 pub record ExcludesBundle (kind : FaultKind) : Type 0 where
   pub size : kind ≢ TooLarge
   pub count : kind ≢ TooMany

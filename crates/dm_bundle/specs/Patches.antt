@@ -10,12 +10,12 @@ use Rattle.dm_named.specs.Patches.{Patch, PatchText}
 abbrev pub infos_of : List Patch → List PatchInfo
 infos_of patches = map (λ p. p.info) patches
 
--- no patch info is twice among these
+-- no patch info occurs twice among these
 abbrev pub Distinct : List PatchInfo → Type 0
 Distinct [] = Unit {0}
 Distinct (i ∷ is) = (Contains is i → ⊥) × Distinct is
 
--- what is in one of these is in the other
+-- the same patch infos are in both
 abbrev pub SameMembers : List PatchInfo → List PatchInfo → Type 0
 SameMembers xs ys = (i : PatchInfo) → Contains xs i ↔ Contains ys i
 
@@ -23,7 +23,7 @@ SameMembers xs ys = (i : PatchInfo) → Contains xs i ↔ Contains ys i
 abbrev pub NextPatch : List ℕ → Patch → List ℕ → Type 0
 NextPatch text p rest = PatchText (skipped text) p rest
 
--- named patches one after the other, and no patch info twice among them
+-- named patches one after the other, none with the patch info of another
 pub record NewPatches (text : List ℕ) (patches : List Patch) (rest : List ℕ) : Type 0 where
   pub read : Many NextPatch text patches rest
   pub distinct : Distinct (infos_of patches)

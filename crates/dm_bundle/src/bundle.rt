@@ -11,13 +11,13 @@ use std::alloc::Allocator;
 use std::marker::Model;
 use thiserror::Error;
 
-/// A patch info is twice among the new patches, or both there and in the context.
+/// A patch info occurs twice among the new patches, or both there and in the context.
 #[derive(Clone, Copy, Debug, PartialEq, Eq, Error)]
 #[error("a patch info stands twice among the new patches, or both there and in the context")]
 pub struct Doubled;
 
-/// New patches, oldest first, and the patch infos of the patches that they rest on, in any order.
-/// No patch info is twice among the new patches, nor both there and in the context.
+/// New patches, oldest first, and their context: the patch infos of the patches that they rest on, in any order.
+/// No patch info occurs twice among the new patches, nor both there and in the context.
 #[derive(Drop)]
 pub struct Bundle<A: Allocator> {
     patches: Vec<Named<A>, A>,
@@ -35,8 +35,8 @@ impl<A: Allocator> Model for Bundle<A> {
 }
 
 impl<A: Allocator> Bundle<A> {
-    /// The bundle of these new patches and this context. It takes no memory, so it compares each
-    /// patch info with those before it; `without_doubles` takes parts that are known to have no doubles.
+    /// The bundle of these new patches and this context. To take no memory, it compares each patch info
+    /// with all before it. `without_doubles` is for parts that are known to have no doubles.
     pub fn new(patches: Vec<Named<A>, A>, context: Vec<Info<A>, A>) -> Result<Bundle<A>, Doubled>
         ensures parts { IfOk result (λ b. b ≡ record { patches = patches.items; context = context.items }) }
         ensures no_doubles { IfOk result (λ _. HasNoDoubles patches.items context.items) }
@@ -67,7 +67,7 @@ impl<A: Allocator> Bundle<A> {
         self.patches.as_slice()
     }
 
-    /// The new patches themselves, oldest first; the context is given up.
+    /// Takes the new patches out, oldest first. The context is dropped.
     pub fn into_new_patches(self) -> Vec<Named<A>, A>
         ensures { result.items ≡ self.patches }
     {
@@ -95,7 +95,7 @@ fn is_among<A: Allocator>(patches: &[Named<A>], info: &Info<A>) -> bool
     false
 }
 
-/// Whether a patch info is twice among the new patches.
+/// Whether a patch info occurs twice among the new patches.
 fn are_doubled<A: Allocator>(patches: &[Named<A>]) -> bool
     ensures { MatchBool result (Distinct (infos_of patches.now) → ⊥) (Distinct (infos_of patches.now)) }
 {

@@ -17,7 +17,7 @@ pub(crate) fn is_context_word(word: &[u8]) -> bool
     word == b"Context:".as_slice()
 }
 
-/// As many patch infos as stand there, each after white space, and none of a known patch.
+/// All patch infos that follow one another from a place on, each after white space. One of a known patch is a fault.
 pub(crate) fn context_at<A: Allocator + Copy>(
     alloc: A,
     known: &Known<A>,

@@ -1,4 +1,4 @@
-//! The patch infos of new patches, in the order of their comparison.
+//! The patch infos of the new patches, in an ordered set.
 
 ghost use Rattle.std.specs.Prelude.{◌≡◌, ◌⊎◌, ◌↔◌, [], Contains, MatchBool, IfOk, OnOk};
 ghost use Rattle.dm_info.specs.PatchInfo.{PatchInfo};
@@ -8,7 +8,7 @@ use std::alloc::{AllocError, Allocator};
 use std::collections::BTreeSet;
 use std::marker::Model;
 
-/// A set of patch infos: to look one up costs some ten comparisons at 1,000 new patches.
+/// A set of patch infos. Among 1,000 new patches, a look-up costs some ten comparisons.
 #[derive(Drop)]
 pub(crate) struct Known<A: Allocator> {
     infos: BTreeSet<Info<A>, A>,
@@ -24,6 +24,7 @@ impl<A: Allocator> Model for Known<A> {
 }
 
 impl<A: Allocator + Copy> Known<A> {
+    /// The empty set.
     pub(crate) fn new(alloc: A) -> Known<A>
         ensures { result ≡ [] }
     {
@@ -39,7 +40,7 @@ impl<A: Allocator + Copy> Known<A> {
         self.infos.contains(info)
     }
 
-    /// Notes a patch info, and answers whether it was new.
+    /// Adds a patch info, and returns whether it was new.
     pub(crate) fn insert(&mut self, info: Info<A>) -> Result<bool, AllocError>
         ensures is_new { IfOk result (λ is_new. MatchBool is_new (Contains self.old info → ⊥) (Contains self.old info)) }
         ensures noted { OnOk result ((i : PatchInfo) → Contains self.new i ↔ (Contains self.old i ⊎ (i ≡ info))) }

@@ -2,12 +2,12 @@
 
 ghost use Rattle.dm_bundle.specs.Laws.{OneBundle, FaultExcludesBundle, OneFault, NoFaultWithinLimits, BundleRoundTrip};
 
-/// A text has at most one bundle.
+/// A text stands for at most one bundle.
 pub fn one_bundle()
     ensures { OneBundle }
 {}
 
-/// A text with a fault has no bundle, unless the fault is one of the limits.
+/// A text with a fault stands for no bundle, unless the fault is one of the limits.
 pub fn fault_excludes_bundle()
     ensures { FaultExcludesBundle }
 {}
@@ -17,7 +17,7 @@ pub fn one_fault()
     ensures { OneFault }
 {}
 
-/// The text of a bundle has no fault, where both are within the limits.
+/// The text of a bundle has no fault, if both are within the limits.
 pub fn no_fault_within_limits()
     ensures { NoFaultWithinLimits }
 {}

@@ -1,15 +1,15 @@
 //! Patch bundles: named patches, oldest first, and a context, the patch infos of the patches that they rest on
 //! (Darcs.Patch.Bundle).
 //!
-//! This crate stands on `dm_info` for patch infos and on `dm_named` for named patches. Its theorem is that
-//! [`read_bundle`] answers a bundle only where the text stands for it, and then for no other, and a fault only where
-//! the text has that fault at that place; and that [`write_bundle`] gives the canonical text, which stands for the
-//! bundle that was written.
+//! This crate uses `dm_info` for patch infos and `dm_named` for named patches.
+//!
+//! What is proved: [`read_bundle`] returns a bundle only if the text stands for it, and then the text stands for no other.
+//! It returns a fault only if the text has that fault at that place. [`write_bundle`] returns the canonical text, which
+//! stands for the bundle that was written.
 #![tactic(auto)]
 
 mod bundle;
 mod context;
-pub mod goodness;
 mod heading;
 mod known;
 pub mod laws;

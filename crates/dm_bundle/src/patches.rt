@@ -15,7 +15,7 @@ use std::alloc::Allocator;
 /// The most new patches that a bundle may have.
 const MOST_PATCHES: usize = 1000;
 
-/// The new patches of a text, the patch infos of these, and the place after the last of them.
+/// The new patches of a text, the set of their patch infos, and the place after the last patch.
 #[derive(Drop)]
 pub(crate) struct Start<A: Allocator> {
     pub(crate) patches: Vec<Named<A>, A>,
@@ -23,8 +23,8 @@ pub(crate) struct Start<A: Allocator> {
     pub(crate) end: usize,
 }
 
-/// The named patch at a place where one begins, after these patches. Its patch info is known from
-/// then on.
+/// The named patch at a place where one begins, after these patches. Its patch info is added to those
+/// that are known.
 fn patch_at<A: Allocator + Copy>(
     alloc: A,
     text: &[u8],
@@ -50,7 +50,7 @@ fn patch_at<A: Allocator + Copy>(
             at: here,
         });
     }
-    // The patch info is read by itself first: a double is reported before a fault in the rest of the patch.
+    // The patch info is read first on its own, so that a double is reported before a fault in the rest of the patch.
     let (info, _) = info_at(alloc, text, here)?;
     let is_new = match known.insert(info) {
         Ok(is_new) => is_new,
@@ -66,7 +66,7 @@ fn patch_at<A: Allocator + Copy>(
     Ok((patch, next))
 }
 
-/// As many named patches as stand there, each after white space.
+/// All named patches that follow one another from a place on, each after white space.
 pub(crate) fn patches_at<A: Allocator + Copy>(
     alloc: A,
     text: &[u8],

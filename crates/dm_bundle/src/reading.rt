@@ -16,7 +16,7 @@ use std::alloc::Allocator;
 /// The most bytes that a text may have.
 pub const MOST_BYTES: usize = 4_194_304;
 
-/// The bundle of what stands after the heading.
+/// The bundle of the text after the heading.
 fn sections_at<A: Allocator + Copy>(
     alloc: A,
     text: &[u8],
@@ -51,7 +51,8 @@ fn bundle_of<A: Allocator + Copy>(alloc: A, text: &[u8]) -> Result<Bundle<A>, Re
     ensures few { IfOk result (λ b. AreFew b.patches) }
     ensures err { IfErr result (λ e. e.kind ≢ FaultKind.NoMemory → FaultAt text.now e.kind e.at) }
     ensures too_large { most_bytes < length text.now → IsErrOf result (record { kind = FaultKind.TooLarge; at = most_bytes }) }
-    ensures no_heading { length text.now ≤ most_bytes → HasNoHeading text.now → IsErrOf result (record { kind = FaultKind.NoNewPatches; at = length text.now }) }
+    ensures no_heading { length text.now ≤ most_bytes → HasNoHeading text.now
+        → IsErrOf result (record { kind = FaultKind.NoNewPatches; at = length text.now }) }
 {
     if text.len() > MOST_BYTES {
         return Err(ReadFault {
@@ -69,26 +70,27 @@ fn bundle_of<A: Allocator + Copy>(alloc: A, text: &[u8]) -> Result<Bundle<A>, Re
     Ok(bundle)
 }
 
-/// The bundle that a text stands for. What follows the context is left unread.
+/// The bundle that a text stands for. What follows the context is not read.
 ///
-/// The fault tells what is missing where, from left to right. `NoMemory` is answered where a growth
-/// was refused, and never for a text that is too large or has no heading.
+/// The fault is the first from left to right, with its place. `NoMemory` is returned if an allocation
+/// failed, and never for a text that is too large or has no heading.
 pub fn read_bundle<A: Allocator + Copy>(alloc: A, text: &[u8]) -> Result<Bundle<A>, ReadFault>
-    // What is read stands there, and nothing else does.
+    // The text stands for the bundle that is returned, and for no other.
     ensures ok { IfOk result (λ b. BundleText text.now b) }
     ensures only { IfOk result (λ b. (c : Contents) → BundleText text.now c → b ≡ c) }
-    // At most 1,000 new patches of at most 10,000 primitives.
+    // It has at most 1,000 new patches, each of at most 10,000 primitives.
     ensures few { IfOk result (λ b. AreFew b.patches) }
-    // The bundle of a text within the limits is read, unless memory runs out.
+    // A bundle is read if it and its text are within the limits, unless memory runs out.
     ensures within_limits { (b : Contents) → BundleText text.now b → IsWithinSize text.now → AreFew b.patches
         → MatchResult result (λ found. found ≡ b) (λ e. e.kind ≡ FaultKind.NoMemory) }
     // What is wrong, and where.
     ensures err { IfErr result (λ e. e.kind ≢ FaultKind.NoMemory → FaultAt text.now e.kind e.at) }
-    // A text with a fault is no bundle's, unless it is too large or has too many parts.
+    // A text with a fault stands for no bundle, unless it is too large, has too many parts, or memory ran out.
     ensures none { IfErr result (λ e. ExcludesBundle e.kind → (b : Contents) → BundleText text.now b → ⊥) }
-    // These two answers take no memory.
+    // To find these two faults takes no memory.
     ensures too_large { most_bytes < length text.now → IsErrOf result (record { kind = FaultKind.TooLarge; at = most_bytes }) }
-    ensures no_heading { length text.now ≤ most_bytes → HasNoHeading text.now → IsErrOf result (record { kind = FaultKind.NoNewPatches; at = length text.now }) }
+    ensures no_heading { length text.now ≤ most_bytes → HasNoHeading text.now
+        → IsErrOf result (record { kind = FaultKind.NoNewPatches; at = length text.now }) }
 {
     match bundle_of(alloc, text) {
         Ok(bundle) => Ok(bundle),

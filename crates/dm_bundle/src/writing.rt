@@ -3,9 +3,9 @@
 ghost use Rattle.std.specs.Prelude.{◌≡◌, ◌++◌, IfOk, OnOk};
 ghost use Rattle.std.specs.List.{AllByRecursion, flat_map};
 ghost use Rattle.dm_info.specs.PatchInfo.{IsInfo};
-ghost use Rattle.dm_named.specs.Patches.{IsGoodPatch};
+ghost use Rattle.dm_named.specs.Patches.{IsValidPatch};
 ghost use Rattle.dm_named.specs.Canonical.{info_line, patch_text};
-ghost use Rattle.dm_bundle.specs.Bundles.{IsGoodBundle, BundleText};
+ghost use Rattle.dm_bundle.specs.Bundles.{IsValidBundle, BundleText};
 ghost use Rattle.dm_bundle.specs.Canonical.{bundle_text};
 
 use crate::bundle::Bundle;
@@ -18,7 +18,7 @@ fn push_patches<A: Allocator, B: Allocator + Copy>(
     out: &mut Vec<u8, B>,
 ) -> Result<(), AllocError>
     ensures text { OnOk result (out.new.items ≡ out.old.items ++ flat_map patch_text patches.now) }
-    ensures good { OnOk result (AllByRecursion IsGoodPatch patches.now) }
+    ensures valid { OnOk result (AllByRecursion IsValidPatch patches.now) }
 {
     for patch in patches {
         push_named(patch, out)?;
@@ -31,7 +31,7 @@ fn push_context<A: Allocator, B: Allocator + Copy>(
     out: &mut Vec<u8, B>,
 ) -> Result<(), AllocError>
     ensures text { OnOk result (out.new.items ≡ out.old.items ++ flat_map info_line context.now) }
-    ensures good { OnOk result (AllByRecursion IsInfo context.now) }
+    ensures valid { OnOk result (AllByRecursion IsInfo context.now) }
 {
     for info in context {
         push_info(info, out)?;
@@ -40,15 +40,15 @@ fn push_context<A: Allocator, B: Allocator + Copy>(
     Ok(())
 }
 
-/// The canonical text of a bundle, the context in its order (`darcs send` lists the newest first). A
+/// The canonical text of a bundle. The context keeps its order (`darcs send` lists the newest first). A
 /// bundle past the limits of `read_bundle` is written too.
 pub fn write_bundle<A: Allocator, B: Allocator + Copy>(
     alloc: B,
     bundle: &Bundle<A>,
 ) -> Result<Vec<u8, B>, AllocError>
     ensures text { IfOk result (λ text. text.items ≡ bundle_text bundle.now) }
-    ensures good { OnOk result (IsGoodBundle bundle.now) }
-    // So the text stands for the bundle.
+    ensures valid { OnOk result (IsValidBundle bundle.now) }
+    // The text stands for the bundle, so it is read back as the same if it is within the limits.
     ensures stands { IfOk result (λ text. BundleText text.items bundle.now) }
 {
     let mut text = Vec::new(alloc);

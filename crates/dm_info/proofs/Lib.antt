@@ -5,5 +5,6 @@ pub mod OneFault
 pub mod Places
 pub mod ReadingLemmas
 pub mod Same
+pub mod SameLines
 pub mod SpellingLemmas
 pub mod Written

@@ -192,7 +192,7 @@ stands_by text inside name author after_author date log rest e₀ e₁ e₂ e₃
     let tail : after_author ≡ date.front ++ (end.own ++ rest) = d.parts ∙ ap (λ (l : List ℕ). date.front ++ l) end.parts in
     record {
       own = opening found ++ end.own;
-      good = record { name = n.free; author = a.1; date = d.free; log = end.free };
+      valid = record { name = n.free; author = a.1; date = d.free; log = end.free };
       spelled = spelled_by found end.own end.spelled;
       parts = whole_is found rest end.own text (start ∙ ap (λ (l : List ℕ). 91 ∷ (name.front ++ 10 ∷ (author ++ 42 ∷ 42 ∷ l))) tail);
     }
@@ -228,27 +228,27 @@ of_steps text inside name after_name author after_author date mark after_date lo
 -- the first steps, which only the opening fixes
 opened : (i : PatchInfo) (tail : List ℕ) → IsInfo i → info_at (opening i ++ tail) ≡ (cut ends_date (i.date ++ tail) >>= k₃ (record { front = i.name; byte = 10; rest = i.author ++ 42 ∷ 42 ∷ (i.date ++ tail) }) (i.author, i.date ++ tail))
 unfolding info_at k₀ k₁ k₂ k₃ k₄
-opened i tail good =
+opened i tail valid =
     let regrouped : opening i ++ tail ≡ 91 ∷ (i.name ++ 10 ∷ (i.author ++ 42 ∷ 42 ∷ (i.date ++ tail))) = simp append_assoc in
-    rw (regrouped, after_again 91 (i.name ++ 10 ∷ (i.author ++ 42 ∷ 42 ∷ (i.date ++ tail))), cut_again is_newline i.name 10 (i.author ++ 42 ∷ 42 ∷ (i.date ++ tail)) good.name refl, author_again i.author (i.date ++ tail) good.author) refl
+    rw (regrouped, after_again 91 (i.name ++ 10 ∷ (i.author ++ 42 ∷ 42 ∷ (i.date ++ tail))), cut_again is_newline i.name 10 (i.author ++ 42 ∷ 42 ∷ (i.date ++ tail)) valid.name refl, author_again i.author (i.date ++ tail) valid.author) refl
 
 long_again : (i : PatchInfo) (rest : List ℕ) → IsInfo i → info_at (opening i ++ (10 ∷ (log_text i.log ++ rest))) ≡ Ok (i, rest)
 unfolding info_at k₃ k₄ end_at
-long_again i rest good = rw (opened i (10 ∷ (log_text i.log ++ rest)) good, cut_again ends_date i.date 10 (log_text i.log ++ rest) good.date refl, log_again i.log rest good.log) refl
+long_again i rest valid = rw (opened i (10 ∷ (log_text i.log ++ rest)) valid, cut_again ends_date i.date 10 (log_text i.log ++ rest) valid.date refl, log_again i.log rest valid.log) refl
 
 short_again : (i : PatchInfo) (rest : List ℕ) → IsInfo i → i.log ≡ [] → info_at (opening i ++ (93 ∷ rest)) ≡ Ok (i, rest)
 unfolding info_at k₃ k₄ end_at
-short_again i rest good none = rw (opened i (93 ∷ rest) good, cut_again ends_date i.date 93 rest good.date refl, ← none) refl
+short_again i rest valid none = rw (opened i (93 ∷ rest) valid, cut_again ends_date i.date 93 rest valid.date refl, ← none) refl
 
 pub info_again : (text : List ℕ) (i : PatchInfo) (rest : List ℕ) → Stands text i rest → info_at text ≡ Ok (i, rest)
 info_again text i rest s =
     elim s.spelled [
       | inl e ↦
           let regrouped : text ≡ opening i ++ (10 ∷ (log_text i.log ++ rest)) = s.parts ∙ ap (λ (o : List ℕ). o ++ rest) e ∙ append_assoc (opening i) (10 ∷ log_text i.log) rest in
-          rw regrouped (long_again i rest s.good)
+          rw regrouped (long_again i rest s.valid)
       | inr e ↦
           let regrouped : text ≡ opening i ++ (93 ∷ rest) = s.parts ∙ ap (λ (o : List ℕ). o ++ rest) e.1 ∙ append_assoc (opening i) (93 ∷ []) rest in
-          rw regrouped (short_again i rest s.good e.0)
+          rw regrouped (short_again i rest s.valid e.0)
     ]
 
 pub bind_err : {A B : Type 0} (r : Result A InfoReadFault) (f : A → Result B InfoReadFault) (d : InfoReadFault) → (r >>= f) ≡ Err d → (r ≡ Err d) ⊎ ((x : A) × (r ≡ Ok x) × (f x ≡ Err d))

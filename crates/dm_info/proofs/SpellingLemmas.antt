@@ -33,4 +33,4 @@ canonical_spelled i [] e = inr (e, refl)
 canonical_spelled i (line ∷ lines) e = inl (ap (λ (l : List (List ℕ)). opening i ++ 10 ∷ log_text l) (sym e))
 
 pub canonical_stands : (i : PatchInfo) (rest : List ℕ) → IsInfo i → Stands (canonical i ++ rest) i (32 ∷ rest)
-canonical_stands i rest good = record { own = opening i ++ canonical_end i.log; good = good; spelled = canonical_spelled i i.log refl; parts = append_assoc (opening i ++ canonical_end i.log) (32 ∷ []) rest }
+canonical_stands i rest valid = record { own = opening i ++ canonical_end i.log; valid = valid; spelled = canonical_spelled i i.log refl; parts = append_assoc (opening i ++ canonical_end i.log) (32 ∷ []) rest }

@@ -11,7 +11,7 @@ use Rattle.dm_info.specs.Compared.{text_cmp, info_eq, info_cmp, info_writes}
 pub info_ties : (x y : PatchInfo) → info_eq x y ≡ eq_by_cmp info_cmp x y
 info_ties x y = both_tied _ _ _ _ (both_tied _ _ _ _ (both_tied _ _ _ _ (texts_ties x.name y.name) (texts_ties x.author y.author)) (texts_ties x.date y.date)) (lists_ties text_cmp texts_ties x.log y.log)
 
--- `==` answers true only at the same parts
+-- `==` returns true only at the same parts
 pub info_same : (x y : PatchInfo) → info_eq x y ≡ true → x ≡ y
 info_same x y h =
     let three = first_so _ _ h in

@@ -7,7 +7,7 @@ use Rattle.dm_info.specs.declared.fault.InfoFault.{InfoFault}
 use Rattle.dm_info.specs.declared.fault.InfoReadFault.{InfoReadFault}
 use Rattle.dm_info.specs.declared.fault.InfoReadFault.TheVariants.{NoMemory}
 
--- parts are refused for at most one fault: for out of memory only where they are good, and then for no other
+-- parts are refused for at most one fault: for out of memory only where they are valid, and then for no other
 abbrev pub PartsHaveOneFault : Type 0
 PartsHaveOneFault = (i : PatchInfo) (e f : InfoFault) → IsRefusedFor i e → IsRefusedFor i f → e ≡ f
 

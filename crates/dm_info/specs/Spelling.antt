@@ -22,7 +22,7 @@ IsInfoText text i = (text ≡ opening i ++ 10 ∷ log_text i.log) ⊎ ((i.log �
 -- The patch info stands at the front of the text, and this is left of the text after it.
 pub record Stands (text : List ℕ) (i : PatchInfo) (rest : List ℕ) : Type 0 where
   pub own : List ℕ
-  pub good : IsInfo i
+  pub valid : IsInfo i
   pub spelled : IsInfoText own i
   pub parts : text ≡ own ++ rest
 

@@ -22,7 +22,7 @@ pub enum InfoFault {
     /// A line of the log holds a newline.
     #[error("a line of the log holds a newline")]
     BadLog,
-    /// A growth was refused.
+    /// An allocation failed.
     #[error("no memory")]
     NoMemory,
 }
@@ -44,7 +44,7 @@ pub enum InfoReadFault {
     /// The patch info of an inverted patch stands there: `*-` in place of `**`.
     #[error("the patch info of an inverted patch stands there")]
     Inverted,
-    /// A growth was refused.
+    /// An allocation failed.
     #[error("no memory")]
     NoMemory,
 }

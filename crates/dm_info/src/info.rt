@@ -50,7 +50,7 @@ impl<A: Allocator + Copy> Info<A> {
     ) -> Result<Info<A>, InfoFault>
         ensures parts { IfOk result (λ info.
             info ≡ info_from name.now author.now date.now (map (λ line. line.now) log.now)) }
-        ensures good { OnOk result (IsInfo (info_from name.now author.now date.now (map (λ line. line.now) log.now))) }
+        ensures valid { OnOk result (IsInfo (info_from name.now author.now date.now (map (λ line. line.now) log.now))) }
         ensures fault { IfErr result (IsRefusedFor (info_from name.now author.now date.now (map (λ line. line.now) log.now))) }
     {
         if let Some(fault) = fault_of(name, author, date, log) {
@@ -95,8 +95,8 @@ impl<A: Allocator> Info<A> {
     /// How many lines the log has.
     pub fn log_len(&self) -> usize
         ensures value { result ≡ length self.now.log }
-        // Every patch info in hand is a good one.
-        ensures good { IsInfo self.now }
+        // Every patch info is valid.
+        ensures valid { IsInfo self.now }
     {
         self.log.len()
     }

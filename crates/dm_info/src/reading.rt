@@ -148,9 +148,9 @@ pub fn read_info<A: Allocator + Copy>(
     // What stands there is what is read, unless memory runs out.
     ensures only { (i : PatchInfo) (next : ℕ) → StandsFrom text.now at i next
         → MatchResult result (λ x. (x.0 ≡ i) × (x.1 ≡ next)) (λ e. e ≡ InfoReadFault.NoMemory) }
-    // A fault is answered only where the text has it: BadInfo where nothing stands, Inverted where an inverted patch does.
+    // A fault is returned only where the text has it: BadInfo where nothing stands, Inverted where an inverted patch does.
     ensures fault { IfErr result (λ e. HasReadFault (drop at text.now) e) }
-    // Where an inverted patch stands no other fault but out of memory is answered.
+    // Where an inverted patch stands no other fault but out of memory is returned.
     ensures turned { StandsInverted (drop at text.now)
         → MatchResult result (λ x. ⊥) (λ e. e ≢ InfoReadFault.BadInfo) }
 {

@@ -27,7 +27,7 @@ fn push_end<A: Allocator, B: Allocator>(
     out: &mut Vec<u8, B>,
 ) -> Result<(), AllocError>
     ensures text { OnOk result (out.new.items ≡ out.old.items ++ canonical_end info.now.log) }
-    ensures good { OnOk result (IsInfo info.now) }
+    ensures valid { OnOk result (IsInfo info.now) }
 {
     let count = info.log_len();
     if count > 0 {
@@ -42,15 +42,15 @@ fn push_end<A: Allocator, B: Allocator>(
     Ok(())
 }
 
-/// Appends the canonical text straight away: where a growth is refused a part of it may stand there.
+/// Appends the canonical text straight away: if an allocation fails, a part of it may stand there.
 /// For a writer that gives up its whole text then; [`write_info`] changes nothing.
 pub fn push_info<A: Allocator, B: Allocator>(
     info: &Info<A>,
     out: &mut Vec<u8, B>,
 ) -> Result<(), AllocError>
     ensures ok { OnOk result (out.new.items ≡ out.old.items ++ canonical info.now) }
-    // What was written is a good patch info, so its text is read again as it.
-    ensures good { OnOk result (IsInfo info.now) }
+    // What was written is a valid patch info, so its text is read again as it.
+    ensures valid { OnOk result (IsInfo info.now) }
 {
     push_opening(info, out)?;
     push_end(info, out)?;
@@ -58,14 +58,14 @@ pub fn push_info<A: Allocator, B: Allocator>(
     Ok(())
 }
 
-/// Appends the canonical text. A refused growth changes nothing.
+/// Appends the canonical text. A failed allocation changes nothing.
 pub fn write_info<A: Allocator, B: Allocator + Copy>(
     info: &Info<A>,
     out: &mut Vec<u8, B>,
 ) -> Result<(), AllocError>
     ensures ok { OnOk result (out.new.items ≡ out.old.items ++ canonical info.now) }
-    // What was written is a good patch info, so its text is read again as it.
-    ensures good { OnOk result (IsInfo info.now) }
+    // What was written is a valid patch info, so its text is read again as it.
+    ensures valid { OnOk result (IsInfo info.now) }
     ensures err { OnErr result (out.new.items ≡ out.old.items) }
 {
     let mut text = Vec::new(*out.allocator());

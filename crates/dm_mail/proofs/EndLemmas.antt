@@ -4,11 +4,10 @@ use mathlib.Core.List.{IsPrefix}
 use Rattle.dm_mail.specs.declared.mail.Mail.{Mail}
 use Rattle.dm_mail.specs.declared.view.View.{View}
 use Rattle.dm_mail.specs.declared.ends.Outlet.{Outlet}
-use Rattle.dm_mail.specs.declared.ends.Inlet.{Inlet}
 use Rattle.dm_mail.specs.Mails.{is_closed, is_mark, count_bundles, count_marks, mails_of}
 use Rattle.dm_mail.specs.Rule.{view_after_join, IsAccepted, IsReceived, IsLastSettled}
 use Rattle.dm_mail.specs.World.{ShareWorld}
-use Rattle.dm_mail.specs.Ends.{AreNewOutlets, outlet_id, outlet_of, outlet_poster, outlet_mails, inlet_id, MailId}
+use Rattle.dm_mail.specs.Ends.{outlet_id, outlet_of, outlet_poster, outlet_mails, MailId}
 use Rattle.dm_mail.proofs.MailLemmas.{mails_of-append, is_closed-append, all_bundles, count_bundles-mark, count_marks-append}
 use Rattle.dm_mail.proofs.WorldLemmas.{prefix_of}
 
@@ -44,11 +43,6 @@ new_more id n (x ∷ os) o h a b c = (
   h.0,
   new_more id (suc n) os o h.1 (omega arith) (b ∙ ap (outlet_of id) (let e : n + suc (length os) ≡ suc n + length os = omega arith in e)) c,
 )
-
--- the outlets of an inlet's mail
-pub new_outlets : (i : Inlet) (n : ℕ) (os : List Outlet) → AreNew (inlet_id i) n os → AreNewOutlets i n os
-new_outlets i n [] h = tt
-new_outlets i n (o ∷ os) h = (h.0, new_outlets i (suc n) os h.1)
 
 -- a mail that is received is one of its poster's more
 pub received_more : (v new : View) (m : Mail) → IsReceived v m new → (p : ℕ) → mails_of p new.taken ≡ mails_of p v.taken ++ mails_of p (m ∷ [])

@@ -27,7 +27,7 @@ pub enum MailFault {
     BadPosters,
     /// The bound isn't 1 to 64.
     BadBound,
-    /// Memory was refused.
+    /// An allocation failed.
     NoMemory,
 }
 
@@ -47,7 +47,7 @@ pub fn open<R: Wait>(
     posters: usize,
     bound: usize,
 ) -> Result<(Vec<Outlet>, Inlet), MailFault>
-    ensures good { OnOk result (IsOpenable posters bound) }
+    ensures valid { OnOk result (IsOpenable posters bound) }
     ensures outlets { IfOk result (λ r. (length r.0.items ≡ posters) × AreNewOutlets r.1 0 r.0.items) }
     ensures inlet { IfOk result (λ r. (inlet_posters r.1 ≡ posters) × ((p : ℕ) → taken_of r.1 p ≡ [])) }
     ensures bound { IfOk result (λ r. inlet_bound r.1 ≡ bound) }

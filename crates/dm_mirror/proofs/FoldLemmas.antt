@@ -1,5 +1,5 @@
 -- Mails that are taken, and one more.
-use Rattle.std.proofs.Common.{◌≡◌, ℕ, List, [], ◌∷◌, ◌++◌, Option, Some, None, refl, sym, ap, ◌∙◌, append_assoc, append-nil}
+use Rattle.std.proofs.Common.{◌≡◌, ℕ, List, [], ◌∷◌, ◌++◌, Option, Some, None, sym, ap, ◌∙◌, append_assoc, append-nil}
 use Rattle.std.specs.List.{flat_map}
 use Rattle.dm_named.specs.Patches.{Patch}
 use Rattle.dm_repo.specs.declared.policy.Policy.{Policy}
@@ -42,7 +42,3 @@ fold_more start ms policy vs mid m v after fold t = record {
   taken = rw (flat_map-append (λ n. body_texts n.body) ms m, flat_map-append verdict_list vs v)
       (body_taken start (bundle_texts ms) policy (verdicts_given vs) mid m.body v after fold.taken t);
 }
-
--- nothing was taken yet
-pub fold_none : (start : List Patch) (ms : List Mail) (policy : Policy) (vs : List (Option Verdict)) → ms ≡ [] → vs ≡ [] → IsPlainFold start ms policy vs start
-fold_none start ms policy vs e f = rw (e, f) (record { answered = tt; taken = refl })

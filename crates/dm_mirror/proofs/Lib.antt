@@ -5,5 +5,4 @@ pub mod DeliveryLemmas
 pub mod RunLemmas
 pub mod SettleLemmas
 pub mod PlanLemmas
-pub mod MarkLemmas
 pub mod ReportLemmas

@@ -1,5 +1,5 @@
 -- Lists that are laid side by side, when one more is laid down.
-use Rattle.std.proofs.Common.{◌≡◌, ℕ, zero, suc, ◌+◌, ◌<◌, ◌≤◌, List, [], ◌∷◌, ◌++◌, length, map, take, get_or, slice_index_or, refl, sym, ap, ◌∙◌, subst, arith, append-nil, append_assoc, length-append}
+use Rattle.std.proofs.Common.{◌≡◌, ℕ, zero, suc, ◌+◌, ◌<◌, ◌≤◌, List, [], ◌∷◌, ◌++◌, length, map, take, get_or, refl, sym, ap, ◌∙◌, subst, arith, append-nil, append_assoc, length-append}
 use Rattle.std.specs.List.{All, AllByRecursion}
 use Rattle.std.proofs.lemmas.List.{map-append}
 use Rattle.dm_mirror.specs.Lists.{EachWith, EachFrom, AreHeads}
@@ -8,14 +8,6 @@ use Rattle.dm_mirror.specs.Lists.{EachWith, EachFrom, AreHeads}
 pub one_by_one : {A : Type 0} (P : A → Type 0) (xs : List A) → All P xs → AllByRecursion P xs
 one_by_one P [] all = tt
 one_by_one P (x ∷ xs) all = (all zero x (omega arith), one_by_one P xs (λ k d l. all (suc k) d (omega arith)))
-
-place_at : {A : Type 0} (P : A → Type 0) (x : A) (xs : List A) (k : ℕ) (d : A) → k < length (x ∷ xs) → P x → All P xs → P (slice_index_or (x ∷ xs) k d)
-place_at P x xs zero d l p all = p
-place_at P x xs (suc k) d l p all = all k d (omega arith)
-
-pub by_places : {A : Type 0} (P : A → Type 0) (xs : List A) → AllByRecursion P xs → All P xs
-by_places P [] all = λ k d l. absurd (omega arith)
-by_places P (x ∷ xs) all = λ k d l. place_at P x xs k d l all.0 (by_places P xs all.1)
 
 pub none_left : {A : Type 0} (xs : List A) → length xs ≡ 0 → xs ≡ []
 none_left [] e = refl
@@ -81,28 +73,9 @@ each_join P Q R (x ∷ xs) [] zs join a b = absurd a
 each_join P Q R (x ∷ xs) (y ∷ ys) [] join a b = absurd b
 each_join P Q R (x ∷ xs) (y ∷ ys) (z ∷ zs) join a b = (join x y z a.0 b.0, each_join P Q R xs ys zs join a.1 b.1)
 
-pub each_from_join : {A B C : Type 0} (P : ℕ → A → B → Type 0) (Q : B → C → Type 0) (R : ℕ → A → C → Type 0) (n : ℕ) (xs : List A) (ys : List B) (zs : List C) →
-    ((n : ℕ) (x : A) (y : B) (z : C) → P n x y → Q y z → R n x z) → EachFrom P n xs ys → EachWith Q ys zs → EachFrom R n xs zs
-each_from_join P Q R n [] [] [] join a b = tt
-each_from_join P Q R n [] [] (z ∷ zs) join a b = absurd b
-each_from_join P Q R n [] (y ∷ ys) zs join a b = absurd a
-each_from_join P Q R n (x ∷ xs) [] zs join a b = absurd a
-each_from_join P Q R n (x ∷ xs) (y ∷ ys) [] join a b = absurd b
-each_from_join P Q R n (x ∷ xs) (y ∷ ys) (z ∷ zs) join a b = (join n x y z a.0 b.0, each_from_join P Q R (suc n) xs ys zs join a.1 b.1)
-
--- of lists that were made of others
-pub each_map : {A B C D : Type 0} (P : C → D → Type 0) (f : A → C) (g : B → D) (xs : List A) (ys : List B) → EachWith (λ x y. P (f x) (g y)) xs ys → EachWith P (map f xs) (map g ys)
-each_map P f g [] [] each = tt
-each_map P f g [] (y ∷ ys) each = absurd each
-each_map P f g (x ∷ xs) [] each = absurd each
-each_map P f g (x ∷ xs) (y ∷ ys) each = (each.0, each_map P f g xs ys each.1)
-
 -- whatever is left of the columns leads to all
 abbrev pub HeadsLead : {A : Type 0} → List (List A) → List (List A) → List A → List (List A) → Type 0
 HeadsLead {A = A} all left heads rests = (hs : List A) (rs : List (List A)) → AreHeads left hs rs → AreHeads all (heads ++ hs) (rests ++ rs)
-
-pub heads_none : {A : Type 0} (all : List (List A)) (heads : List A) (rests : List (List A)) → heads ≡ [] → rests ≡ [] → HeadsLead all all heads rests
-heads_none all heads rests e f = λ hs rs are. rw (e, f) are
 
 pub heads_more : {R A : Type 0} (f : R → List A) (all : List (List A)) (left new : List R) (row row2 : R) (h : A) (heads more : List A) (rests further : List R) → left ≡ row ∷ new → f row ≡ h ∷ f row2 →
     more ≡ heads ++ h ∷ [] → further ≡ rests ++ row2 ∷ [] → HeadsLead all (map f left) heads (map f rests) → HeadsLead all (map f new) more (map f further)

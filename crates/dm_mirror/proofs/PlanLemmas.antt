@@ -3,7 +3,6 @@ use Rattle.std.proofs.Common.{◌≡◌, ◌≢◌, ◌⊎◌, ◌<◌, ◌≤�
 use Rattle.std.specs.List.{AllByRecursion}
 use Rattle.std.proofs.lemmas.List.{length-map, map_more, map-append}
 use Rattle.dm_named.specs.Patches.{Patch}
-use Rattle.dm_repo.specs.declared.policy.Policy.{Policy}
 use Rattle.dm_repo.specs.declared.policy.Policy.TheVariants.{Refuse}
 use Rattle.dm_repo.specs.declared.refusal.Refusal.TheVariants as refusals
 use Rattle.dm_scratch.specs.declared.verdict.Verdict.{Verdict}
@@ -13,7 +12,7 @@ use Rattle.dm_scratch.proofs.KeepLemmas.{refused_keeps}
 use Rattle.dm_mirror.specs.declared.plan.PlanFault.{PlanFault}
 use Rattle.dm_mirror.specs.declared.plan.PlanFault.TheVariants.{Posters, Mirrors, Bound, TooManyBundles, BadBase, NoMemory}
 use Rattle.dm_mirror.specs.Deliveries.{mails_in}
-use Rattle.dm_mirror.specs.Plans.{IsStart, AreStarts, RefusesStart, IsBadStart, IsPlannable, IsFirstFault}
+use Rattle.dm_mirror.specs.Plans.{IsStart, AreStarts, RefusesStart, IsBadStart}
 use Rattle.dm_mirror.proofs.DeliveryLemmas.{some_inj}
 
 pub refuses_start : (mirror : ℕ) (base : List ℕ) (v : Verdict) (after : List Patch) (e : PlanFault) → base ≢ [] → (IsAccepted v → ⊥) → Takes [] base Refuse v after →
@@ -27,19 +26,10 @@ pub filled : (base : List ℕ) → false ≡ eqb (length base) 0 → base ≢ []
 filled [] e same = absurd (true≢false (sym e))
 filled (x ∷ xs) e same = absurd (cc same)
 
--- one more, of all
-pub all_more : {A : Type 0} (P : A → Type 0) (xs : List A) (x : A) → AllByRecursion P xs → P x → AllByRecursion P (xs ++ x ∷ [])
-all_more P [] x all p = (p, tt)
-all_more P (y ∷ xs) x all p = (all.0, all_more P xs x all.1 p)
-
 all_at : {A B : Type 0} (P : B → Type 0) (f : A → B) (xs : List A) (i : ℕ) (d : A) → i < length xs → AllByRecursion P (map f xs) → P (f (get_or xs i d))
 all_at P f [] i d l all = absurd (omega arith)
 all_at P f (x ∷ xs) zero d l all = all.0
 all_at P f (x ∷ xs) (suc i) d l all = all_at P f xs i d (omega arith) all.1
-
--- one poster more of whom this holds
-pub all_next : {A B : Type 0} (P : B → Type 0) (f : A → B) (xs : List A) (i : ℕ) (d : A) → i < length xs → P (f (get_or xs i d)) → AllByRecursion P (map f (take i xs)) → AllByRecursion P (map f (take (i + 1) xs))
-all_next P f xs i d l p so_far = rw (map_more f xs i d l) (all_more P (map f (take i xs)) (f (get_or xs i d)) so_far p)
 
 -- the poster at a place has few texts, where all have
 pub few_at : {A B C : Type 0} (h : B → C) (g : A → List B) (xs : List A) (i : ℕ) (d : A) → i < length xs → AllByRecursion (λ ts. length ts ≤ 1000) (map (λ x. map h (g x)) xs) → length (g (get_or xs i d)) ≤ 1000
@@ -97,16 +87,6 @@ bad_start f xs i d rs Posters l before refused = absurd refused
 bad_start f xs i d rs Mirrors l before refused = absurd refused
 bad_start f xs i d rs Bound l before refused = absurd refused
 bad_start f xs i d rs TooManyBundles l before refused = absurd refused
-
--- the fault of a plan that could be
-pub start_fault : (posters : List (List (List ℕ))) (bases : List (List ℕ)) (policies : List Policy) (bound : ℕ) (e : PlanFault) → IsPlannable posters bases policies bound → IsBadStart bases e →
-    IsFirstFault posters bases policies bound e
-start_fault posters bases policies bound NoMemory good bad = good
-start_fault posters bases policies bound (BadBase m v) good bad = (good, bad)
-start_fault posters bases policies bound Posters good bad = absurd bad
-start_fault posters bases policies bound Mirrors good bad = absurd bad
-start_fault posters bases policies bound Bound good bad = absurd bad
-start_fault posters bases policies bound TooManyBundles good bad = absurd bad
 
 pub as_many_starts : (bs : List (List ℕ)) (rs : List (List Patch)) → AreStarts bs rs → length rs ≡ length bs
 as_many_starts [] [] all = refl

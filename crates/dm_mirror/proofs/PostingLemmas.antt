@@ -1,7 +1,7 @@
 -- The mails of a poster that has sent its first texts.
-use Rattle.std.proofs.Common.{◌≡◌, ℕ, suc, ◌+◌, List, [], ◌∷◌, ◌++◌, length, map, refl, sym, ap, ◌∙◌, arith, append-nil, append_assoc, length-append}
+use Rattle.std.proofs.Common.{◌≡◌, ℕ, suc, ◌+◌, List, [], ◌∷◌, ◌++◌, length, map, refl, sym, ap, ◌∙◌, arith, append-nil, length-append}
 use Rattle.dm_mail.specs.declared.mail.Mail.{Mail}
-use Rattle.dm_mail.specs.Mails.{bundle, mark, next_mail, numbered_mails, poster_mails}
+use Rattle.dm_mail.specs.Mails.{bundle, mark, next_mail, poster_mails}
 use Rattle.dm_mail.proofs.MailLemmas.{next_body, length-numbered_mails}
 use Rattle.dm_mail.specs.declared.ends.Sent.{Sent}
 use Rattle.dm_mail.specs.Ends.{outlet_id, outlet_poster}
@@ -9,18 +9,6 @@ use Rattle.dm_mirror.specs.declared.jobs.Line.{Line}
 use Rattle.dm_mirror.specs.declared.jobs.NewLine.{NewLine}
 use Rattle.dm_mirror.specs.Jobs.{IsBegun, SameLine, EndsLine, EndsNew}
 use Rattle.dm_mirror.specs.Deliveries.{all_mails, SentUpTo}
-
-pub sent_none : (poster : ℕ) (mails : List Mail) (all : List (List ℕ)) → mails ≡ [] → SentUpTo poster mails all all
-sent_none poster mails all e = rw e refl
-
--- one text more
-pub sent_more : (p q : ℕ) (mails new : List Mail) (text : List ℕ) (left rest all : List (List ℕ)) → left ≡ text ∷ rest → q ≡ p →
-    new ≡ mails ++ next_mail p mails (bundle text) ∷ [] → SentUpTo p mails left all → SentUpTo q new rest all
-sent_more p q mails new text left rest all e same is so_far =
-    let first : mails ++ numbered_mails p (length mails) (map bundle (text ∷ rest)) ≡ poster_mails p (map bundle all) = rw e at so_far in
-    let n : suc (length mails) ≡ length (mails ++ next_mail p mails (bundle text) ∷ []) = omega (arith, length-append mails (next_mail p mails (bundle text) ∷ [])) in
-    rw (same, is) (ap (λ k. (mails ++ next_mail p mails (bundle text) ∷ []) ++ numbered_mails p k (map bundle rest)) (sym n) ∙
-    (append_assoc mails (next_mail p mails (bundle text) ∷ []) (numbered_mails p (suc (length mails)) (map bundle rest)) ∙ first))
 
 length-bodies : (texts : List (List ℕ)) → length (map bundle texts) ≡ length texts
 length-bodies [] = refl

@@ -8,7 +8,7 @@ use Rattle.dm_scratch.specs.Printing.{line_of, listing_text}
 use Rattle.dm_scratch.specs.declared.verdict.Verdict.{Verdict}
 use Rattle.dm_mail.specs.declared.mail.Mail.{Mail}
 use Rattle.dm_mirror.specs.declared.mirror.Mirror.{Mirror}
-use Rattle.dm_mirror.specs.Report.{mail_text, mails_text, closed_line, closed_text, IsMirrorText, AreMirrorTexts, receipt_text, sent_text, receipts_text}
+use Rattle.dm_mirror.specs.Report.{mail_text, mails_text, closed_text, IsMirrorText, AreMirrorTexts, receipt_text, sent_text}
 
 -- one mail more
 mails_suc : (ms : List Mail) (vs : List (Option Verdict)) (k : ℕ) (d : Mail) (e : Option Verdict) → k < length ms → k < length vs →
@@ -31,17 +31,6 @@ mails_more before out new ms vs k m e l same is so_far one =
     let part = mail_text m (get_or vs k e) in
     let whole = mails_suc ms vs k m e l (omega arith) ∙ ap (λ x. mails_text (take k ms) (take k vs) ++ mail_text x (get_or vs k e)) (sym is) in
     rw n (more before (mails_text (take k ms) (take k vs)) out new part (mails_text (take (suc k) ms) (take (suc k) vs)) so_far one whole)
-
--- one poster more
-pub marks_more : (before out new : List ℕ) (ms : List Mail) (n : ℕ) → out ≡ before ++ closed_text ms n → new ≡ out ++ closed_line ms n → new ≡ before ++ closed_text ms (n + 1)
-marks_more before out new ms n so_far one =
-    let e : n + 1 ≡ suc n = omega arith in
-    rw e (more before (closed_text ms n) out new (closed_line ms n) (closed_text ms (suc n)) so_far one refl)
-
-pub receipts_more : (before out new : List ℕ) (ms : List Mirror) (n : ℕ) → out ≡ before ++ receipts_text ms n → new ≡ out ++ sent_text n 0 ms → new ≡ before ++ receipts_text ms (n + 1)
-receipts_more before out new ms n so_far one =
-    let e : n + 1 ≡ suc n = omega arith in
-    rw e (more before (receipts_text ms n) out new (sent_text n 0 ms) (receipts_text ms (suc n)) so_far one refl)
 
 -- one mirror more
 sent_suc : (p n : ℕ) (ms : List Mirror) (k : ℕ) (d : Mirror) → k < length ms →
@@ -92,17 +81,16 @@ pub both_printed : (before mid after first second : List ℕ) → mid ≡ before
 both_printed before mid after first second e f = f ∙ (ap (λ l. l ++ second) e ∙ append_assoc before first second)
 
 -- the parts of a mirror, one after the other
-pub mirror_printed : (posters number : ℕ) (mirror : Mirror) (before one two three four : List ℕ) (mails marks : List Mail) (verdicts : List (Option Verdict)) →
-    mails ≡ mirror.mails.items → verdicts ≡ mirror.verdicts.items → marks ≡ mirror.mails.items → one ≡ before ++ line_of (codes "mirror " ++ decimal number) → two ≡ one ++ mails_text mails verdicts →
-    three ≡ two ++ closed_text marks posters → (tree : Tree) × IsTreeOf mirror.repo.patches tree × (four ≡ three ++ (line_of (codes "patches " ++ decimal (length mirror.repo.patches)) ++ listing_text tree)) →
+pub mirror_printed : (posters number : ℕ) (mirror : Mirror) (before one two three four : List ℕ) (mails : List Mail) (verdicts : List (Option Verdict)) →
+    mails ≡ mirror.mails.items → verdicts ≡ mirror.verdicts.items → one ≡ before ++ line_of (codes "mirror " ++ decimal number) → two ≡ one ++ mails_text mails verdicts →
+    three ≡ two ++ closed_text mirror.mails.items posters → (tree : Tree) × IsTreeOf mirror.repo.patches tree × (four ≡ three ++ (line_of (codes "patches " ++ decimal (length mirror.repo.patches)) ++ listing_text tree)) →
     (text : List ℕ) × IsMirrorText posters number mirror text × (four ≡ before ++ text)
-mirror_printed posters number mirror before one two three four mails marks verdicts is says same e f g h =
+mirror_printed posters number mirror before one two three four mails verdicts is says e f g h =
     let head = line_of (codes "mirror " ++ decimal number) in
     let tail = line_of (codes "patches " ++ decimal (length mirror.repo.patches)) ++ listing_text h.0 in
     let took = mails_text mirror.mails.items mirror.verdicts.items in
     let closed = closed_text mirror.mails.items posters in
     let f2 : two ≡ one ++ took = rw (is, says) at f in
-    let g2 : three ≡ two ++ closed = rw same at g in
-    let last = both_printed two three four closed tail g2 h.2 in
+    let last = both_printed two three four closed tail g h.2 in
     let later = both_printed one two four took (closed ++ tail) f2 last in
     (head ++ (took ++ (closed ++ tail)), record { tree = h.0; is_tree = h.1; is_text = refl }, both_printed before one four head (took ++ (closed ++ tail)) e later)

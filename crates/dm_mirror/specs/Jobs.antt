@@ -1,4 +1,4 @@
--- What the threads of a run are given, and what they hand back.
+-- What the threads of a run are given, and what they hand back. For the clauses of private functions and the fields of private types alone.
 use Rattle.std.specs.Prelude.{◌≡◌, ◌≤◌, ℕ, true, List, [], length, map, vec_capacity}
 use Rattle.dm_mail.specs.Mails.{mails_of, AllBelow}
 use Rattle.dm_mail.specs.declared.ends.Outlet.{Outlet}

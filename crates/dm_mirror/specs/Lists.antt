@@ -1,4 +1,4 @@
--- Lists that are laid side by side.
+-- Lists that are laid side by side. For the clauses of private functions and the fields of private types alone.
 use Rattle.std.specs.Prelude.{◌≡◌, ℕ, suc, List, [], ◌∷◌}
 
 -- each of the first list has this to do with its fellow in the second, and none is left over

@@ -1,4 +1,4 @@
--- A mirror before, during and after a run.
+-- A mirror before, during and after a run. For the clauses of private functions and for ghost fields alone.
 use Rattle.std.specs.Prelude.{◌≡◌, ◌≤◌, ℕ, List, [], length, vec_capacity, slice_get, Some}
 use Rattle.dm_mirror.specs.declared.mirror.Mirror.{Mirror}
 

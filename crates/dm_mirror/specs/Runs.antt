@@ -3,6 +3,7 @@ use Rattle.std.specs.Prelude.{◌≡◌, ℕ, Bool, true, List, [], Option, Some
 use Rattle.std.specs.List.{All}
 use Rattle.dm_named.specs.Patches.{Patch}
 use Rattle.dm_repo.specs.declared.policy.Policy.{Policy}
+use Rattle.dm_repo.specs.Repositories.{Repository}
 use Rattle.dm_scratch.specs.declared.verdict.Verdict.{Verdict}
 use Rattle.dm_scratch.specs.Taking.{IsAccepted}
 use Rattle.dm_mail.specs.declared.mail.Mail.{Mail}
@@ -11,6 +12,10 @@ use Rattle.dm_mirror.specs.declared.mirror.Mirror.{Mirror}
 use Rattle.dm_mirror.specs.declared.outcome.Outcome.{Outcome}
 use Rattle.dm_mirror.specs.Deliveries.{all_mails}
 use Rattle.dm_mirror.specs.PlainFolds.{IsPlainFold}
+
+-- how many mirrors there are
+abbrev pub mirror_count : Outcome → ℕ
+mirror_count o = length o.mirrors.items
 
 -- the mirror of this number
 abbrev pub IsAt : Outcome → ℕ → Mirror → Type 0
@@ -24,6 +29,22 @@ mirror_mails (Some mirror) = mirror.mails.items
 -- the mails that the mirror of this number took
 abbrev pub mails_at : Outcome → ℕ → List Mail
 mails_at o m = mirror_mails (slice_get o.mirrors.items m)
+
+-- there is a mirror of this number, and it took these mails
+abbrev pub HasMails : Outcome → ℕ → List Mail → Type 0
+HasMails o m mails = (mirror : Mirror) × IsAt o m mirror × (mails ≡ mirror.mails.items)
+
+-- there is such a mirror, and at this place among its mails it has this verdict, or none
+abbrev pub HasVerdict : Outcome → ℕ → ℕ → Option Verdict → Type 0
+HasVerdict o m k verdict = (mirror : Mirror) × IsAt o m mirror × (slice_get mirror.verdicts.items k ≡ Some verdict)
+
+-- there is such a mirror, and this says whether it took the mark of this poster
+abbrev pub HasClosed : Outcome → ℕ → ℕ → Bool → Type 0
+HasClosed o m poster closed = (mirror : Mirror) × IsAt o m mirror × (closed ≡ is_closed (mails_of poster mirror.mails.items))
+
+-- there is such a mirror, and this is its repository
+abbrev pub HasRepo : Outcome → ℕ → Repository → Type 0
+HasRepo o m repo = (mirror : Mirror) × IsAt o m mirror × (repo ≡ mirror.repo)
 
 -- the poster of this number sends these texts
 abbrev pub SendsTexts : List (List (List ℕ)) → ℕ → List (List ℕ) → Type 0
@@ -56,8 +77,8 @@ IsFine None = Unit {0}
 IsFine (Some verdict) = IsAccepted verdict
 
 -- each bundle that a mirror took was taken into its repository, or brought nothing new
-abbrev pub AllAccepted : List Mirror → Type 0
-AllAccepted mirrors = All (λ mirror. All IsFine mirror.verdicts.items) mirrors
+abbrev pub AllAccepted : Outcome → Type 0
+AllAccepted o = All (λ mirror. All IsFine mirror.verdicts.items) o.mirrors.items
 
 -- what a poster says that it sent to a mirror; nothing is said of a poster or a mirror that isn't there
 abbrev pub receipt_of : Option Mirror → ℕ → Option (ℕ × Bool)

@@ -17,13 +17,11 @@ mod jobs;
 mod mirror;
 mod outcome;
 mod plan;
-mod planning;
 mod poster;
 mod posting;
-mod reading;
 mod report;
 mod running;
-mod starting;
+mod start_line;
 mod taking;
 mod threads;
 

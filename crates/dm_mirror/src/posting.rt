@@ -87,7 +87,7 @@ fn finish<R: Wait>(rt: &R, line: Line) -> Sent
     close(rt, outlet)
 }
 
-/// Sends the next text of each line. Answers the lines, and the room that they were in.
+/// Sends the next text of each line. Returns the lines, and the room that they were in.
 fn send_round<R: Wait>(
     rt: &R,
     lines: VecDeque<Line>,

@@ -1,5 +1,5 @@
 //! The report of a run.
-ghost use Rattle.std.specs.Prelude.{◌≡◌, ◌++◌, ℕ, List, codes, length, slice_get, take, IfOk, OnOk, OnErr};
+ghost use Rattle.std.specs.Prelude.{◌≡◌, ◌++◌, ℕ, List, codes, length, take, IfOk, OnOk, OnErr};
 ghost use Rattle.std.specs.Fmt.{decimal};
 ghost use Rattle.std.specs.Io.KnownBytes.{Appends};
 ghost use Rattle.dm_tree.specs.Trees.{Tree};
@@ -10,7 +10,6 @@ ghost use Rattle.dm_mirror.specs.Report.{answer_word, closed_line, closed_text, 
 
 use crate::mirror::Mirror;
 use crate::outcome::Outcome;
-use crate::reading::has_mark;
 use dm_mail::Mail;
 use dm_repo::Repo;
 use dm_scratch::{Verdict, push_listing};
@@ -20,7 +19,7 @@ use std::io::Write;
 /// Why a report wasn't written whole.
 #[derive(Clone, Copy, PartialEq, Eq, Debug)]
 pub enum WriteFault {
-    /// The writer answered an error, or took no byte. A prefix of the text was written.
+    /// The writer returned an error, or took no byte. A prefix of the text was written.
     Device,
 }
 
@@ -59,21 +58,21 @@ fn push_mails(
 }
 
 /// The line of a poster: whether its mark was taken.
-fn push_closed(mails: &[Mail], poster: usize, out: &mut Vec<u8>) -> Result<(), AllocError>
-    ensures { OnOk result (out.new.items ≡ out.old.items ++ closed_line mails.now poster) }
+fn push_closed(mirror: &Mirror, poster: usize, out: &mut Vec<u8>) -> Result<(), AllocError>
+    ensures { OnOk result (out.new.items ≡ out.old.items ++ closed_line mirror.now.mails.items poster) }
 {
-    let answer = word_of(has_mark(mails, poster));
+    let answer = word_of(mirror.has_mark(poster));
     let line = format!(in *out.allocator(); "closed {poster} {answer}\n")?;
     out.extend_from_slice(line.as_bytes())?;
     Ok(())
 }
 
 /// The lines of so many posters.
-fn push_marks(mails: &[Mail], posters: usize, out: &mut Vec<u8>) -> Result<(), AllocError>
-    ensures { OnOk result (out.new.items ≡ out.old.items ++ closed_text mails.now posters) }
+fn push_marks(mirror: &Mirror, posters: usize, out: &mut Vec<u8>) -> Result<(), AllocError>
+    ensures { OnOk result (out.new.items ≡ out.old.items ++ closed_text mirror.now.mails.items posters) }
 {
     for poster in 0..posters {
-        push_closed(mails, poster, out)?;
+        push_closed(mirror, poster, out)?;
     }
     Ok(())
 }
@@ -118,17 +117,9 @@ fn push_mirror(
 {
     push_number(number, out)?;
     push_mails(&mirror.mails, &mirror.verdicts, out)?;
-    push_marks(&mirror.mails, posters, out)?;
+    push_marks(mirror, posters, out)?;
     push_repo(&mirror.repo, out)?;
     Ok(())
-}
-
-/// What a poster sent to this mirror, if it has the poster's receipt.
-fn receipt_at(mirror: &Mirror, poster: usize) -> Option<(usize, bool)>
-    ensures { result ≡ slice_get mirror.now.receipts.items poster }
-{
-    let receipt = mirror.receipts.get(poster)?;
-    Some(*receipt)
 }
 
 /// The line of what a poster sent to a mirror, if anything is said.
@@ -154,7 +145,7 @@ fn push_sent(poster: usize, mirrors: &[Mirror], out: &mut Vec<u8>) -> Result<(),
     ensures { OnOk result (out.new.items ≡ out.old.items ++ sent_text poster 0 mirrors.now) }
 {
     for number in 0..mirrors.len() {
-        push_receipt(poster, number, receipt_at(&mirrors[number], poster), out)?;
+        push_receipt(poster, number, mirrors[number].receipt(poster), out)?;
     }
     Ok(())
 }

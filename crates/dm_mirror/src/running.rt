@@ -29,7 +29,7 @@ use std::snapshot::Snapshot;
 use std::sync::Wait;
 use std::thread::Threads;
 
-/// The only fault of mail that is opened for a good count of posters and a good bound.
+/// The only fault of mail that is opened for one to eight posters and a bound of 1 to 64.
 fn of_mail(fault: MailFault) -> RunFault
     requires { fault ≡ MailFault.NoMemory }
     ensures { result ≡ RunFault.NoMemory }
@@ -151,7 +151,7 @@ fn jobs_of(
     Ok((jobs, mirrors))
 }
 
-/// Settles what each poster sent with what a mirror took: the mirror took all of it. Answers the mirror with the receipts
+/// Settles what each poster sent with what a mirror took: the mirror took all of it. Returns the mirror with the receipts
 /// of the posters, and the room that the posters' ends were in.
 fn settled<R: Wait>(
     rt: &R,
@@ -219,7 +219,7 @@ fn settle_each<R: Wait>(
 /// repository under its own policy, over an arena of its own, until it has all that the plan has for it. The gate is called
 /// around each taking.
 ///
-/// Answers once all threads have ended. That they end, and in which order the mails of two posters come, is in no
+/// Returns once all threads have ended. That they end, and in which order the mails of two posters come, is in no
 /// contract. A verdict may be that memory ran out; the repository is then as it was, and the run goes on.
 ///
 /// Errors: [`RunFault`]; no mail was sent, and the plan is given up.

@@ -11,7 +11,7 @@ use crate::gate::Gate;
 use crate::jobs::{Kept, Line, PostJob, TakeJob};
 use crate::mirror::Mirror;
 use crate::posting::post;
-use crate::starting::StartLine;
+use crate::start_line::StartLine;
 use crate::taking::take_mails;
 use bumpalo::Bump;
 use dm_mail::{Inlet, Sent};
@@ -361,8 +361,10 @@ pub(crate) fn in_threads<R: Threads + Wait + Sync, G: Gate + Sync>(
         rt,
         |scope| -> Result<Ended, RunFault>
             requires empty { (poster_threads.items ≡ []) × (mirror_threads.items ≡ []) × (rows.items ≡ []) × (kept.items ≡ []) }
-            requires fits { (length posters.items ≤ deque_capacity poster_threads) × (length mirrors.items ≤ deque_capacity mirror_threads) × (length posters.items ≤ deque_capacity rows) × (length mirrors.items ≤ deque_capacity kept) }
-            ensures { IfOk result (λ r. (EachWith (λ job row. DoesPost job row.items) posters.items r.rows.items × EachWith DoesTake mirrors.items r.kept.items) × (length r.rows.items ≤ deque_capacity r.rows)) }
+            requires fits { (length posters.items ≤ deque_capacity poster_threads) × (length mirrors.items ≤ deque_capacity mirror_threads) ×
+                (length posters.items ≤ deque_capacity rows) × (length mirrors.items ≤ deque_capacity kept) }
+            ensures { IfOk result (λ r. (EachWith (λ job row. DoesPost job row.items) posters.items r.rows.items × EachWith DoesTake mirrors.items r.kept.items) ×
+                (length r.rows.items ≤ deque_capacity r.rows)) }
         {
             let Ok(posting) = start_posters(scope, rt, alloc, line, posters, poster_threads) else {
                 line.call_off(rt);

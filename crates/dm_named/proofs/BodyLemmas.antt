@@ -1,5 +1,5 @@
 -- Dependencies and bodies.
-use Rattle.std.proofs.Common.{◌≡◌, ◌≤◌, ◌<◌, ℕ, List, ◌∷◌, length, drop, sym, subst, ◌∙◌, arith, inl, inr}
+use Rattle.std.proofs.Common.{◌≡◌, ◌≤◌, ◌<◌, ℕ, List, length, drop, subst, arith, inr}
 use Rattle.std.proofs.lemmas.List.{length-drop}
 use Rattle.dm_info.proofs.SpellingLemmas.{stands_shorter}
 use Rattle.dm_info.specs.PatchInfo.{PatchInfo}
@@ -30,6 +30,3 @@ run_wrong text mid here ps bare r few e w = in_run bare (inr (record { prims = p
 pub a_run : (text mid here : List ℕ) (ps : List Prim) → (Begins 123 (skipped text) → ⊥) → Many NextPrim text ps mid → (WordAmong prim_words (skipped mid) → ⊥) → here ≡ skipped mid → (WordAmong unsupported_words here → ⊥) → (Begins 40 here → ⊥) → Body text ps mid
 a_run text mid here ps bare r prims e others paren =
     inr (record { bare = bare; read = r; ends = record { prims = prims; others = subst (λ (t : List ℕ). WordAmong unsupported_words t → ⊥) e others; paren = subst (λ (t : List ℕ). Begins 40 t → ⊥) e paren } })
-
-pub braces : (text inside mid here rest : List ℕ) (ps : List Prim) → NextByte 123 text inside → Many NextPrim inside ps mid → here ≡ skipped mid → here ≡ 125 ∷ rest → Body text ps rest
-braces text inside mid here rest ps m r e c = inl (record { inside = inside; mid = mid; opens = m; read = r; closes = sym e ∙ c })

@@ -3,17 +3,12 @@ use Rattle.std.proofs.Common.{◌≡◌, ℕ, ◌+◌, ◌<◌, ◌≤◌, suc, 
 use Rattle.std.proofs.lemmas.Bool.{false≢true}
 use Rattle.std.proofs.lemmas.List.{drop_more, drop_all}
 use Rattle.std.specs.List.{AllByRecursion}
-use Rattle.dm_info.proofs.Cuts.{false_is}
 use Rattle.dm_info.specs.PatchInfo.{is_newline}
 use Rattle.dm_named.specs.Words.{NoNewline, is_white, Begins, Word, Line, MarkedLine, LineGroup, BlankLine, IsNumberText, IsDigit, number_from, NumberLine, skipped}
 use Rattle.dm_named.specs.Faults.{NoChange}
 use Rattle.dm_named.specs.Many.{Many}
 use Rattle.dm_named.proofs.WordLemmas.{one_word}
 use Rattle.dm_named.proofs.ManyLemmas.{Closed, many_more, one_many}
-
-none_free : (text : List ℕ) → ((j : ℕ) → j < length text → is_newline (get_or text j 0) ≡ true → ⊥) → NoNewline text
-none_free [] h = tt
-none_free (b ∷ text) h = (false_is (is_newline b) (h 0 (omega arith)), none_free text (λ j lt. h (suc j) (omega arith)))
 
 pub lines_more : (b : ℕ) (text : List ℕ) (lines : List (List ℕ)) (mid inside line after : List ℕ) → Many (MarkedLine b) text lines mid → mid ≡ b ∷ inside → Line inside line after → Many (MarkedLine b) text (lines ++ line ∷ []) after
 lines_more b text lines mid inside line after r e l = many_more (MarkedLine b) text lines mid line after r (record { inside = inside; mark = e; read = l })

@@ -11,5 +11,5 @@ pub mod NoPatch
 pub mod WithinCount
 pub mod NameRoundTrip
 pub mod PatchRoundTrip
-pub mod GoodParts
+pub mod ValidParts
 pub mod NamedLemmas

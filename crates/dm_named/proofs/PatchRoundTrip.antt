@@ -9,12 +9,12 @@ use Rattle.dm_info.specs.PatchInfo.{PatchInfo, IsInfo}
 use Rattle.dm_info.specs.Spelling.{Stands, canonical}
 use Rattle.dm_tree.specs.Paths.{Path}
 use Rattle.dm_prim.specs.Primitives.{Prim, AddFile, RmFile, AddDir, RmDir, Hunk, At, Move}
-use Rattle.dm_tree.specs.Validity.{IsGoodPath}
-use Rattle.dm_prim.specs.Commuting.{IsGoodPrim, IsGoodWork}
+use Rattle.dm_tree.specs.Validity.{IsValidPath}
+use Rattle.dm_prim.specs.Commuting.{IsValidPrim, IsValidWork}
 use Rattle.dm_named.specs.Words.{NoNewline, is_white, skipped, EndsWord, number_from, Begins, MarkedLine, NumberLine}
 use Rattle.dm_named.specs.Paths.{NoSlash, EndsPiece, SlashName, NameByte, PathWord}
-use Rattle.dm_named.specs.Patches.{WordAndPath, WordAndPaths, HunkBody, HunkText, PrimText, NextPrim, NextInfo, Dependencies, Body, RunEnds, Patch, IsGoodPatch}
-use Rattle.dm_named.proofs.GoodParts.{path_free, free_lines, some_lines}
+use Rattle.dm_named.specs.Patches.{WordAndPath, WordAndPaths, HunkBody, HunkText, PrimText, NextPrim, NextInfo, Dependencies, Body, RunEnds, Patch, IsValidPatch}
+use Rattle.dm_named.proofs.ValidParts.{path_free, free_lines, some_lines}
 use Rattle.dm_named.specs.Canonical.{name_text, info_line, byte_text, path_text, lines_text, prim_text, deps_text, body_text, patch_text}
 use Rattle.dm_named.specs.Laws.{NoLine, ReadsPrim, ReadsPatch}
 use Rattle.dm_named.specs.Many.{Many}
@@ -58,19 +58,19 @@ names_solid [] f = tt
 names_solid (n ∷ ns) f = (refl, solid_append (flat_map byte_text n) (flat_map name_text ns) (plain_solid (flat_map byte_text n) (name_plain n f.0)) (names_solid ns f.1))
 
 -- a path's text is read again, whatever follows that ends a word
-pub path_back : (p : Path) (rest : List ℕ) → IsGoodPath p → EndsWord rest → PathWord (path_text p ++ rest) p rest
-path_back p rest good ends =
+pub path_back : (p : Path) (rest : List ℕ) → IsValidPath p → EndsWord rest → PathWord (path_text p ++ rest) p rest
+path_back p rest valid ends =
     record {
       word = path_text p;
-      stands = record { parts = refl; solid = (refl, names_solid p (path_free p good)); ends = ends };
-      spelled = record { names = flat_map name_text p; dot = refl; each = names_back p (path_free p good); good = good };
+      stands = record { parts = refl; solid = (refl, names_solid p (path_free p valid)); ends = ends };
+      spelled = record { names = flat_map name_text p; dot = refl; each = names_back p (path_free p valid); valid = valid };
     }
 
 -- ---- primitives
 
-single_back : (word : List ℕ) (p : Path) (rest : List ℕ) → AllByRecursion (λ b. is_white b ≡ false) word → IsGoodPath p → EndsWord rest → WordAndPath word (word ++ 32 ∷ (path_text p ++ rest)) p rest
-single_back word p rest solid good ends =
-    record { after = 32 ∷ (path_text p ++ rest); named = record { parts = refl; solid = solid; ends = refl }; path = path_back p rest good ends }
+single_back : (word : List ℕ) (p : Path) (rest : List ℕ) → AllByRecursion (λ b. is_white b ≡ false) word → IsValidPath p → EndsWord rest → WordAndPath word (word ++ 32 ∷ (path_text p ++ rest)) p rest
+single_back word p rest solid valid ends =
+    record { after = 32 ∷ (path_text p ++ rest); named = record { parts = refl; solid = solid; ends = refl }; path = path_back p rest valid ends }
 
 lines_back : (b : ℕ) (lines : List (List ℕ)) (rest : List ℕ) → AllByRecursion NoNewline lines → Many (MarkedLine b) (lines_text b lines ++ rest) lines rest
 lines_back b [] rest f = refl
@@ -112,14 +112,14 @@ digits_skipped (d ∷ ds) rest some f = skipped_solid d (ds ++ rest) f.0.0
 no_numeral : (n : ℕ) (ds : List ℕ) → 1 ≤ n → Numeral n ds → ds ≡ [] → ⊥
 no_numeral n ds low h e = omega (arith, h.value, ap (number_from 0) e)
 
-hunk_back : (n : ℕ) (old new : List (List ℕ)) (rest : List ℕ) → IsGoodWork (Hunk n old new) → NoLine rest → HunkBody (32 ∷ (decimal n ++ 10 ∷ (lines_text 45 old ++ (lines_text 43 new ++ rest)))) n old new rest
-hunk_back n old new rest good none =
-    let d = decimal_numeral n (omega (arith, good.0.1)) in
+hunk_back : (n : ℕ) (old new : List (List ℕ)) (rest : List ℕ) → IsValidWork (Hunk n old new) → NoLine rest → HunkBody (32 ∷ (decimal n ++ 10 ∷ (lines_text 45 old ++ (lines_text 43 new ++ rest)))) n old new rest
+hunk_back n old new rest valid none =
+    let d = decimal_numeral n (omega (arith, valid.0.1)) in
     let tail = lines_text 45 old ++ (lines_text 43 new ++ rest) in
-    let skips : skipped (decimal n ++ 10 ∷ tail) ≡ decimal n ++ 10 ∷ tail = digits_skipped (decimal n) (10 ∷ tail) (no_numeral n (decimal n) good.0.0 d) (digits_plain (decimal n) d.each) in
+    let skips : skipped (decimal n ++ 10 ∷ tail) ≡ decimal n ++ 10 ∷ tail = digits_skipped (decimal n) (10 ∷ tail) (no_numeral n (decimal n) valid.0.0 d) (digits_plain (decimal n) d.each) in
     record {
       lines = tail;
-      number_read = subst (λ (t : List ℕ). NumberLine t n tail) (sym skips) (number_back n tail good.0.0 good.0.1);
+      number_read = subst (λ (t : List ℕ). NumberLine t n tail) (sym skips) (number_back n tail valid.0.0 valid.0.1);
       lines_read = record {
         above = [];
         olds = tail;
@@ -127,10 +127,10 @@ hunk_back n old new rest good none =
         last = rest;
         below = [];
         above_read = record { read = refl; ends = other_front 32 45 old (lines_text 43 new ++ rest) (λ e. omega (arith, e)) (other_front 32 43 new rest (λ e. omega (arith, e)) none.space) };
-        old_read = record { read = lines_back 45 old (lines_text 43 new ++ rest) (free_lines old good.2); ends = other_front 45 43 new rest (λ e. omega (arith, e)) none.old };
-        new_read = record { read = lines_back 43 new rest (free_lines new good.3); ends = none.new };
+        old_read = record { read = lines_back 45 old (lines_text 43 new ++ rest) (free_lines old valid.2); ends = other_front 45 43 new rest (λ e. omega (arith, e)) none.old };
+        new_read = record { read = lines_back 43 new rest (free_lines new valid.3); ends = none.new };
         below_read = record { read = refl; ends = none.space };
-        some = some_lines old new good.1;
+        some = some_lines old new valid.1;
       };
     }
 
@@ -146,28 +146,28 @@ joined_patch a b c d = simp append_assoc refl
 joined_move : (a b e : List ℕ) → (a ++ 32 ∷ (b ++ 10 ∷ [])) ++ e ≡ a ++ 32 ∷ (b ++ 10 ∷ e)
 joined_move a b e = simp append_assoc refl
 
-pub prim_back : (p : Prim) (rest : List ℕ) → IsGoodPrim p → NoLine rest → ReadsPrim (prim_text p ++ rest) p rest
-prim_back (At p AddFile) rest good none =
-    record { after = 10 ∷ rest; read = subst (λ (t : List ℕ). WordAndPath (codes "addfile") (codes "addfile" ++ 32 ∷ t) p (10 ∷ rest)) (sym (append_assoc (path_text p) (10 ∷ []) rest)) (single_back (codes "addfile") p (10 ∷ rest) (refl, (refl, (refl, (refl, (refl, (refl, (refl, tt))))))) good.0 refl); left = refl }
-prim_back (At p RmFile) rest good none =
-    record { after = 10 ∷ rest; read = subst (λ (t : List ℕ). WordAndPath (codes "rmfile") (codes "rmfile" ++ 32 ∷ t) p (10 ∷ rest)) (sym (append_assoc (path_text p) (10 ∷ []) rest)) (single_back (codes "rmfile") p (10 ∷ rest) (refl, (refl, (refl, (refl, (refl, (refl, tt)))))) good.0 refl); left = refl }
-prim_back (At p AddDir) rest good none =
-    record { after = 10 ∷ rest; read = subst (λ (t : List ℕ). WordAndPath (codes "adddir") (codes "adddir" ++ 32 ∷ t) p (10 ∷ rest)) (sym (append_assoc (path_text p) (10 ∷ []) rest)) (single_back (codes "adddir") p (10 ∷ rest) (refl, (refl, (refl, (refl, (refl, (refl, tt)))))) good.0 refl); left = refl }
-prim_back (At p RmDir) rest good none =
-    record { after = 10 ∷ rest; read = subst (λ (t : List ℕ). WordAndPath (codes "rmdir") (codes "rmdir" ++ 32 ∷ t) p (10 ∷ rest)) (sym (append_assoc (path_text p) (10 ∷ []) rest)) (single_back (codes "rmdir") p (10 ∷ rest) (refl, (refl, (refl, (refl, (refl, tt))))) good.0 refl); left = refl }
-prim_back (At p (Hunk n old new)) rest good none =
+pub prim_back : (p : Prim) (rest : List ℕ) → IsValidPrim p → NoLine rest → ReadsPrim (prim_text p ++ rest) p rest
+prim_back (At p AddFile) rest valid none =
+    record { after = 10 ∷ rest; read = subst (λ (t : List ℕ). WordAndPath (codes "addfile") (codes "addfile" ++ 32 ∷ t) p (10 ∷ rest)) (sym (append_assoc (path_text p) (10 ∷ []) rest)) (single_back (codes "addfile") p (10 ∷ rest) (refl, (refl, (refl, (refl, (refl, (refl, (refl, tt))))))) valid.0 refl); left = refl }
+prim_back (At p RmFile) rest valid none =
+    record { after = 10 ∷ rest; read = subst (λ (t : List ℕ). WordAndPath (codes "rmfile") (codes "rmfile" ++ 32 ∷ t) p (10 ∷ rest)) (sym (append_assoc (path_text p) (10 ∷ []) rest)) (single_back (codes "rmfile") p (10 ∷ rest) (refl, (refl, (refl, (refl, (refl, (refl, tt)))))) valid.0 refl); left = refl }
+prim_back (At p AddDir) rest valid none =
+    record { after = 10 ∷ rest; read = subst (λ (t : List ℕ). WordAndPath (codes "adddir") (codes "adddir" ++ 32 ∷ t) p (10 ∷ rest)) (sym (append_assoc (path_text p) (10 ∷ []) rest)) (single_back (codes "adddir") p (10 ∷ rest) (refl, (refl, (refl, (refl, (refl, (refl, tt)))))) valid.0 refl); left = refl }
+prim_back (At p RmDir) rest valid none =
+    record { after = 10 ∷ rest; read = subst (λ (t : List ℕ). WordAndPath (codes "rmdir") (codes "rmdir" ++ 32 ∷ t) p (10 ∷ rest)) (sym (append_assoc (path_text p) (10 ∷ []) rest)) (single_back (codes "rmdir") p (10 ∷ rest) (refl, (refl, (refl, (refl, (refl, tt))))) valid.0 refl); left = refl }
+prim_back (At p (Hunk n old new)) rest valid none =
     let tail = lines_text 45 old ++ (lines_text 43 new ++ rest) in
     record {
       after = rest;
       read = subst (λ (t : List ℕ). HunkText (codes "hunk" ++ 32 ∷ t) p n old new rest) (sym (joined_hunk (path_text p) (decimal n) (lines_text 45 old) (lines_text 43 new) rest))
-          (record { mid = 32 ∷ (decimal n ++ 10 ∷ tail); first = single_back (codes "hunk") p (32 ∷ (decimal n ++ 10 ∷ tail)) (refl, (refl, (refl, (refl, tt)))) good.0 refl; body = hunk_back n old new rest good.1 none });
+          (record { mid = 32 ∷ (decimal n ++ 10 ∷ tail); first = single_back (codes "hunk") p (32 ∷ (decimal n ++ 10 ∷ tail)) (refl, (refl, (refl, (refl, tt)))) valid.0 refl; body = hunk_back n old new rest valid.1 none });
       left = refl;
     }
-prim_back (Move p q) rest good none =
+prim_back (Move p q) rest valid none =
     record {
       after = 10 ∷ rest;
       read = subst (λ (t : List ℕ). WordAndPaths (codes "move") (codes "move" ++ 32 ∷ t) p q (10 ∷ rest)) (sym (joined_move (path_text p) (path_text q) rest))
-          (record { mid = 32 ∷ (path_text q ++ 10 ∷ rest); first = single_back (codes "move") p (32 ∷ (path_text q ++ 10 ∷ rest)) (refl, (refl, (refl, (refl, tt)))) good.0 refl; second = path_back q (10 ∷ rest) good.1 refl });
+          (record { mid = 32 ∷ (path_text q ++ 10 ∷ rest); first = single_back (codes "move") p (32 ∷ (path_text q ++ 10 ∷ rest)) (refl, (refl, (refl, (refl, tt)))) valid.0 refl; second = path_back q (10 ∷ rest) valid.1 refl });
       left = refl;
     }
 
@@ -220,12 +220,12 @@ prims_skip : (t u : List ℕ) (ps : List Prim) (rest : List ℕ) → skipped t �
 prims_skip t u [] rest e r = record { mid = u; read = refl; left = sym e ∙ (ap skipped r.read ∙ r.left) }
 prims_skip t u (p ∷ ps) rest e r = record { mid = r.mid; read = (r.read.0, subst (λ (s : List ℕ). PrimText s p r.read.0) e r.read.1, r.read.2); left = r.left }
 
-pub prims_back : (ps : List Prim) (rest : List ℕ) → AllByRecursion IsGoodPrim ps → NoLine rest → ReadsAll (flat_map prim_text ps ++ rest) ps rest
-prims_back [] rest good none = record { mid = rest; read = refl; left = refl }
-prims_back (p ∷ ps) rest good none =
+pub prims_back : (ps : List Prim) (rest : List ℕ) → AllByRecursion IsValidPrim ps → NoLine rest → ReadsAll (flat_map prim_text ps ++ rest) ps rest
+prims_back [] rest valid none = record { mid = rest; read = refl; left = refl }
+prims_back (p ∷ ps) rest valid none =
     let tail = flat_map prim_text ps ++ rest in
-    let one = prim_back p tail good.0 (no_line_prims ps rest none) in
-    let more = prims_skip tail one.after ps rest (sym one.left) (prims_back ps rest good.1 none) in
+    let one = prim_back p tail valid.0 (no_line_prims ps rest none) in
+    let more = prims_skip tail one.after ps rest (sym one.left) (prims_back ps rest valid.1 none) in
     let whole : prim_text p ++ tail ≡ (prim_text p ++ flat_map prim_text ps) ++ rest = sym (append_assoc (prim_text p) (flat_map prim_text ps) rest) in
     let first = subst (λ (t : List ℕ). PrimText t p one.after) (sym (skipped_prim p tail)) one.read in
     record { mid = more.mid; read = (one.after, subst (λ (t : List ℕ). PrimText (skipped t) p one.after) whole first, more.read); left = more.left }
@@ -242,11 +242,11 @@ infos_skip t u [] rest e r = record { mid = u; read = refl; left = sym e ∙ (ap
 infos_skip t u (i ∷ is) rest e r = record { mid = r.mid; read = (r.read.0, subst (λ (s : List ℕ). Stands s i r.read.0) e r.read.1, r.read.2); left = r.left }
 
 pub infos_back : (is : List PatchInfo) (rest : List ℕ) → AllByRecursion IsInfo is → ReadsInfos (flat_map info_line is ++ rest) is rest
-infos_back [] rest good = record { mid = rest; read = refl; left = refl }
-infos_back (i ∷ is) rest good =
+infos_back [] rest valid = record { mid = rest; read = refl; left = refl }
+infos_back (i ∷ is) rest valid =
     let tail = flat_map info_line is ++ rest in
-    let one = canonical_stands i (10 ∷ tail) good.0 in
-    let more = infos_skip tail (32 ∷ 10 ∷ tail) is rest refl (infos_back is rest good.1) in
+    let one = canonical_stands i (10 ∷ tail) valid.0 in
+    let more = infos_skip tail (32 ∷ 10 ∷ tail) is rest refl (infos_back is rest valid.1) in
     let whole : canonical i ++ 10 ∷ tail ≡ ((canonical i ++ 10 ∷ []) ++ flat_map info_line is) ++ rest = joined_info (canonical i) (flat_map info_line is) rest in
     record { mid = more.mid; read = (32 ∷ 10 ∷ tail, subst (λ (t : List ℕ). Stands (skipped t) i (32 ∷ 10 ∷ tail)) whole one, more.read); left = more.left }
 
@@ -256,11 +256,11 @@ pub record ReadsDeps (text : List ℕ) (ds : List PatchInfo) (rest : List ℕ) :
   pub left : skipped after ≡ skipped rest
 
 deps_back : (ds : List PatchInfo) (rest : List ℕ) → AllByRecursion IsInfo ds → (Begins 60 (skipped rest) → ⊥) → ReadsDeps (32 ∷ (deps_text ds ++ rest)) ds rest
-deps_back [] rest good none = record { after = 32 ∷ rest; read = inr (none, refl, refl); left = refl }
-deps_back (d ∷ ds) rest good none =
+deps_back [] rest valid none = record { after = 32 ∷ rest; read = inr (none, refl, refl); left = refl }
+deps_back (d ∷ ds) rest valid none =
     let inner = flat_map info_line (d ∷ ds) in
     let tail = 62 ∷ 32 ∷ rest in
-    let r = infos_skip (inner ++ tail) (10 ∷ (inner ++ tail)) (d ∷ ds) tail refl (infos_back (d ∷ ds) tail good) in
+    let r = infos_skip (inner ++ tail) (10 ∷ (inner ++ tail)) (d ∷ ds) tail refl (infos_back (d ∷ ds) tail valid) in
     let whole : inner ++ tail ≡ (inner ++ codes "> ") ++ rest = sym (append_assoc inner (codes "> ") rest) in
     record {
       after = 32 ∷ rest;
@@ -278,11 +278,11 @@ pub record ReadsBody (text : List ℕ) (ps : List Prim) (rest : List ℕ) : Type
 brace_line : (rest : List ℕ) → NoLine (125 ∷ rest)
 brace_line rest = record { space = λ o. absurd (omega (arith, front_same 125 32 rest o.0 o.1)); old = λ o. absurd (omega (arith, front_same 125 45 rest o.0 o.1)); new = λ o. absurd (omega (arith, front_same 125 43 rest o.0 o.1)) }
 
-in_braces_back : (t : List ℕ) (ps : List Prim) (rest : List ℕ) → AllByRecursion IsGoodPrim ps → skipped t ≡ skipped ((codes "{\n" ++ (flat_map prim_text ps ++ codes "}\n")) ++ rest) → ReadsBody t ps rest
-in_braces_back t ps rest good e =
+in_braces_back : (t : List ℕ) (ps : List Prim) (rest : List ℕ) → AllByRecursion IsValidPrim ps → skipped t ≡ skipped ((codes "{\n" ++ (flat_map prim_text ps ++ codes "}\n")) ++ rest) → ReadsBody t ps rest
+in_braces_back t ps rest valid e =
     let inner = flat_map prim_text ps in
     let tail = 125 ∷ 10 ∷ rest in
-    let r = prims_skip (inner ++ tail) (10 ∷ (inner ++ tail)) ps tail refl (prims_back ps tail good (brace_line (10 ∷ rest))) in
+    let r = prims_skip (inner ++ tail) (10 ∷ (inner ++ tail)) ps tail refl (prims_back ps tail valid (brace_line (10 ∷ rest))) in
     let whole : (inner ++ codes "}\n") ++ rest ≡ inner ++ tail = append_assoc inner (codes "}\n") rest in
     record {
       after = 10 ∷ rest;
@@ -290,11 +290,11 @@ in_braces_back t ps rest good e =
       left = refl;
     }
 
-pub body_back : (t : List ℕ) (ps : List Prim) (rest : List ℕ) → AllByRecursion IsGoodPrim ps → NoLine rest → RunEnds (skipped rest) → skipped t ≡ skipped (body_text ps ++ rest) → ReadsBody t ps rest
-body_back t [] rest good none ends e = in_braces_back t [] rest good e
-body_back t (p ∷ q ∷ ps) rest good none ends e = in_braces_back t (p ∷ q ∷ ps) rest good e
-body_back t (p ∷ []) rest good none ends e =
-    let one = prim_back p rest good.0 none in
+pub body_back : (t : List ℕ) (ps : List Prim) (rest : List ℕ) → AllByRecursion IsValidPrim ps → NoLine rest → RunEnds (skipped rest) → skipped t ≡ skipped (body_text ps ++ rest) → ReadsBody t ps rest
+body_back t [] rest valid none ends e = in_braces_back t [] rest valid e
+body_back t (p ∷ q ∷ ps) rest valid none ends e = in_braces_back t (p ∷ q ∷ ps) rest valid e
+body_back t (p ∷ []) rest valid none ends e =
+    let one = prim_back p rest valid.0 none in
     let same : prim_text p ++ rest ≡ skipped t = sym (skipped_prim p rest) ∙ sym e in
     record {
       after = one.after;
@@ -311,11 +311,11 @@ no_angle [] rest o = omega (arith, front_same 123 60 _ o.0 o.1)
 no_angle (p ∷ q ∷ ps) rest o = omega (arith, front_same 123 60 _ o.0 o.1)
 no_angle (p ∷ []) rest o = not_letter 60 (skipped (prim_text p ++ rest)) (subst Lettered (sym (skipped_prim p rest)) (lettered p rest)) (inl (omega arith)) o
 
-pub patch_back : (p : Patch) (rest : List ℕ) → IsGoodPatch p → NoLine rest → RunEnds (skipped rest) → ReadsPatch (patch_text p ++ rest) p rest
-patch_back p rest good none ends =
+pub patch_back : (p : Patch) (rest : List ℕ) → IsValidPatch p → NoLine rest → RunEnds (skipped rest) → ReadsPatch (patch_text p ++ rest) p rest
+patch_back p rest valid none ends =
     let body = body_text p.prims ++ rest in
-    let info = canonical_stands p.info (deps_text p.deps ++ body) good.info in
-    let deps = deps_back p.deps body good.deps (no_angle p.prims rest) in
-    let b = body_back deps.after p.prims rest good.prims none ends deps.left in
+    let info = canonical_stands p.info (deps_text p.deps ++ body) valid.info in
+    let deps = deps_back p.deps body valid.deps (no_angle p.prims rest) in
+    let b = body_back deps.after p.prims rest valid.prims none ends deps.left in
     let whole : canonical p.info ++ (deps_text p.deps ++ body) ≡ (canonical p.info ++ (deps_text p.deps ++ body_text p.prims)) ++ rest = joined_patch (canonical p.info) (deps_text p.deps) (body_text p.prims) rest in
     record { after = b.after; read = record { after = 32 ∷ (deps_text p.deps ++ body); body = deps.after; info = subst (λ (t : List ℕ). Stands t p.info (32 ∷ (deps_text p.deps ++ body))) whole info; deps = deps.read; prims = b.read }; left = b.left }

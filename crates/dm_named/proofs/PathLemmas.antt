@@ -6,10 +6,10 @@ use Rattle.std.proofs.lemmas.List.{take-append-drop, drop_more}
 use Rattle.memchr.specs.Find.{IsFirstByte, is_byte}
 use Rattle.dm_info.proofs.Cuts.{cut_found, cut_takes, byte_is, false_is}
 use Rattle.dm_tree.specs.Paths.{Path}
-use Rattle.dm_tree.specs.Validity.{IsGoodPath, is_bad_name, names_fault}
+use Rattle.dm_tree.specs.Validity.{IsValidPath, is_bad_name, names_fault}
 use Rattle.dm_tree.specs.declared.fault.PathFault.{PathFault}
 use Rattle.dm_tree.specs.declared.fault.PathFault.TheVariants.{BadName, TooLong}
-use Rattle.dm_tree.proofs.ValidityLemmas.{good_parts, names_right}
+use Rattle.dm_tree.proofs.ValidityLemmas.{valid_parts, names_right}
 use Rattle.dm_named.specs.Words.{skipped, Word}
 use Rattle.dm_named.specs.Many.{Many}
 use Rattle.dm_named.specs.Paths.{NoSlash, EndsPiece, Piece, SlashName, IsNameText, IsPathText, PathWord}
@@ -87,22 +87,22 @@ not_long false true f h = cc
 not_long false false f h = refl
 
 -- a path with a name of more than 255 bytes is none
-long_none : (front : Path) (n : List ℕ) (more : Path) → 255 < length n → IsGoodPath (front ++ n ∷ more) → ⊥
-long_none front n more long good =
-    let named = names_right front (n ∷ more) (good_parts (front ++ n ∷ more) good).named in
+long_none : (front : Path) (n : List ℕ) (more : Path) → 255 < length n → IsValidPath (front ++ n ∷ more) → ⊥
+long_none front n more long valid =
+    let named = names_right front (n ∷ more) (valid_parts (front ++ n ∷ more) valid).named in
     let short : nat_lt 255 (length n) ≡ false = not_long (is_bad_name n) (nat_lt 255 (length n)) (names_fault more) named in
     let le : length n ≤ 255 = grind (arith, nat_tests, short) in
     omega (arith, le, long)
 
-stuck : (front : Path) (mid : List ℕ) (more : Path) → (length mid ≡ 0 → ⊥) → ((name rest : List ℕ) → SlashName mid name rest → 255 < length name) → Many SlashName mid more [] → IsGoodPath (front ++ more) → ⊥
-stuck front mid [] some long r good = some (ap length r)
-stuck front mid (n ∷ more) some long r good = long_none front n more (long n r.0 r.1) good
+stuck : (front : Path) (mid : List ℕ) (more : Path) → (length mid ≡ 0 → ⊥) → ((name rest : List ℕ) → SlashName mid name rest → 255 < length name) → Many SlashName mid more [] → IsValidPath (front ++ more) → ⊥
+stuck front mid [] some long r valid = some (ap length r)
+stuck front mid (n ∷ more) some long r valid = long_none front n more (long n r.0 r.1) valid
 
 -- where a name that is too long, or none, stands after some names, they go on to no path
-pub no_names : (text : List ℕ) (ns : Path) (mid : List ℕ) → Many SlashName text ns mid → (length mid ≡ 0 → ⊥) → ((name rest : List ℕ) → SlashName mid name rest → 255 < length name) → (ms : Path) → Many SlashName text ms [] → IsGoodPath ms → ⊥
-no_names text ns mid r some long ms s good =
+pub no_names : (text : List ℕ) (ns : Path) (mid : List ℕ) → Many SlashName text ns mid → (length mid ≡ 0 → ⊥) → ((name rest : List ℕ) → SlashName mid name rest → 255 < length name) → (ms : Path) → Many SlashName text ms [] → IsValidPath ms → ⊥
+no_names text ns mid r some long ms s valid =
     let m = many_follows SlashName one_name_at text ns ms mid [] r s closed_end in
-    stuck ns mid m.0 some long m.2 (subst IsGoodPath m.1 good)
+    stuck ns mid m.0 some long m.2 (subst IsValidPath m.1 valid)
 
 some_more : (mid : List ℕ) (more : Path) → (length mid ≡ 0 → ⊥) → Many SlashName mid more [] → 0 < length more
 some_more mid [] some r = absurd (some (ap length r))

@@ -1,4 +1,4 @@
--- The words in the place of a primitive.
+-- The words where a primitive may begin. Only clauses of private functions and fields of private types cite these.
 use Rattle.std.specs.Prelude.{◌≡◌, ℕ, List, codes}
 use Rattle.dm_named.specs.Words.{Among}
 use Rattle.dm_named.specs.Patches.{prim_words, unsupported_words}
@@ -16,7 +16,7 @@ word_of prim.RmDir = codes "rmdir"
 word_of prim.Move = codes "move"
 word_of prim.Hunk = codes "hunk"
 
--- what a word in the place of a primitive is
+-- what a word is where a primitive may begin
 abbrev pub IsBodyWord : List ℕ → BodyWord → Type 0
 IsBodyWord word (body.Prim w) = word ≡ word_of w
 IsBodyWord word body.Unsupported = Among unsupported_words word × (Among prim_words word → ⊥)

@@ -9,7 +9,7 @@ use Rattle.dm_prim.specs.Primitives.{Work, Prim, AddFile, RmFile, AddDir, RmDir,
 use Rattle.dm_named.specs.Words.{is_white}
 use Rattle.dm_named.specs.Patches.{Patch}
 
--- a byte of a name: white space and the backslash are escaped
+-- a byte of a name; white space and the backslash are escaped
 abbrev pub byte_text : ℕ → List ℕ
 byte_text b = if is_white b || b == 92 then 92 ∷ (decimal b ++ 92 ∷ []) else b ∷ []
 
@@ -21,7 +21,7 @@ name_text n = 47 ∷ flat_map byte_text n
 abbrev pub path_text : Path → List ℕ
 path_text p = 46 ∷ flat_map name_text p
 
--- lines, each after this byte and before a newline
+-- lines, each with this byte before it and a newline after it
 abbrev pub lines_text : ℕ → List (List ℕ) → List ℕ
 lines_text b lines = flat_map (λ l. b ∷ (l ++ 10 ∷ [])) lines
 
@@ -33,7 +33,7 @@ work_word AddDir = codes "adddir "
 work_word RmDir = codes "rmdir "
 work_word (Hunk n old new) = codes "hunk "
 
--- what follows the path: a hunk has its number and its lines, without lines for people
+-- what follows the path: for a hunk its number and its lines, without lines for people; for the others a newline
 abbrev pub work_text : Work → List ℕ
 work_text (Hunk n old new) = 32 ∷ (decimal n ++ 10 ∷ (lines_text 45 old ++ lines_text 43 new))
 work_text w = 10 ∷ []
@@ -43,7 +43,7 @@ abbrev pub prim_text : Prim → List ℕ
 prim_text (At p w) = work_word w ++ (path_text p ++ work_text w)
 prim_text (Move p q) = codes "move " ++ (path_text p ++ 32 ∷ (path_text q ++ 10 ∷ []))
 
--- a patch info on a line of its own, with the space after it
+-- a patch info (its text ends with a space) and a newline
 abbrev pub info_line : PatchInfo → List ℕ
 info_line i = canonical i ++ 10 ∷ []
 

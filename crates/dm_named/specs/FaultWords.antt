@@ -1,7 +1,8 @@
 -- The printed words of the faults.
 use Rattle.std.specs.Prelude.{ℕ, List, codes}
 use Rattle.dm_named.specs.declared.fault.FaultKind.{FaultKind}
-use Rattle.dm_named.specs.declared.fault.FaultKind.TheVariants.{TooLarge, NoNewPatches, BadInfo, Inverted, BadDepends, BadPatch, Unsupported, BadPath, BadNumber, EmptyHunk, Unclosed, NoContext, Doubled, TooMany, NoMemory}
+use Rattle.dm_named.specs.declared.fault.FaultKind.TheVariants.{TooLarge, NoNewPatches, BadInfo, Inverted, BadDepends, BadPatch, Unsupported, BadPath}
+use Rattle.dm_named.specs.declared.fault.FaultKind.TheVariants.{BadNumber, EmptyHunk, Unclosed, NoContext, Doubled, TooMany, NoMemory}
 
 -- the printed word of a fault
 abbrev pub fault_word : FaultKind → List ℕ

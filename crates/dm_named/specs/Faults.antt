@@ -1,4 +1,6 @@
--- What can be wrong with a named patch's text, and where. `F kind text here` says: the part that is due at the front of the text fails in this way, and `here` is the text from the fault's place on. All before the place is accounted for by the parts that stand there. Memory may run out anywhere.
+-- What can be wrong with a named patch's text, and where. `F kind text here` says: the part that is due at the front of the text
+-- fails in this way, and `here` is the text from the fault's place on. The text before the place is that of the parts that are due
+-- there. Memory may run out anywhere.
 use Rattle.std.specs.Prelude.{◌≡◌, ◌≢◌, ◌≤◌, ◌<◌, ◌⊎◌, ℕ, List, [], length, codes}
 use Rattle.dm_info.specs.PatchInfo.{PatchInfo}
 use Rattle.dm_info.specs.Spelling.{open_bracket, Stands, NoneStands, StandsInverted}
@@ -13,15 +15,16 @@ use Rattle.dm_info.specs.declared.fault.InfoReadFault.TheVariants as in_info
 use Rattle.dm_named.specs.declared.reading.names.NameFault.{NameFault}
 use Rattle.dm_named.specs.declared.reading.names.NameFault.TheVariants as in_name
 use Rattle.dm_named.specs.declared.fault.FaultKind.{FaultKind}
-use Rattle.dm_named.specs.declared.fault.FaultKind.TheVariants.{BadInfo, Inverted, BadDepends, BadPatch, Unsupported, BadPath, BadNumber, EmptyHunk, Unclosed, TooMany, NoMemory}
+use Rattle.dm_named.specs.declared.fault.FaultKind.TheVariants.{BadInfo, Inverted, BadDepends, BadPatch, Unsupported, BadPath}
+use Rattle.dm_named.specs.declared.fault.FaultKind.TheVariants.{BadNumber, EmptyHunk, Unclosed, TooMany, NoMemory}
 
--- what a fault of reading a patch info is here
+-- the kind of a fault in a patch info
 abbrev pub kind_of_info : InfoReadFault → FaultKind
 kind_of_info in_info.BadInfo = BadInfo
 kind_of_info in_info.Inverted = Inverted
 kind_of_info in_info.NoMemory = NoMemory
 
--- what a fault of reading a path's names is here
+-- the kind of a fault in a path's names
 abbrev pub kind_of_name : NameFault → FaultKind
 kind_of_name in_name.BadPath = BadPath
 kind_of_name in_name.NoMemory = NoMemory
@@ -57,13 +60,13 @@ HunkFaultAt EmptyHunk hunk text here = (here ≡ hunk) × NoChange text
 HunkFaultAt NoMemory hunk text here = Unit {0}
 HunkFaultAt _ hunk text here = ⊥
 
--- where a primitive's word stands: in its path, in a move's second path, or after a hunk's path
+-- where a primitive's word stands: a fault in its path, in a move's second path, or after a hunk's path
 pub data PrimFaultAt (kind : FaultKind) (text here : List ℕ) : Type 0 where
   path : (stands : WordAmong prim_words text) → PathFaultAt kind stands.rest here → PrimFaultAt kind text here
   second : (p : Path) (mid : List ℕ) → WordAndPath (codes "move") text p mid → PathFaultAt kind mid here → PrimFaultAt kind text here
   hunk : (p : Path) (mid : List ℕ) → WordAndPath (codes "hunk") text p mid → HunkFaultAt kind text mid here → PrimFaultAt kind text here
 
--- after so many primitives the next one is one too many
+-- after so many primitives, the next one is one too many
 abbrev pub CountFaultAt : FaultKind → ℕ → List ℕ → List ℕ → Type 0
 CountFaultAt TooMany count text here = (here ≡ text) × (count ≡ 10000) × WordAmong prim_words text
 CountFaultAt NoMemory count text here = Unit {0}
@@ -86,7 +89,7 @@ abbrev pub DependsFaultAt : FaultKind → List ℕ → List ℕ → Type 0
 DependsFaultAt BadDepends text here = (here ≡ text) × (Begins open_bracket text → ⊥) × (Begins 62 text → ⊥)
 DependsFaultAt _ text here = ⊥
 
--- after primitives, not too many, something is wrong
+-- after primitives, of which there are not too many, something is wrong
 pub record AfterPrims (Wrong : ℕ → List ℕ → List ℕ → Type 0) (text here : List ℕ) : Type 0 where
   pub prims : List Prim
   pub mid : List ℕ
@@ -94,16 +97,18 @@ pub record AfterPrims (Wrong : ℕ → List ℕ → List ℕ → Type 0) (text h
   pub few : length prims ≤ 10000
   pub wrong : Wrong (length prims) (skipped mid) here
 
--- one of the primitives: it is one too many, or it isn't and is at fault
+-- one of the primitives: it is one too many, or there is a fault in it
 abbrev pub PrimsFaultAt : FaultKind → List ℕ → List ℕ → Type 0
-PrimsFaultAt kind text here = AfterPrims (λ count next place. CountFaultAt kind count next place ⊎ ((count < 10000) × PrimFaultAt kind next place)) text here
+PrimsFaultAt kind text here =
+    AfterPrims (λ count next place. CountFaultAt kind count next place ⊎ ((count < 10000) × PrimFaultAt kind next place)) text here
 
--- the body: one of its primitives, or what stands after them
+-- the body: a fault in one of its primitives, or in what follows them
 pub data BodyFaultAt (kind : FaultKind) (text here : List ℕ) : Type 0 where
-  in_braces : (inside : List ℕ) → NextByte 123 text inside → PrimsFaultAt kind inside here ⊎ AfterPrims (λ _. BraceFaultAt kind) inside here → BodyFaultAt kind text here
+  in_braces : (inside : List ℕ) → NextByte 123 text inside → PrimsFaultAt kind inside here ⊎ AfterPrims (λ _. BraceFaultAt kind) inside here
+      → BodyFaultAt kind text here
   in_run : (Begins 123 (skipped text) → ⊥) → PrimsFaultAt kind text here ⊎ AfterPrims (λ _. RunFaultAt kind) text here → BodyFaultAt kind text here
 
--- after patch infos the next one is at fault
+-- after patch infos, there is a fault in the next one
 pub record InfosFaultAt (kind : FaultKind) (text here : List ℕ) : Type 0 where
   pub infos : List PatchInfo
   pub mid : List ℕ
@@ -111,26 +116,27 @@ pub record InfosFaultAt (kind : FaultKind) (text here : List ℕ) : Type 0 where
   pub opens : Begins open_bracket (skipped mid)
   pub wrong : InfoFaultAt kind (skipped mid) here
 
--- after patch infos the angle bracket isn't closed
+-- after patch infos, the angle bracket isn't closed
 pub record OpenFaultAt (kind : FaultKind) (text here : List ℕ) : Type 0 where
   pub infos : List PatchInfo
   pub mid : List ℕ
   pub read : Many NextInfo text infos mid
   pub wrong : DependsFaultAt kind (skipped mid) here
 
--- the dependencies
+-- the dependencies: a fault in one of them, or in what follows them
 pub record DepsFaultAt (kind : FaultKind) (text here : List ℕ) : Type 0 where
   pub inside : List ℕ
   pub opens : NextByte 60 text inside
   pub wrong : InfosFaultAt kind inside here ⊎ OpenFaultAt kind inside here
 
--- a named patch: its patch info, its dependencies or its body
+-- a named patch: a fault in its patch info, its dependencies or its body
 pub data PatchFaultAt (kind : FaultKind) (text here : List ℕ) : Type 0 where
   info : InfoFaultAt kind text here → PatchFaultAt kind text here
   deps : (i : PatchInfo) (after : List ℕ) → Stands text i after → DepsFaultAt kind after here → PatchFaultAt kind text here
-  body : (i : PatchInfo) (ds : List PatchInfo) (after body : List ℕ) → Stands text i after → Dependencies after ds body → BodyFaultAt kind body here → PatchFaultAt kind text here
+  body : (i : PatchInfo) (ds : List PatchInfo) (after body : List ℕ) → Stands text i after → Dependencies after ds body → BodyFaultAt kind body here
+      → PatchFaultAt kind text here
 
--- a fault of this kind says that no named patch stands there: out of memory and the count of primitives don't
+-- a fault of this kind says that no named patch stands there: out of memory and too many primitives don't
 pub record ExcludesPatch (kind : FaultKind) : Type 0 where
   pub memory : kind ≢ NoMemory
   pub count : kind ≢ TooMany

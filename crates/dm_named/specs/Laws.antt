@@ -1,30 +1,30 @@
 -- Laws of the text of paths, primitives and named patches, and of patches that start at one state.
 use Rattle.std.specs.Prelude.{◌≡◌, ◌≢◌, ◌≤◌, ℕ, List, ◌++◌, length}
 use Rattle.dm_tree.specs.Paths.{Path}
-use Rattle.dm_tree.specs.Validity.{IsGoodPath}
+use Rattle.dm_tree.specs.Validity.{IsValidPath}
 use Rattle.dm_prim.specs.Primitives.{Prim, inv_all}
-use Rattle.dm_prim.specs.Commuting.{IsGoodPrim, ListsCommute}
+use Rattle.dm_prim.specs.Commuting.{IsValidPrim, ListsCommute}
 use Rattle.dm_named.specs.Words.{skipped, Begins, EndsWord}
 use Rattle.dm_named.specs.Paths.{PathWord}
-use Rattle.dm_named.specs.Patches.{PrimText, Patch, PatchText, IsGoodPatch, RunEnds}
+use Rattle.dm_named.specs.Patches.{PrimText, Patch, PatchText, IsValidPatch, RunEnds}
 use Rattle.dm_named.specs.Canonical.{path_text, prim_text, patch_text}
 use Rattle.dm_named.specs.Faults.{PatchFaultAt, ExcludesPatch}
 use Rattle.dm_named.specs.declared.fault.FaultKind.{FaultKind}
 use Rattle.dm_named.specs.declared.fault.FaultKind.TheVariants.{NoMemory}
 
--- no line of a hunk goes on there
+-- no further line of a hunk begins here
 pub record NoLine (rest : List ℕ) : Type 0 where
   pub space : Begins 32 rest → ⊥
   pub old : Begins 45 rest → ⊥
   pub new : Begins 43 rest → ⊥
 
--- the primitive stands at the front, and up to white space this is left after it
+-- the primitive stands at the front, and what is left after it is this, apart from white space before it
 pub record ReadsPrim (text : List ℕ) (p : Prim) (rest : List ℕ) : Type 0 where
   pub after : List ℕ
   pub read : PrimText text p after
   pub left : skipped after ≡ skipped rest
 
--- the named patch stands at the front, and up to white space this is left after it
+-- the named patch stands at the front, and what is left after it is this, apart from white space before it
 pub record ReadsPatch (text : List ℕ) (p : Patch) (rest : List ℕ) : Type 0 where
   pub after : List ℕ
   pub read : PatchText text p after
@@ -34,32 +34,36 @@ pub record ReadsPatch (text : List ℕ) (p : Patch) (rest : List ℕ) : Type 0 w
 abbrev pub OnePatch : Type 0
 OnePatch = (text : List ℕ) (p q : Patch) (r s : List ℕ) → PatchText text p r → PatchText text q s → (p ≡ q) × (r ≡ s)
 
--- where a text has a fault that says so, no named patch stands
+-- a text with a fault that says so has no named patch at its front
 abbrev pub FaultExcludesPatch : Type 0
-FaultExcludesPatch = (kind : FaultKind) (text here : List ℕ) → ExcludesPatch kind → PatchFaultAt kind text here → (p : Patch) (r : List ℕ) → PatchText text p r → ⊥
+FaultExcludesPatch = (kind : FaultKind) (text here : List ℕ) → ExcludesPatch kind → PatchFaultAt kind text here →
+    (p : Patch) (r : List ℕ) → PatchText text p r → ⊥
 
--- a text has at most one fault of a named patch, at one place, out of memory apart
+-- a text has at most one fault of a named patch, at one place, apart from out of memory
 abbrev pub OneFault : Type 0
-OneFault = (kind other : FaultKind) (text here there : List ℕ) → kind ≢ NoMemory → other ≢ NoMemory → PatchFaultAt kind text here → PatchFaultAt other text there → (kind ≡ other) × (here ≡ there)
+OneFault = (kind other : FaultKind) (text here there : List ℕ) → kind ≢ NoMemory → other ≢ NoMemory →
+    PatchFaultAt kind text here → PatchFaultAt other text there → (kind ≡ other) × (here ≡ there)
 
--- where a named patch stands, of no more primitives than there may be, only memory may run out
+-- a text with a named patch of at most 10,000 primitives at its front has no fault but out of memory
 abbrev pub NoFaultWithinCount : Type 0
-NoFaultWithinCount = (kind : FaultKind) (text here : List ℕ) → PatchFaultAt kind text here → (p : Patch) (r : List ℕ) → PatchText text p r → length p.prims ≤ 10000 → kind ≡ NoMemory
+NoFaultWithinCount = (kind : FaultKind) (text here : List ℕ) → PatchFaultAt kind text here →
+    (p : Patch) (r : List ℕ) → PatchText text p r → length p.prims ≤ 10000 → kind ≡ NoMemory
 
--- a good path that is written is read again, before whatever ends a word
+-- the canonical text of a valid path is read back as that path, before anything that ends a word
 abbrev pub PathRoundTrip : Type 0
-PathRoundTrip = (p : Path) (rest : List ℕ) → IsGoodPath p → EndsWord rest → PathWord (path_text p ++ rest) p rest
+PathRoundTrip = (p : Path) (rest : List ℕ) → IsValidPath p → EndsWord rest → PathWord (path_text p ++ rest) p rest
 
--- a good primitive that is written is read again, before whatever is no further line of a hunk
+-- the canonical text of a valid primitive is read back as that primitive, before anything but a further line of a hunk
 abbrev pub PrimRoundTrip : Type 0
-PrimRoundTrip = (p : Prim) (rest : List ℕ) → IsGoodPrim p → NoLine rest → ReadsPrim (prim_text p ++ rest) p rest
+PrimRoundTrip = (p : Prim) (rest : List ℕ) → IsValidPrim p → NoLine rest → ReadsPrim (prim_text p ++ rest) p rest
 
--- a good named patch that is written is read again, before whatever goes on with neither its last hunk nor its run
+-- the canonical text of a valid named patch is read back as that patch, before anything that continues neither its last hunk nor
+-- its run of primitives
 abbrev pub PatchRoundTrip : Type 0
-PatchRoundTrip = (p : Patch) (rest : List ℕ) → IsGoodPatch p → NoLine rest → RunEnds (skipped rest) → ReadsPatch (patch_text p ++ rest) p rest
+PatchRoundTrip = (p : Patch) (rest : List ℕ) → IsValidPatch p → NoLine rest → RunEnds (skipped rest) → ReadsPatch (patch_text p ++ rest) p rest
 
--- two patches that start at one state, turned round: where the inverse of r's primitives then n's commute to those of n' and the inverse of those of r',
--- the inverse of n's then r's commute to those of r' and the inverse of those of n'
+-- two patches r and n that start at one state: if the inverse of r's primitives then those of n commute to those of n' then the
+-- inverse of those of r', then the inverse of n's then those of r commute to those of r' then the inverse of those of n'
 abbrev pub SquaresTurn : Type 0
 SquaresTurn = (r n n' r' : Patch) → ListsCommute (inv_all r.prims) n.prims n'.prims (inv_all r'.prims) →
     ListsCommute (inv_all n.prims) r.prims r'.prims (inv_all n'.prims)

@@ -5,7 +5,7 @@ use Rattle.dm_info.specs.PatchInfo.{PatchInfo, IsInfo}
 use Rattle.dm_info.specs.Spelling.{Stands}
 use Rattle.dm_tree.specs.Paths.{Path}
 use Rattle.dm_prim.specs.Primitives.{Prim, AddFile, RmFile, AddDir, RmDir, Hunk, At, Move}
-use Rattle.dm_prim.specs.Commuting.{IsGoodPrim}
+use Rattle.dm_prim.specs.Commuting.{IsValidPrim}
 use Rattle.dm_named.specs.Many.{Many}
 use Rattle.dm_named.specs.Words.{skipped, Begins, NextByte, Word, WordAmong, LineGroup, NumberLine}
 use Rattle.dm_named.specs.Paths.{NextPath}
@@ -16,11 +16,11 @@ pub record Patch : Type 0 where
   pub deps : List PatchInfo
   pub prims : List Prim
 
--- its parts are good ones
-pub record IsGoodPatch (p : Patch) : Type 0 where
+-- its parts are valid
+pub record IsValidPatch (p : Patch) : Type 0 where
   pub info : IsInfo p.info
   pub deps : AllByRecursion IsInfo p.deps
-  pub prims : AllByRecursion IsGoodPrim p.prims
+  pub prims : AllByRecursion IsValidPrim p.prims
 
 -- this word, and a path
 pub record WordAndPath (word text : List ℕ) (p : Path) (rest : List ℕ) : Type 0 where
@@ -72,11 +72,11 @@ PrimText text (Move p q) rest = WordAndPaths (codes "move") text p q rest
 abbrev pub prim_words : List (List ℕ)
 prim_words = codes "addfile" ∷ codes "rmfile" ∷ codes "adddir" ∷ codes "rmdir" ∷ codes "move" ∷ codes "hunk" ∷ []
 
--- the words of Darcs' other patches, which are refused in the place of a primitive
+-- the words of Darcs' other patches, which are refused where a primitive may begin
 abbrev pub unsupported_words : List (List ℕ)
 unsupported_words =
-    codes "binary" ∷ codes "replace" ∷ codes "changepref" ∷ codes "merger" ∷ codes "regrem" ∷ codes "conflictor" ∷ codes "rotcilfnoc" ∷ codes "duplicate"
-    ∷ codes "etacilpud" ∷ []
+    codes "binary" ∷ codes "replace" ∷ codes "changepref" ∷ codes "merger" ∷ codes "regrem"
+    ∷ codes "conflictor" ∷ codes "rotcilfnoc" ∷ codes "duplicate" ∷ codes "etacilpud" ∷ []
 
 -- a primitive after white space
 abbrev pub NextPrim : List ℕ → Prim → List ℕ → Type 0
@@ -106,13 +106,13 @@ pub record InBraces (text : List ℕ) (ps : List Prim) (rest : List ℕ) : Type 
   pub read : Many NextPrim inside ps mid
   pub closes : NextByte 125 mid rest
 
--- a run of primitives ends here: neither a primitive's word stands here, nor what is refused in its place
+-- a run of primitives ends here: there is neither the word of a primitive nor what is refused instead
 pub record RunEnds (here : List ℕ) : Type 0 where
   pub prims : WordAmong prim_words here → ⊥
   pub others : WordAmong unsupported_words here → ⊥
   pub paren : Begins 40 here → ⊥
 
--- as many primitives as stand there
+-- primitives without braces, as many as follow one another
 pub record Run (text : List ℕ) (ps : List Prim) (rest : List ℕ) : Type 0 where
   pub bare : Begins 123 (skipped text) → ⊥
   pub read : Many NextPrim text ps rest

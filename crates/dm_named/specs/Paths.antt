@@ -1,8 +1,9 @@
--- How a path is spelled (Darcs.Util.Path; Darcs.Patch.Show, formatFileName): a dot, and each name after a slash, with a backslash, a code and a backslash for a byte that can't stand for itself.
+-- How a path is spelled (Darcs.Util.Path; Darcs.Patch.Show, formatFileName): a dot, and each name after a slash, with a backslash,
+-- a code and a backslash for a byte that can't stand for itself.
 use Rattle.std.specs.Prelude.{◌≡◌, ◌≢◌, ◌≤◌, ◌⊎◌, ◌==◌, ℕ, false, List, [], ◌∷◌, ◌++◌, length}
 use Rattle.std.specs.List.{AllByRecursion}
 use Rattle.dm_tree.specs.Paths.{Path}
-use Rattle.dm_tree.specs.Validity.{IsGoodPath}
+use Rattle.dm_tree.specs.Validity.{IsValidPath}
 use Rattle.dm_named.specs.Many.{Many}
 use Rattle.dm_named.specs.Words.{IsDigit, number_from, skipped, Word}
 
@@ -42,7 +43,7 @@ pub record Piece (text piece rest : List ℕ) : Type 0 where
   pub free : NoSlash piece
   pub ends : EndsPiece rest
 
--- a slash, and the text of a name as far as the next slash or the end: the text is cut before its escapes are resolved
+-- a slash, and the text of a name up to the next slash or the end: the text is cut before its escapes are resolved
 pub record SlashName (text : List ℕ) (name rest : List ℕ) : Type 0 where
   pub inside : List ℕ
   pub piece : List ℕ
@@ -55,7 +56,7 @@ pub record IsPathText (word : List ℕ) (p : Path) : Type 0 where
   pub names : List ℕ
   pub dot : word ≡ 46 ∷ names
   pub each : Many SlashName names p []
-  pub good : IsGoodPath p
+  pub valid : IsValidPath p
 
 -- the word at the front is that of the path
 pub record PathWord (text : List ℕ) (p : Path) (rest : List ℕ) : Type 0 where

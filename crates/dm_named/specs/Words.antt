@@ -1,4 +1,5 @@
--- White space, words, lines and numbers at the front of a text. A relation `R text value rest` says that the value stands at the front of the text, and that this rest is left after it.
+-- White space, words, lines and numbers at the front of a text. A relation `R text value rest` says that the value stands at the
+-- front of the text, and that this rest is left after it.
 use Rattle.std.specs.Prelude.{◌≡◌, ◌≤◌, ◌⊎◌, ◌+◌, ◌*◌, ◌-◌, ◌<◌, ◌^◌, ◌==◌, ◌&&◌, ◌||◌, nat_le, ℕ, Bool, false, true, List, [], ◌∷◌, ◌++◌, if◌then◌else◌}
 use Rattle.std.specs.List.{AllByRecursion}
 use Rattle.dm_named.specs.Many.{Many}
@@ -52,17 +53,18 @@ pub record Line (text line rest : List ℕ) : Type 0 where
   pub free : NoNewline line
   pub parts : (text ≡ line ++ 10 ∷ rest) ⊎ ((text ≡ line) × (rest ≡ []))
 
--- a line after this byte
+-- a line with this byte before it
 pub record MarkedLine (b : ℕ) (text line rest : List ℕ) : Type 0 where
   pub inside : List ℕ
   pub mark : text ≡ b ∷ inside
   pub read : Line inside line rest
 
--- as many lines after this byte as stand there
+-- lines with this byte before each, as many as follow one another
 pub record LineGroup (b : ℕ) (text : List ℕ) (lines : List (List ℕ)) (rest : List ℕ) : Type 0 where
   pub read : Many (MarkedLine b) text lines rest
   pub ends : Begins b rest → ⊥
 
+-- a digit
 abbrev pub IsDigit : ℕ → Type 0
 IsDigit b = (48 ≤ b) × (b ≤ 57)
 

@@ -10,9 +10,9 @@ use crate::passing::{Passing, commute_named_in_place};
 use dm_prim::commute_lists_owned;
 use std::alloc::{AllocError, Allocator};
 
-/// The primitives of `x` then those of `y` become those of `y` then those of `x`, in place, and the answer says whether they
-/// commute; names and dependencies aren't asked. What doesn't change is moved. Where they don't commute, or memory runs out,
-/// both are left without primitives.
+/// Commutes the primitives of `x` then those of `y`, in place, and returns whether they commute. Patch infos and
+/// dependencies play no part. Primitives that don't change are moved. If they don't commute, or memory runs out, both are
+/// left without primitives.
 pub(crate) fn commute_prims<A: Allocator + Copy>(
     alloc: A,
     x: &mut Named<A>,
@@ -36,8 +36,8 @@ pub(crate) fn commute_prims<A: Allocator + Copy>(
     }
 }
 
-/// For `x` then `y` the pair `y'` and `x'` that does the same in that order, or none. The answer is a copy: both patches keep
-/// their patch infos and their dependencies, and their primitives are commuted.
+/// For `x` then `y`, the pair `y'` and `x'` that does the same in that order, or none. Both are copies: they keep their
+/// patch infos and their dependencies, and their primitives are commuted.
 pub fn commute_named<A: Allocator, B: Allocator, C: Allocator + Copy>(
     alloc: C,
     x: &Named<A>,

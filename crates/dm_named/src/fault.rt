@@ -16,31 +16,31 @@ pub enum FaultKind {
     TooLarge,
     /// No line is the heading of a bundle.
     NoNewPatches,
-    /// What begins with an opening bracket is no patch info; or none stands where a named patch was asked for.
+    /// What begins with an opening bracket is no patch info, or a named patch was to be read where there is no bracket.
     BadInfo,
     /// The patch info is that of an inverted patch.
     Inverted,
-    /// Inside angle brackets stands neither a patch info nor the closing one.
+    /// Inside angle brackets, there is neither a patch info nor the closing bracket.
     BadDepends,
-    /// Inside braces stands neither a primitive nor the closing one.
+    /// Inside braces, there is neither a primitive nor the closing brace.
     BadPatch,
     /// A patch of Darcs that this profile refuses, or a nested brace or parenthesis.
     Unsupported,
-    /// No path stands where one must.
+    /// There is no path where one must be.
     BadPath,
-    /// No number stands after a hunk's path, or more than white space after it on its line.
+    /// There is no number after a hunk's path, or the number's line goes on with more than white space.
     BadNumber,
     /// A hunk has neither old nor new lines.
     EmptyHunk,
     /// The text ends inside braces.
     Unclosed,
-    /// Neither a named patch nor the context stands where one must.
+    /// There is neither a named patch nor the context where one must be.
     NoContext,
-    /// A patch info equals that of an earlier new patch.
+    /// A patch info is equal to that of an earlier new patch.
     Doubled,
-    /// One patch, or one primitive of a patch, more than a bundle may have.
+    /// There are more new patches, or more primitives in a patch, than a bundle may have.
     TooMany,
-    /// A growth was refused. Its place is where reading stood.
+    /// An allocation failed. The place says how far the reader had come.
     NoMemory,
 }
 
@@ -100,7 +100,7 @@ pub struct ReadFault {
 }
 
 impl ReadFault {
-    /// A growth was refused while reading stood at this place.
+    /// The fault for an allocation that failed when the reader had come to this place.
     pub fn no_memory(_error: AllocError, at: usize) -> ReadFault
         ensures kind { result.kind ≡ FaultKind.NoMemory }
         ensures place { result.at ≡ at }

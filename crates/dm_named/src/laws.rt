@@ -1,45 +1,45 @@
-//! Laws of the text of paths, primitives and named patches, and of two patches that start at one state. A call of one does nothing:
-//! its contract is the law.
+//! Laws of the text of paths, primitives and named patches, and of two patches that start at one state. A call does
+//! nothing: its contract is the law.
 
 ghost use Rattle.dm_named.specs.Laws.{OnePatch, FaultExcludesPatch, OneFault, NoFaultWithinCount, PathRoundTrip, PrimRoundTrip, PatchRoundTrip, SquaresTurn};
 
-/// At most one named patch stands at the front of a text.
+/// A text has at most one named patch at its front.
 pub fn one_patch()
     ensures { OnePatch }
 {}
 
-/// Where a text has a fault that says so, no named patch stands.
+/// A text with a fault has no named patch at its front, unless the fault is `NoMemory` or `TooMany`.
 pub fn fault_excludes_patch()
     ensures { FaultExcludesPatch }
 {}
 
-/// A text has at most one fault, at one place.
+/// A text has at most one fault, at one place, apart from `NoMemory`.
 pub fn one_fault()
     ensures { OneFault }
 {}
 
-/// Where a named patch stands, of no more primitives than there may be, a text has no fault.
+/// A text with a named patch of at most 10,000 primitives at its front has no fault but `NoMemory`.
 pub fn no_fault_within_count()
     ensures { NoFaultWithinCount }
 {}
 
-/// A good path that is written is read again.
+/// The canonical text of a valid path is read back as that path.
 pub fn path_round_trip()
     ensures { PathRoundTrip }
 {}
 
-/// A good primitive that is written is read again.
+/// The canonical text of a valid primitive is read back as that primitive.
 pub fn prim_round_trip()
     ensures { PrimRoundTrip }
 {}
 
-/// A good named patch that is written is read again.
+/// The canonical text of a valid named patch is read back as that patch.
 pub fn patch_round_trip()
     ensures { PatchRoundTrip }
 {}
 
-/// Two patches that start at one state: where n's primitives are those of n' after r, and r's are those of r' after n, the same
-/// holds with the two exchanged.
+/// For two patches `r` and `n` that start at one state: if the inverse of `r` commutes with `n`, and that makes them `n'` and
+/// the inverse of `r'`, then the inverse of `n` commutes with `r`, and that makes them `r'` and the inverse of `n'`.
 pub fn turning_a_square()
     ensures { SquaresTurn }
 {}

@@ -1,16 +1,17 @@
 //! Named patches: their text, and how two of them commute (Darcs.Patch.Named).
 //!
 //! A named patch is a patch info, the patch infos of the patches that it names as dependencies, and a list of
-//! primitive patches. This crate stands on `dm_info` for patch infos, on `dm_prim` for primitives and on `dm_tree`
-//! for paths and lines. Its theorem is that [`read_named`] answers a named patch only where its text stands, and then
-//! the only one, and a fault only where the text has that fault at that place; that [`write_named`] appends the
-//! canonical text, which is read again as the same patch; and that [`commute_named`] answers exactly when two named
+//! primitive patches. This crate uses `dm_info` for patch infos, `dm_prim` for primitives, and `dm_tree` for paths
+//! and lines.
+//!
+//! What is proved: [`read_named`] returns a named patch only if its text is at that place, and then no other patch can
+//! be read there. It returns a fault only if the text has that fault at that place. [`write_named`] appends the
+//! canonical text, which is read back as the same patch. [`commute_named`] returns a pair exactly if the two named
 //! patches commute.
 #![tactic(auto)]
 
 mod commuting;
 mod fault;
-pub mod goodness;
 pub mod laws;
 mod named;
 mod passing;

@@ -10,7 +10,7 @@ use std::marker::Model;
 use std::mem;
 
 /// A named patch: a patch info, the patch infos of the patches that it depends on, and its primitives in order
-/// (Darcs.Patch.Named). Nothing is asked of the dependencies: one may stand twice, or be the patch itself.
+/// (Darcs.Patch.Named). Dependencies are not checked: one may be listed twice, or be the patch itself.
 #[derive(Drop)]
 pub struct Named<A: Allocator> {
     info: Info<A>,
@@ -63,7 +63,7 @@ impl<A: Allocator> Named<A> {
         is_among(self.deps(), info)
     }
 
-    /// Puts other primitives in the place of its own, and gives these back.
+    /// Replaces its primitives, and returns the old ones.
     pub fn replace_prims(&mut self, prims: Vec<Prim<A>, A>) -> Vec<Prim<A>, A>
         ensures taken { prims_of result.items ≡ self.old.prims }
         ensures new { self.new ≡ record self.old { prims = prims_of prims.items } }
@@ -71,7 +71,7 @@ impl<A: Allocator> Named<A> {
         mem::replace(&mut self.prims, prims)
     }
 
-    /// The same named patch with another allocator.
+    /// A copy of the named patch, in another allocator.
     pub fn copy_into<B: Allocator + Copy>(&self, alloc: B) -> Result<Named<B>, AllocError>
         ensures { IfOk result (λ copy. copy ≡ self.now) }
     {

@@ -12,8 +12,8 @@ use dm_prim::{Touched, apart, invert_all, touch};
 use std::alloc::{AllocError, Allocator};
 use std::marker::Model;
 
-/// A named patch that may have to pass others. What it touches is found out when it first meets another, and kept as long
-/// as it is the same.
+/// A named patch that may have to pass others. What it touches is computed when it first meets another, and kept as long
+/// as it stays the same.
 #[derive(Drop)]
 pub struct Passing<A: Allocator> {
     patch: Named<A>,
@@ -32,7 +32,7 @@ impl<A: Allocator> Model for Passing<A> {
 }
 
 impl<A: Allocator> Passing<A> {
-    /// A patch that has met no other yet.
+    /// A patch that hasn't met another yet.
     pub fn new(patch: Named<A>) -> Passing<A>
         ensures { result ≡ patch }
     {
@@ -42,7 +42,7 @@ impl<A: Allocator> Passing<A> {
         }
     }
 
-    /// The patch as it is now, borrowed.
+    /// Borrows the patch as it is now.
     pub fn named(&self) -> &Named<A>
         ensures { result.now ≡ self.now }
     {
@@ -56,7 +56,7 @@ impl<A: Allocator> Passing<A> {
         self.patch
     }
 
-    /// Whether it is known what both touch, and nothing of it is common: then they pass each other and stay as they are.
+    /// Whether what both touch is known and has nothing in common. Then they pass each other unchanged.
     fn is_apart_from(&self, other: &Passing<A>) -> bool
         ensures { IsTrue result → ListsCommute self.now.prims other.now.prims other.now.prims self.now.prims }
     {
@@ -71,7 +71,7 @@ impl<A: Allocator> Passing<A> {
 }
 
 impl<A: Allocator + Copy> Passing<A> {
-    /// The patch gets the inverse of its primitives, which touches what they did.
+    /// Replaces the primitives by their inverse, which touches the same.
     pub fn undo(&mut self, alloc: A)
         ensures { self.new ≡ record self.old { prims = inv_all self.old.prims } }
     {
@@ -79,7 +79,7 @@ impl<A: Allocator + Copy> Passing<A> {
         let _ = self.patch.replace_prims(invert_all(prims));
     }
 
-    /// Finds out what the patch touches, unless that is known.
+    /// Computes what the patch touches, unless that is known.
     fn find_touched(&mut self, alloc: A) -> Result<(), AllocError>
         ensures { self.new ≡ self.old }
     {
@@ -90,7 +90,7 @@ impl<A: Allocator + Copy> Passing<A> {
     }
 }
 
-/// What was known of a patch before, if it is what the patch touches now.
+/// What a patch touched before, if it was known and the patch still touches that.
 fn still_touched<A: Allocator>(touched: Option<Touched<A>>, patch: &Named<A>) -> Option<Touched<A>>
     ensures { IsTouchKnown patch.now.prims result }
 {
@@ -103,7 +103,7 @@ fn still_touched<A: Allocator>(touched: Option<Touched<A>>, patch: &Named<A>) ->
     Some(before)
 }
 
-/// Whether it is known what both touch, and they go on touching it where they commute.
+/// Whether what both touch is known, and both touch the same after they have commuted.
 fn stay_touched<A: Allocator>(first: &Option<Touched<A>>, second: &Option<Touched<A>>) -> bool
     ensures { IsTrue result → StayKnown first.now second.now }
 {
@@ -116,8 +116,8 @@ fn stay_touched<A: Allocator>(first: &Option<Touched<A>>, second: &Option<Touche
     first.stays_with(second)
 }
 
-/// The primitives of both are commuted, whatever they touch; what they touch is kept where it is the same. Only where a move
-/// may have changed a path is it looked for among the primitives.
+/// Commutes the primitives of both, whatever they touch. What they touch is kept if it stays the same. Only if a move may
+/// have changed a path are the primitives searched for it.
 fn commute_touching<A: Allocator + Copy>(
     alloc: A,
     x: &mut Passing<A>,
@@ -141,8 +141,8 @@ fn commute_touching<A: Allocator + Copy>(
     commutes
 }
 
-/// Whether both touch nothing in common: then the primitives of both commute and stay as they are. What each touches is found
-/// out, unless that is known.
+/// Whether both touch nothing in common. Then their primitives commute unchanged. What each touches is computed, unless that
+/// is known.
 pub fn are_apart<A: Allocator + Copy>(
     alloc: A,
     x: &mut Passing<A>,
@@ -157,9 +157,9 @@ pub fn are_apart<A: Allocator + Copy>(
     Ok(x.is_apart_from(y))
 }
 
-/// The primitives of `x` then those of `y` become those of `y` then those of `x`, in place, and the answer says whether they
-/// commute; names and dependencies aren't asked. Where they touch nothing in common nothing is commuted. Where they don't
-/// commute, or memory runs out, both may be left without primitives.
+/// Commutes the primitives of `x` then those of `y`, in place, and returns whether they commute. Patch infos and
+/// dependencies play no part. If both touch nothing in common, nothing changes. If they don't commute, or memory runs out,
+/// both may be left without primitives.
 pub fn commute_prims_in_place<A: Allocator + Copy>(
     alloc: A,
     x: &mut Passing<A>,
@@ -177,9 +177,9 @@ pub fn commute_prims_in_place<A: Allocator + Copy>(
     commute_touching(alloc, x, y)
 }
 
-/// `x` then `y` become, in place, the patches that do the same in the other order, and the answer says whether they commute.
-/// Where one names the other among its dependencies nothing has changed; where their primitives don't commute, or memory runs
-/// out, both may be left without primitives.
+/// Commutes `x` then `y`, in place, and returns whether they commute: then `y` followed by `x` does now what `x` followed by
+/// `y` did. If one names the other as a dependency, nothing changes. If their primitives don't commute, or memory runs out,
+/// both may be left without primitives.
 pub fn commute_named_in_place<A: Allocator + Copy>(
     alloc: A,
     x: &mut Passing<A>,

@@ -20,7 +20,7 @@ use crate::reading::dependencies::deps_at;
 use crate::text::info_at;
 use std::alloc::Allocator;
 
-/// The named patch at a place, by its parts.
+/// The named patch at a place, and the place after it: its patch info, its dependencies and its body are read in turn.
 fn named_at<A: Allocator + Copy>(
     alloc: A,
     text: &[u8],
@@ -40,25 +40,27 @@ fn named_at<A: Allocator + Copy>(
     Ok((Named::new(info, deps, prims), end))
 }
 
-/// The named patch at a place, and the place after its closing brace or its last primitive; after the `]` or `>`
-/// before a run of no primitives. The limit of 10,000 primitives is asked for; that no patch info is doubled isn't.
+/// The named patch at a place, and the place after it: after its closing brace, or after its last primitive. A patch with
+/// neither ends after the `]` of its patch info or the `>` of its dependencies. More than 10,000 primitives are a fault; a
+/// patch info that occurs twice is none.
 ///
 /// # Errors
-/// The first fault from left to right. Where no `[` stands, and past the end of the text, it is `BadInfo` at that place.
+/// The first fault from left to right. If there is no `[` at the place, or the place is past the end of the text, it is
+/// `BadInfo` at that place.
 pub fn read_named<A: Allocator + Copy>(
     alloc: A,
     text: &[u8],
     at: usize,
 ) -> Result<(Named<A>, usize), ReadFault>
-    // What is read stands there.
+    // The text there is that of the patch that is returned.
     ensures ok { IfOk result (λ x. PatchText (drop at text.now) x.0 (drop x.1 text.now)) }
     ensures within { IfOk result (λ x. x.1 ≤ length text.now) }
     ensures forward { IfOk result (λ x. at < x.1) }
     ensures few { IfOk result (λ x. length x.0.prims ≤ 10000) }
-    // Nothing else does.
+    // It is the text of no other patch.
     ensures only { IfOk result (λ x. (p : Patch) (rest : List ℕ) → PatchText (drop at text.now) p rest → (x.0 ≡ p) × (drop x.1 text.now ≡ rest)) }
 
-    // A named patch that stands there is read, unless it has too many primitives or memory runs out.
+    // A named patch whose text is there is read, unless it has too many primitives or memory runs out.
     ensures within_count { (p : Patch) (rest : List ℕ) → PatchText (drop at text.now) p rest → length p.prims ≤ 10000
         → MatchResult result (λ x. (x.0 ≡ p) × (drop x.1 text.now ≡ rest)) (λ e. e.kind ≡ FaultKind.NoMemory) }
 
@@ -66,7 +68,7 @@ pub fn read_named<A: Allocator + Copy>(
     ensures err { IfErr result (λ e. PatchFaultAt e.kind (drop at text.now) (drop e.at text.now)) }
     ensures place { IfErr result (λ e. at ≤ length text.now → e.at ≤ length text.now) }
     ensures past { IfErr result (λ e. length text.now < at → e.at ≡ at) }
-    // A text with a fault that says so is no named patch.
+    // With any fault but `NoMemory` and `TooMany`, there is no named patch there.
     ensures none { IfErr result (λ e. ExcludesPatch e.kind → (p : Patch) (rest : List ℕ) → PatchText (drop at text.now) p rest → ⊥) }
 {
     match named_at(alloc, text, at) {

@@ -1,4 +1,4 @@
-//! White space, words, lines and patch infos at places of a text, as the readers of named patches and bundles meet them.
+//! White space, words, lines and patch infos at places of a text. The readers of named patches and of bundles share these.
 
 ghost use Rattle.std.specs.Prelude.{◌≡◌, ◌≤◌, ◌<◌, ◌+◌, ◌∷◌, length, drop, IfOk, IfErr, MatchBool};
 ghost use Rattle.dm_info.specs.Spelling.{Stands};
@@ -17,7 +17,7 @@ pub fn is_white(byte: u8) -> bool
     (9 <= byte && byte <= 13) || byte == 32
 }
 
-/// The place after the white space that stands at a place.
+/// The place after the white space that begins at a place.
 pub fn skip(text: &[u8], at: usize) -> usize
     requires { at ≤ length text.now }
     ensures rest { drop result text.now ≡ skipped (drop at text.now) }
@@ -31,7 +31,7 @@ pub fn skip(text: &[u8], at: usize) -> usize
     at
 }
 
-/// The bytes up to white space, and the place after them.
+/// The bytes from a place up to white space, and the place after them.
 pub fn word_at(text: &[u8], at: usize) -> (&[u8], usize)
     requires { at ≤ length text.now }
     ensures word { Word (drop at text.now) result.0.now (drop result.1 text.now) }
@@ -45,7 +45,7 @@ pub fn word_at(text: &[u8], at: usize) -> (&[u8], usize)
     (&text[at..end], end)
 }
 
-/// Whether a byte stands at a place.
+/// Whether the text has this byte at a place.
 pub fn begins_at(text: &[u8], at: usize, byte: u8) -> bool
     requires { at ≤ length text.now }
     ensures { MatchBool result ((drop at text.now ≡ byte ∷ drop (at + 1) text.now) × (at < length text.now)) (Begins byte (drop at text.now) → ⊥) }
@@ -53,7 +53,7 @@ pub fn begins_at(text: &[u8], at: usize, byte: u8) -> bool
     at < text.len() && text[at] == byte
 }
 
-/// The line from a place on, and the place after its newline, or the end.
+/// The line that begins at a place, and the place after its newline, or the end of the text.
 pub fn line_at(text: &[u8], at: usize) -> (&[u8], usize)
     requires { at ≤ length text.now }
     ensures line { Line (drop at text.now) result.0.now (drop result.1 text.now) }
@@ -66,7 +66,7 @@ pub fn line_at(text: &[u8], at: usize) -> (&[u8], usize)
     }
 }
 
-/// The patch info at a place, and the place after its closing bracket; a fault is at the place that was asked for.
+/// The patch info at a place, and the place after its closing bracket. A fault has the place that was passed in.
 pub fn info_at<A: Allocator + Copy>(
     alloc: A,
     text: &[u8],

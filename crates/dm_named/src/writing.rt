@@ -4,12 +4,12 @@ ghost use Rattle.std.specs.Prelude.{◌≡◌, ◌++◌, ◌∷◌, [], OnOk, On
 ghost use Rattle.std.specs.List.{AllByRecursion, flat_map};
 ghost use Rattle.std.specs.Fmt.{decimal};
 ghost use Rattle.dm_info.specs.PatchInfo.{IsInfo};
-ghost use Rattle.dm_tree.specs.Validity.{IsGoodPath};
-ghost use Rattle.dm_prim.specs.Commuting.{IsGoodPrim};
+ghost use Rattle.dm_tree.specs.Validity.{IsValidPath};
+ghost use Rattle.dm_prim.specs.Commuting.{IsValidPrim};
 ghost use Rattle.dm_prim.specs.Hunks.{hunk_of};
 ghost use Rattle.dm_prim.specs.Prims.{prim_of, prims_of};
 ghost use Rattle.dm_named.specs.Canonical.{byte_text, name_text, path_text, lines_text, prim_text, deps_text, body_text, patch_text};
-ghost use Rattle.dm_named.specs.Patches.{IsGoodPatch};
+ghost use Rattle.dm_named.specs.Patches.{IsValidPatch};
 
 use crate::named::Named;
 use crate::text::is_white;
@@ -55,7 +55,7 @@ fn push_path<A: Allocator, B: Allocator + Copy>(
     out: &mut Vec<u8, B>,
 ) -> Result<(), AllocError>
     ensures text { OnOk result (out.new.items ≡ out.old.items ++ path_text path.now) }
-    ensures good { OnOk result (IsGoodPath path.now) }
+    ensures valid { OnOk result (IsValidPath path.now) }
 {
     out.push(b'.')?;
     for i in 0..path.len() {
@@ -71,7 +71,7 @@ fn push_lines<A: Allocator, B: Allocator + Copy>(
 ) -> Result<(), AllocError>
     ensures { OnOk result (out.new.items ≡ out.old.items ++ lines_text byte lines.now) }
 {
-    // Their room at once, and an eighth for what follows: a long text would be copied again and again as it grows.
+    // Reserves room for all lines at once, and an eighth more for what follows: else a long text would be copied again and again.
     let room = lines.size().saturating_add(lines.len().saturating_mul(2));
     out.reserve(room.saturating_add(room / 8))?;
     for i in 0..lines.len() {
@@ -88,7 +88,7 @@ fn push_single<A: Allocator, B: Allocator + Copy>(
     out: &mut Vec<u8, B>,
 ) -> Result<(), AllocError>
     ensures text { OnOk result (out.new.items ≡ out.old.items ++ (word.now ++ (path_text path.now ++ 10 ∷ []))) }
-    ensures good { OnOk result (IsGoodPath path.now) }
+    ensures valid { OnOk result (IsValidPath path.now) }
 {
     out.extend_from_slice(word)?;
     push_path(path, out)?;
@@ -100,8 +100,9 @@ fn push_hunk<A: Allocator, B: Allocator + Copy>(
     hunk: &Hunk<A>,
     out: &mut Vec<u8, B>,
 ) -> Result<(), AllocError>
-    ensures good { OnOk result (IsGoodPrim (hunk_of hunk.now)) }
-    ensures text { OnOk result (out.new.items ≡ out.old.items ++ (codes "hunk " ++ (path_text hunk.now.path ++ 32 ∷ (decimal hunk.now.line ++ 10 ∷ (lines_text 45 hunk.now.old ++ lines_text 43 hunk.now.new))))) }
+    ensures valid { OnOk result (IsValidPrim (hunk_of hunk.now)) }
+    ensures text { OnOk result (out.new.items ≡ out.old.items
+        ++ (codes "hunk " ++ (path_text hunk.now.path ++ 32 ∷ (decimal hunk.now.line ++ 10 ∷ (lines_text 45 hunk.now.old ++ lines_text 43 hunk.now.new))))) }
 {
     out.extend_from_slice(b"hunk ")?;
     push_path(hunk.path(), out)?;
@@ -118,7 +119,7 @@ fn push_move<A: Allocator, B: Allocator + Copy>(
     to: &Path<A>,
     out: &mut Vec<u8, B>,
 ) -> Result<(), AllocError>
-    ensures good { OnOk result (IsGoodPath from.now × IsGoodPath to.now) }
+    ensures valid { OnOk result (IsValidPath from.now × IsValidPath to.now) }
     ensures text { OnOk result (out.new.items ≡ out.old.items ++ (codes "move " ++ (path_text from.now ++ 32 ∷ (path_text to.now ++ 10 ∷ [])))) }
 {
     out.extend_from_slice(b"move ")?;
@@ -134,7 +135,7 @@ fn push_prim<A: Allocator, B: Allocator + Copy>(
     out: &mut Vec<u8, B>,
 ) -> Result<(), AllocError>
     ensures text { OnOk result (out.new.items ≡ out.old.items ++ prim_text (prim_of prim.now)) }
-    ensures good { OnOk result (IsGoodPrim (prim_of prim.now)) }
+    ensures valid { OnOk result (IsValidPrim (prim_of prim.now)) }
 {
     match prim {
         Prim::AddFile(path) => push_single(b"addfile ", path, out),
@@ -151,7 +152,7 @@ fn push_deps<A: Allocator, B: Allocator + Copy>(
     out: &mut Vec<u8, B>,
 ) -> Result<(), AllocError>
     ensures text { OnOk result (out.new.items ≡ out.old.items ++ deps_text deps.now) }
-    ensures good { OnOk result (AllByRecursion IsInfo deps.now) }
+    ensures valid { OnOk result (AllByRecursion IsInfo deps.now) }
 {
     if deps.is_empty() {
         return Ok(());
@@ -170,7 +171,7 @@ fn push_prims<A: Allocator, B: Allocator + Copy>(
     out: &mut Vec<u8, B>,
 ) -> Result<(), AllocError>
     ensures text { OnOk result (out.new.items ≡ out.old.items ++ flat_map prim_text (prims_of prims.now)) }
-    ensures good { OnOk result (AllByRecursion IsGoodPrim (prims_of prims.now)) }
+    ensures valid { OnOk result (AllByRecursion IsValidPrim (prims_of prims.now)) }
 {
     for prim in prims {
         push_prim(prim, out)?;
@@ -183,7 +184,7 @@ fn push_body<A: Allocator, B: Allocator + Copy>(
     out: &mut Vec<u8, B>,
 ) -> Result<(), AllocError>
     ensures text { OnOk result (out.new.items ≡ out.old.items ++ body_text (prims_of prims.now)) }
-    ensures good { OnOk result (AllByRecursion IsGoodPrim (prims_of prims.now)) }
+    ensures valid { OnOk result (AllByRecursion IsValidPrim (prims_of prims.now)) }
 {
     if prims.len() == 1 {
         return push_prim(&prims[0], out);
@@ -194,14 +195,14 @@ fn push_body<A: Allocator, B: Allocator + Copy>(
     Ok(())
 }
 
-/// Appends the canonical text of a path. A refused growth changes nothing.
+/// Appends the canonical text of a path. A failed allocation changes nothing.
 pub fn write_path<A: Allocator, B: Allocator + Copy>(
     path: &Path<A>,
     out: &mut Vec<u8, B>,
 ) -> Result<(), AllocError>
     ensures ok { OnOk result (out.new.items ≡ out.old.items ++ path_text path.now) }
-    // What was written is a good path, so its text is read again as it.
-    ensures good { OnOk result (IsGoodPath path.now) }
+    // The path is valid, so its text is read back as the same path.
+    ensures valid { OnOk result (IsValidPath path.now) }
     ensures err { OnErr result (out.new.items ≡ out.old.items) }
 {
     let mut text = Vec::new(*out.allocator());
@@ -210,15 +211,15 @@ pub fn write_path<A: Allocator, B: Allocator + Copy>(
     Ok(())
 }
 
-/// Appends the canonical text of a named patch straight away: where a growth is refused a part of it may stand there. For a
-/// writer that gives up its whole text then; [`write_named`] changes nothing.
+/// Appends the canonical text of a named patch. If an allocation fails, a part of it may have been appended: for callers that
+/// then drop the whole text. [`write_named`] appends all or nothing.
 pub fn push_named<A: Allocator, B: Allocator + Copy>(
     patch: &Named<A>,
     out: &mut Vec<u8, B>,
 ) -> Result<(), AllocError>
     ensures ok { OnOk result (out.new.items ≡ out.old.items ++ patch_text patch.now) }
-    // What was written is a good named patch, so its text is read again as it.
-    ensures good { OnOk result (IsGoodPatch patch.now) }
+    // The patch is valid, so its text is read back as the same patch.
+    ensures valid { OnOk result (IsValidPatch patch.now) }
 {
     push_info(patch.info(), out)?;
     push_deps(patch.deps(), out)?;
@@ -226,14 +227,14 @@ pub fn push_named<A: Allocator, B: Allocator + Copy>(
     Ok(())
 }
 
-/// Appends the canonical text of a named patch. A refused growth changes nothing.
+/// Appends the canonical text of a named patch. A failed allocation changes nothing.
 pub fn write_named<A: Allocator, B: Allocator + Copy>(
     patch: &Named<A>,
     out: &mut Vec<u8, B>,
 ) -> Result<(), AllocError>
     ensures ok { OnOk result (out.new.items ≡ out.old.items ++ patch_text patch.now) }
-    // What was written is a good named patch, so its text is read again as it.
-    ensures good { OnOk result (IsGoodPatch patch.now) }
+    // The patch is valid, so its text is read back as the same patch.
+    ensures valid { OnOk result (IsValidPatch patch.now) }
     ensures err { OnErr result (out.new.items ≡ out.old.items) }
 {
     let mut text = Vec::new(*out.allocator());

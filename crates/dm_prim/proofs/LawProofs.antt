@@ -1,11 +1,11 @@
 -- The laws of pairs and of lists.
 use Rattle.std.proofs.Common.{◌≡◌, ◌≢◌, [], ◌∷◌, ◌++◌, List, refl, sym, ap₂, ◌∙◌, append_assoc, append-nil, arith}
-use Rattle.dm_tree.specs.Validity.{IsGoodPath}
+use Rattle.dm_tree.specs.Validity.{IsValidPath}
 use Rattle.dm_tree.specs.Paths.{Path}
 use Rattle.dm_prim.specs.InTurn.{done, step}
 use Rattle.dm_prim.specs.Rectangles.{CellRow, none, next, empty, row}
 use Rattle.dm_prim.specs.Primitives.{AddFile, RmFile, AddDir, RmDir, Hunk, Prim, At, Move, inv, inv_all, LawfulMap, Leads, LeadsAll}
-use Rattle.dm_prim.specs.Commuting.{IsGoodPrim, Commutes, ListsCommute}
+use Rattle.dm_prim.specs.Commuting.{IsValidPrim, Commutes, ListsCommute}
 use Rattle.dm_prim.specs.Laws.{PairLaws, ListLaws, CommutedPairsEndAlike, PairsCommuteBack, PairsCommutePastAnInverse, CommutedListsEndAlike, ListsCommuteBack, ListsCommutePastAnInverse, RectanglesTurn, InversesLeadBack, ListInversesLeadBack, OneWayToApply, OneWayToCommute, OneWayToCommuteLists}
 use Rattle.dm_prim.proofs.Undoing.{OffRoot, undone, kept}
 use Rattle.dm_prim.proofs.TableRows.{square_from, row_turn, row_inv}
@@ -13,32 +13,32 @@ use Rattle.dm_prim.proofs.Ends.{square_runs, inv_inv}
 use Rattle.dm_prim.proofs.Single.{applies_one, commutes_one, lists_one, same_map}
 use Rattle.dm_prim.proofs.RectangleLemmas.{beside, one, rectangle_turn, rectangle_runs, runs_on}
 
-not_root : (f : Path) → IsGoodPath f → f ≢ []
-not_root f h e = let k : IsGoodPath [] = rw e at h in cc
+not_root : (f : Path) → IsValidPath f → f ≢ []
+not_root f h e = let k : IsValidPath [] = rw e at h in cc
 
-pub off_root : (p : Prim) → IsGoodPrim p → OffRoot p
+pub off_root : (p : Prim) → IsValidPrim p → OffRoot p
 off_root (At f w) h = not_root f h.0
 off_root (Move a b) h = tt
 
-pub good_inv : (p : Prim) → IsGoodPrim p → IsGoodPrim (inv p)
-good_inv (At f AddFile) h = h
-good_inv (At f RmFile) h = h
-good_inv (At f AddDir) h = h
-good_inv (At f RmDir) h = h
-good_inv (At f (Hunk l o n)) h = (h.0, (h.1.0, omega arith, h.1.3, h.1.2))
-good_inv (Move a b) h = (h.1, h.0)
+pub valid_inv : (p : Prim) → IsValidPrim p → IsValidPrim (inv p)
+valid_inv (At f AddFile) h = h
+valid_inv (At f RmFile) h = h
+valid_inv (At f AddDir) h = h
+valid_inv (At f RmDir) h = h
+valid_inv (At f (Hunk l o n)) h = (h.0, (h.1.0, omega arith, h.1.3, h.1.2))
+valid_inv (Move a b) h = (h.1, h.0)
 
 -- pairs
 pub pairs_end_alike : CommutedPairsEndAlike
 pairs_end_alike p q q' p' c s u z h k =
-    let r = square_runs (square_from c.row) (off_root p c.good_p) (off_root q c.good_q) (off_root q' c.good_q') s.map u.map z.map s.lawful h.applies k.applies in
-    (record { map = r.0; lawful = kept q' s.map r.0 (off_root q' c.good_q') s.lawful r.1 }, record { applies = r.1 }, record { applies = r.2 })
+    let r = square_runs (square_from c.row) (off_root p c.valid_p) (off_root q c.valid_q) (off_root q' c.valid_q') s.map u.map z.map s.lawful h.applies k.applies in
+    (record { map = r.0; lawful = kept q' s.map r.0 (off_root q' c.valid_q') s.lawful r.1 }, record { applies = r.1 }, record { applies = r.2 })
 
 pub pairs_back : PairsCommuteBack
-pairs_back p q q' p' c = record { good_p = c.good_q'; good_q = c.good_p'; good_q' = c.good_p; good_p' = c.good_q; row = row_turn c.row }
+pairs_back p q q' p' c = record { valid_p = c.valid_q'; valid_q = c.valid_p'; valid_q' = c.valid_p; valid_p' = c.valid_q; row = row_turn c.row }
 
 pub pairs_past_inverse : PairsCommutePastAnInverse
-pairs_past_inverse p q q' p' c = record { good_p = good_inv p c.good_p; good_q = c.good_q'; good_q' = c.good_q; good_p' = good_inv p' c.good_p'; row = row_inv c.row }
+pairs_past_inverse p q q' p' c = record { valid_p = valid_inv p c.valid_p; valid_q = c.valid_q'; valid_q' = c.valid_q; valid_p' = valid_inv p' c.valid_p'; row = row_inv c.row }
 
 pub pair_laws : {p q q' p' : Prim} → Commutes p q q' p' → PairLaws p q q' p'
 pair_laws {p} {q} {q'} {p'} c = record { ends_alike = pairs_end_alike p q q' p' c; back = pairs_back p q q' p' c; past_inverse = pairs_past_inverse p q q' p' c }

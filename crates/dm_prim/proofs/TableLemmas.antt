@@ -1,13 +1,13 @@
 -- What the table says of two primitives of each kind.
 use Rattle.std.proofs.Common.{◌≡◌, ℕ, ◌<◌, length, inl, inr, refl, sym, ap, Option, Some, None, arith}
 use Rattle.dm_tree.specs.Paths.{Path, Under, forward}
-use Rattle.dm_tree.specs.Validity.{IsGoodPath}
+use Rattle.dm_tree.specs.Validity.{IsValidPath}
 use Rattle.dm_tree.specs.Trees.{Lines}
-use Rattle.dm_tree.proofs.ValidityLemmas.{good_parts}
+use Rattle.dm_tree.proofs.ValidityLemmas.{valid_parts}
 use Rattle.dm_tree.proofs.Paths.{forward-other}
 use Rattle.dm_prim.specs.Primitives.{Work, Prim, At, Move, Hunk}
 use Rattle.dm_prim.specs.Table.{TableRow, first_above, second_above, two_works, work_move, move_work, two_moves, WorkAndWork, WorkThenMove, MoveThenMove, IsHunk}
-use Rattle.dm_prim.specs.Commuting.{IsLineNumber, IsGoodPrim, Commutes}
+use Rattle.dm_prim.specs.Commuting.{IsLineNumber, IsValidPrim, Commutes}
 use Rattle.dm_prim.specs.Hunks.{HunkParts, hunk_of, ChangePlaces}
 use Rattle.dm_prim.specs.Prims.{path_of, work_of, IsWork, CommutesTo, PairLawsHold}
 use Rattle.dm_prim.specs.declared.primitive.Primitive as code
@@ -21,6 +21,13 @@ laws_hold p q (Some r) h = pair_laws h
 -- a path that a move leaves alone
 pub stays : (a b p : Path) → (Under p a → ⊥) → p ≡ forward a b p
 stays a b p h = sym (forward-other a b p h)
+
+-- a hunk stays valid at another path, and at another line
+pub valid_at : (h : HunkParts) (p : Path) → IsValidPrim (hunk_of h) → IsValidPath p → IsValidPrim (hunk_of (record h { path = p }))
+valid_at h p (a, w) b = (b, w)
+
+pub valid_at_line : (h : HunkParts) (l : ℕ) → IsValidPrim (hunk_of h) → IsLineNumber l → IsValidPrim (hunk_of (record h { line = l }))
+valid_at_line h l (a, (n, some, old, new)) m = (a, (m, some, old, new))
 
 -- two hunks of one file
 hunk_row : {f g : Path} {l1 l2 : ℕ} {o1 n1 o2 n2 : Lines} {q' p' : Prim} → f ≡ g → TableRow (At f (Hunk l1 o1 n1)) (At g (Hunk l2 o2 n2)) q' p' →
@@ -39,41 +46,41 @@ module _ (p q : HunkParts) (l1 o1 n1 l2 o2 n2 : ℕ) (e1 : l1 ≡ p.line) (e2 : 
   pub no_places : ((m k : ℕ) → ChangePlaces l1 o1 n1 l2 o2 n2 m k → IsLineNumber m → IsLineNumber k → ⊥) → (q' p' : Prim) → Commutes (hunk_of p) (hunk_of q) q' p' → ⊥
   no_places h q' p' c =
       let r = hunk_row same c.row in
-      h r.0 r.1 (rw (e1, e2, e3, e4, e5, e6) r.2) (let f = rw r.3 at c.good_q' in f.1.0) (let f = rw r.4 at c.good_p' in f.1.0)
+      h r.0 r.1 (rw (e1, e2, e3, e4, e5, e6) r.2) (let f = rw r.3 at c.valid_q' in f.1.0) (let f = rw r.4 at c.valid_p' in f.1.0)
 
-  pub at_places : IsGoodPrim (hunk_of p) → IsGoodPrim (hunk_of q) → (m k : ℕ) → ChangePlaces l1 o1 n1 l2 o2 n2 m k → IsLineNumber m → IsLineNumber k →
+  pub at_places : IsValidPrim (hunk_of p) → IsValidPrim (hunk_of q) → (m k : ℕ) → ChangePlaces l1 o1 n1 l2 o2 n2 m k → IsLineNumber m → IsLineNumber k →
       Commutes (hunk_of p) (hunk_of q) (hunk_of (record q { line = m })) (hunk_of (record p { line = k }))
   at_places gp gq m k h im ik = record {
-    good_p = gp;
-    good_q = gq;
-    good_q' = (gq.0, (im, gq.1.1, gq.1.2, gq.1.3));
-    good_p' = (gp.0, (ik, gp.1.1, gp.1.2, gp.1.3));
+    valid_p = gp;
+    valid_q = gq;
+    valid_q' = (gq.0, (im, gq.1.1, gq.1.2, gq.1.3));
+    valid_p' = (gp.0, (ik, gp.1.1, gp.1.2, gp.1.3));
     row = rw same (row_at q.path p.line q.line m k p.old p.new q.old q.new (rw (e1, e2, e3, e4, e5, e6) at h));
   }
 
 -- two moves
-not_long : (p : Path) → 32 < length p → IsGoodPath p → ⊥
-not_long p l g = absurd (omega (arith, (good_parts p g).not_deep))
+not_long : (p : Path) → 32 < length p → IsValidPath p → ⊥
+not_long p l g = absurd (omega (arith, (valid_parts p g).not_deep))
 
 module _ (a b c d : Path) where
   pub no_move_both : (MoveThenMove a b c d → ⊥) → (q' p' : Prim) → Commutes (Move a b) (Move c d) q' p' → ⊥
   no_move_both h q' p' r = h (answer_from r.row).0
 
   pub both_moved : (from to x y : Path) → from ≡ forward b a c → to ≡ forward b a d → x ≡ forward from to a → y ≡ forward from to b → MoveThenMove a b c d →
-      IsGoodPrim (Move a b) → IsGoodPrim (Move c d) → IsGoodPrim (Move from to) → IsGoodPrim (Move x y) → Commutes (Move a b) (Move c d) (Move from to) (Move x y)
-  both_moved from to x y ef et ex ey p gp gq gq' gp' = record { good_p = gp; good_q = gq; good_q' = gq'; good_p' = gp'; row = two_moves p ef et ex ey }
+      IsValidPrim (Move a b) → IsValidPrim (Move c d) → IsValidPrim (Move from to) → IsValidPrim (Move x y) → Commutes (Move a b) (Move c d) (Move from to) (Move x y)
+  both_moved from to x y ef et ex ey p gp gq gq' gp' = record { valid_p = gp; valid_q = gq; valid_q' = gq'; valid_p' = gp'; row = two_moves p ef et ex ey }
 
   pub long_from : 32 < length (forward b a c) → (q' p' : Prim) → Commutes (Move a b) (Move c d) q' p' → ⊥
-  long_from l q' p' r = let h = answer_from r.row in let g = rw h.1 at r.good_q' in not_long (forward b a c) l g.0
+  long_from l q' p' r = let h = answer_from r.row in let g = rw h.1 at r.valid_q' in not_long (forward b a c) l g.0
 
   pub long_to : 32 < length (forward b a d) → (q' p' : Prim) → Commutes (Move a b) (Move c d) q' p' → ⊥
-  long_to l q' p' r = let h = answer_from r.row in let g = rw h.1 at r.good_q' in not_long (forward b a d) l g.1
+  long_to l q' p' r = let h = answer_from r.row in let g = rw h.1 at r.valid_q' in not_long (forward b a d) l g.1
 
   pub long_first_from : (from to : Path) → from ≡ forward b a c → to ≡ forward b a d → 32 < length (forward from to a) → (q' p' : Prim) → Commutes (Move a b) (Move c d) q' p' → ⊥
-  long_first_from from to ef et l q' p' r = let h = answer_from r.row in let g = rw h.2 at r.good_p' in not_long (forward from to a) l (rw (ef, et) g.0)
+  long_first_from from to ef et l q' p' r = let h = answer_from r.row in let g = rw h.2 at r.valid_p' in not_long (forward from to a) l (rw (ef, et) g.0)
 
   pub long_first_to : (from to : Path) → from ≡ forward b a c → to ≡ forward b a d → 32 < length (forward from to b) → (q' p' : Prim) → Commutes (Move a b) (Move c d) q' p' → ⊥
-  long_first_to from to ef et l q' p' r = let h = answer_from r.row in let g = rw h.2 at r.good_p' in not_long (forward from to b) l (rw (ef, et) g.1)
+  long_first_to from to ef et l q' p' r = let h = answer_from r.row in let g = rw h.2 at r.valid_p' in not_long (forward from to b) l (rw (ef, et) g.1)
 
 -- work, then a move; and the other way
 as_work : (p : Prim) → IsWork p → p ≡ At (path_of p) (work_of p)
@@ -92,22 +99,22 @@ module _ (p : Prim) (a b : Path) (is : IsWork p) where
   no_move_work n q' p' r = let h = rw (as_work p is) at r.row in n (answer_from h).0
 
   pub long_work_move : 32 < length (forward a b (path_of p)) → (q' p' : Prim) → Commutes p (Move a b) q' p' → ⊥
-  long_work_move l q' p' r = let h = answer_from (rw (as_work p is) at r.row) in let g = rw h.2 at r.good_p' in not_long (forward a b (path_of p)) l g.0
+  long_work_move l q' p' r = let h = answer_from (rw (as_work p is) at r.row) in let g = rw h.2 at r.valid_p' in not_long (forward a b (path_of p)) l g.0
 
   pub long_move_work : 32 < length (forward b a (path_of p)) → (q' p' : Prim) → Commutes (Move a b) p q' p' → ⊥
-  long_move_work l q' p' r = let h = answer_from (rw (as_work p is) at r.row) in let g = rw h.1 at r.good_q' in not_long (forward b a (path_of p)) l g.0
+  long_move_work l q' p' r = let h = answer_from (rw (as_work p is) at r.row) in let g = rw h.1 at r.valid_q' in not_long (forward b a (path_of p)) l g.0
 
   pub moved_before : (m : Prim) → m ≡ At (forward a b (path_of p)) (work_of p) → WorkThenMove (path_of p) (work_of p) a b →
-      IsGoodPrim p → IsGoodPrim m → IsGoodPath a → IsGoodPath b → Commutes p (Move a b) (Move a b) m
+      IsValidPrim p → IsValidPrim m → IsValidPath a → IsValidPath b → Commutes p (Move a b) (Move a b) m
   moved_before m e k gp gm ga gb =
       let r : TableRow p (Move a b) (Move a b) m = rw (e, as_work p is) (work_move k refl) in
-      record { good_p = gp; good_q = (ga, gb); good_q' = (ga, gb); good_p' = gm; row = r }
+      record { valid_p = gp; valid_q = (ga, gb); valid_q' = (ga, gb); valid_p' = gm; row = r }
 
   pub moved_after : (m : Prim) → m ≡ At (forward b a (path_of p)) (work_of p) → WorkThenMove (path_of p) (work_of p) b a →
-      IsGoodPrim p → IsGoodPrim m → IsGoodPath a → IsGoodPath b → Commutes (Move a b) p m (Move a b)
+      IsValidPrim p → IsValidPrim m → IsValidPath a → IsValidPath b → Commutes (Move a b) p m (Move a b)
   moved_after m e k gp gm ga gb =
       let r : TableRow (Move a b) p m (Move a b) = rw (e, as_work p is) (move_work k refl) in
-      record { good_p = (ga, gb); good_q = gp; good_q' = gm; good_p' = (ga, gb); row = r }
+      record { valid_p = (ga, gb); valid_q = gp; valid_q' = gm; valid_p' = (ga, gb); row = r }
 
 -- work and work
 module _ (f g : Path) (w v : Work) where
@@ -133,7 +140,7 @@ module _ (p q : Prim) (ip : IsWork p) (iq : IsWork q) where
   pub no_second_hunk : path_of p ≡ path_of q → (IsHunk (work_of q) → ⊥) → (q' p' : Prim) → Commutes p q q' p' → ⊥
   no_second_hunk e n = no_works (λ i j k. n j) (λ s. s.differ e)
 
-  pub change_places : WorkAndWork (path_of p) (work_of p) (path_of q) (work_of q) → IsGoodPrim p → IsGoodPrim q → Commutes p q q p
+  pub change_places : WorkAndWork (path_of p) (work_of p) (path_of q) (work_of q) → IsValidPrim p → IsValidPrim q → Commutes p q q p
   change_places s gp gq =
       let h : TableRow p q q p = rw (as_work p ip, as_work q iq) (two_works s) in
-      record { good_p = gp; good_q = gq; good_q' = gq; good_p' = gp; row = h }
+      record { valid_p = gp; valid_q = gq; valid_q' = gq; valid_p' = gp; row = h }

@@ -9,12 +9,12 @@ use Rattle.dm_tree.proofs.Paths.{forward-other, apart_sym}
 use Rattle.dm_prim.specs.Primitives.{Work, Prim, At, Move, inv, inv_all}
 use Rattle.dm_prim.specs.Rectangles.{CellRow, none, next, empty, row}
 use Rattle.dm_prim.specs.Table.{TableRow, first_above, second_above, two_works, work_move, move_work, two_moves, WorkThenMove, MoveThenMove}
-use Rattle.dm_prim.specs.Commuting.{IsGoodPrim, Commutes, ListsCommute}
+use Rattle.dm_prim.specs.Commuting.{IsValidPrim, Commutes, ListsCommute}
 use Rattle.std.proofs.lemmas.List.{take_all}
 use Rattle.dm_prim.specs.Prims.{prim_of, prims_of, path_of, IsWork}
 use Rattle.dm_prim.specs.declared.primitive.Primitive as code
 use Rattle.dm_prim.proofs.ListLemmas.{count_of, prims_more, parted}
-use Rattle.dm_prim.proofs.LawProofs.{good_inv}
+use Rattle.dm_prim.proofs.LawProofs.{valid_inv}
 use Rattle.dm_prim.specs.Touch.{paths_of, IsTouched, MovesOutside, TouchedPaths, Touches, IsApartFrom, AreApart, PassUnchanged, StayTouched, MoveNothing, NamesAmong, IsNamedAmong, InversesTouchTheSame}
 use Rattle.dm_prim.proofs.Squares.{not_inside, same_under}
 
@@ -99,10 +99,10 @@ touched_in (q ∷ ps) p f c d = elim (Contains-append_cases (q ∷ []) ps p c) [
 pub pass_unchanged : (t u : TouchedPaths) → AreApart t u → PassUnchanged t u
 pass_unchanged t u h xs ys a b =
     lists_unchanged xs ys (λ x y c d. record {
-      good_p = holds_of IsGoodPrim xs a.good c;
-      good_q = holds_of IsGoodPrim ys b.good d;
-      good_q' = holds_of IsGoodPrim ys b.good d;
-      good_p' = holds_of IsGoodPrim xs a.good c;
+      valid_p = holds_of IsValidPrim xs a.valid c;
+      valid_q = holds_of IsValidPrim ys b.valid d;
+      valid_q' = holds_of IsValidPrim ys b.valid d;
+      valid_p' = holds_of IsValidPrim xs a.valid c;
       row = row_aside x y (holds_of MovesOutside xs (a.moves.0 h.0) c) (holds_of MovesOutside ys (b.moves.0 h.1) d)
           (λ f g e i. holds_of (Apart f) u.paths (holds_of (IsApartFrom u.paths) t.paths h.2 ((a.paths f).1 (touched_in xs x f c e))).each ((b.paths g).1 (touched_in ys y g d i)));
     })
@@ -126,7 +126,7 @@ pub move_moves_something : (p : Prim) (a b : Path) → p ≡ Move a b → {P : T
 move_moves_something p a b e = rw e (λ x. absurd (cc x), λ x. elim x.1 [ ])
 
 -- one primitive more
-module _ (p : Prim) (t : TouchedPaths) (paths : List Path) (moves still : Bool) (good : IsGoodPrim p)
+module _ (p : Prim) (t : TouchedPaths) (paths : List Path) (moves still : Bool) (valid : IsValidPrim p)
     (more : (f : Path) → Contains paths f ↔ Contains (t.paths ++ paths_of p) f) (outside : IsTrue moves ↔ (IsTrue t.moves_outside × MovesOutside p))
     (work : IsTrue still ↔ (IsTrue t.moves_nothing × IsWork p))
     (ps : List Prim) (h : Touches ps t) where
@@ -141,7 +141,7 @@ module _ (p : Prim) (t : TouchedPaths) (paths : List Path) (moves still : Bool) 
 
   pub touches_more : Touches (ps ++ p ∷ []) (record { paths = paths; moves_outside = moves; moves_nothing = still })
   touches_more = record {
-    good = (all_with IsGoodPrim ps p).1 (h.good, good);
+    valid = (all_with IsValidPrim ps p).1 (h.valid, valid);
     paths = λ f. rw touched_by (λ c. (touched_more f).0 ((more f).0 c), λ c. (more f).1 ((touched_more f).1 c));
     moves = (
       λ m. let o = outside.0 m in (all_with MovesOutside ps p).1 (h.moves.0 o.0, o.1),
@@ -166,7 +166,7 @@ two_more old one two a b h k f = rw (append_assoc old (a ∷ []) (b ∷ [])) at 
 
 pub touches_none : {t : TouchedPaths} → t.paths ≡ [] → t.moves_outside ≡ true → t.moves_nothing ≡ true → Touches [] t
 touches_none e m n = record {
-  good = λ k d l. absurd (omega (arith, l));
+  valid = λ k d l. absurd (omega (arith, l));
   paths = λ f. rw e (λ c. c, λ c. c);
   moves = rw m (λ t. λ k d l. absurd (omega (arith, l)), λ h. refl);
   works = rw n (λ t. λ k d l. absurd (omega (arith, l)), λ h. refl);
@@ -210,7 +210,7 @@ all_from_inverse P Q f (p ∷ ps) h = let b = (all_with Q (inv_all ps) (inv p)).
 
 pub inverses_touch_the_same : InversesTouchTheSame
 inverses_touch_the_same ps t h = record {
-  good = all_of_inverse IsGoodPrim IsGoodPrim good_inv ps h.good;
+  valid = all_of_inverse IsValidPrim IsValidPrim valid_inv ps h.valid;
   paths = λ f. (λ c. (inverse_touched ps f).1 ((h.paths f).0 c), λ c. (h.paths f).1 ((inverse_touched ps f).0 c));
   moves = (
     λ m. all_of_inverse MovesOutside MovesOutside (λ p. (inverse_outside p).1) ps (h.moves.0 m),
@@ -224,12 +224,12 @@ inverses_touch_the_same ps t h = record {
 
 -- lists without moves that commute: every path stays
 record Kept (ps ps' : List Prim) : Type 0 where
-  good : All IsGoodPrim ps'
+  valid : All IsValidPrim ps'
   works : All IsWork ps'
   paths : flat_map paths_of ps' ≡ flat_map paths_of ps
 
 record KeptOne (p p' : Prim) : Type 0 where
-  good : IsGoodPrim p'
+  valid : IsValidPrim p'
   work : IsWork p'
   paths : paths_of p' ≡ paths_of p
 
@@ -242,40 +242,40 @@ row_kept (move_work a e) h k = elim h [ ]
 row_kept (two_moves a e1 e2 e3 e4) h k = elim h [ ]
 
 kept_first : {p q q' p' : Prim} → Commutes p q q' p' → IsWork p → IsWork q → KeptOne p p'
-kept_first c h k = let r = row_kept c.row h k in record { good = c.good_p'; work = r.0.0; paths = r.0.1 }
+kept_first c h k = let r = row_kept c.row h k in record { valid = c.valid_p'; work = r.0.0; paths = r.0.1 }
 
 kept_second : {p q q' p' : Prim} → Commutes p q q' p' → IsWork p → IsWork q → KeptOne q q'
-kept_second c h k = let r = row_kept c.row h k in record { good = c.good_q'; work = r.1.0; paths = r.1.1 }
+kept_second c h k = let r = row_kept c.row h k in record { valid = c.valid_q'; work = r.1.0; paths = r.1.1 }
 
 kept_more : {p p' : Prim} {ps ps' : List Prim} → KeptOne p p' → Kept ps ps' → Kept (p ∷ ps) (p' ∷ ps')
 kept_more {p} {p'} {ps} {ps'} a b = record {
-  good = All-cons IsGoodPrim p' ps' a.good b.good;
+  valid = All-cons IsValidPrim p' ps' a.valid b.valid;
   works = All-cons IsWork p' ps' a.work b.works;
   paths = ap (λ z. z ++ flat_map paths_of ps') a.paths ∙ ap (λ z. paths_of p ++ z) b.paths;
 }
 
-kept_all : (ps : List Prim) → All IsGoodPrim ps → All IsWork ps → Kept ps ps
-kept_all ps h k = record { good = h; works = k; paths = refl }
+kept_all : (ps : List Prim) → All IsValidPrim ps → All IsWork ps → Kept ps ps
+kept_all ps h k = record { valid = h; works = k; paths = refl }
 
 kept_on : {p q r : Prim} → KeptOne p q → KeptOne q r → KeptOne p r
-kept_on a b = record { good = b.good; work = b.work; paths = b.paths ∙ a.paths }
+kept_on a b = record { valid = b.valid; work = b.work; paths = b.paths ∙ a.paths }
 
 kept_then : {ps qs rs : List Prim} → Kept ps qs → Kept qs rs → Kept ps rs
-kept_then a b = record { good = b.good; works = b.works; paths = b.paths ∙ a.paths }
+kept_then a b = record { valid = b.valid; works = b.works; paths = b.paths ∙ a.paths }
 
-cells_kept : {x x' : Prim} {ys ys' : List Prim} → CellRow Commutes x ys ys' x' → IsGoodPrim x → IsWork x → All IsGoodPrim ys → All IsWork ys → KeptOne x x' × Kept ys ys'
-cells_kept none g h good works = (record { good = g; work = h; paths = refl }, kept_all [] good works)
-cells_kept (next {x} {y} {y'} {x1} {x'} {ys} {ys'} c s) g h good works =
+cells_kept : {x x' : Prim} {ys ys' : List Prim} → CellRow Commutes x ys ys' x' → IsValidPrim x → IsWork x → All IsValidPrim ys → All IsWork ys → KeptOne x x' × Kept ys ys'
+cells_kept none g h valid works = (record { valid = g; work = h; paths = refl }, kept_all [] valid works)
+cells_kept (next {x} {y} {y'} {x1} {x'} {ys} {ys'} c s) g h valid works =
     let k = All-head IsWork y ys works in
     let one = kept_first c h k in
-    let rest = cells_kept s one.good one.work (All-tail IsGoodPrim y ys good) (All-tail IsWork y ys works) in
+    let rest = cells_kept s one.valid one.work (All-tail IsValidPrim y ys valid) (All-tail IsWork y ys works) in
     (kept_on one rest.0, kept_more (kept_second c h k) rest.1)
 
-lists_kept : {xs ys ys' xs' : List Prim} → ListsCommute xs ys ys' xs' → All IsGoodPrim xs → All IsWork xs → All IsGoodPrim ys → All IsWork ys → Kept xs xs' × Kept ys ys'
-lists_kept (empty {ys}) g h good works = (kept_all [] g h, kept_all ys good works)
-lists_kept (row {x} {x'} {xs} {xs'} {ys} {between} {ys'} r s) g h good works =
-    let below = lists_kept r (All-tail IsGoodPrim x xs g) (All-tail IsWork x xs h) good works in
-    let above = cells_kept s (All-head IsGoodPrim x xs g) (All-head IsWork x xs h) below.1.good below.1.works in
+lists_kept : {xs ys ys' xs' : List Prim} → ListsCommute xs ys ys' xs' → All IsValidPrim xs → All IsWork xs → All IsValidPrim ys → All IsWork ys → Kept xs xs' × Kept ys ys'
+lists_kept (empty {ys}) g h valid works = (kept_all [] g h, kept_all ys valid works)
+lists_kept (row {x} {x'} {xs} {xs'} {ys} {between} {ys'} r s) g h valid works =
+    let below = lists_kept r (All-tail IsValidPrim x xs g) (All-tail IsWork x xs h) valid works in
+    let above = cells_kept s (All-head IsValidPrim x xs g) (All-head IsWork x xs h) below.1.valid below.1.works in
     (kept_more above.0 below.0, kept_then below.1 above.1)
 
 works_move_outside : (ps : List Prim) → All IsWork ps → All MovesOutside ps
@@ -283,7 +283,7 @@ works_move_outside ps h = holds_of_all MovesOutside ps (λ p c. work_moves_outsi
 
 kept_touched : (ps ps' : List Prim) (t : TouchedPaths) → IsTrue t.moves_nothing → Touches ps t → Kept ps ps' → Touches ps' t
 kept_touched ps ps' t m h k = record {
-  good = k.good;
+  valid = k.valid;
   paths = λ f. rw k.paths (h.paths f);
   moves = (λ _. works_move_outside ps' k.works, λ _. h.moves.1 (works_move_outside ps (h.works.0 m)));
   works = (λ _. k.works, λ _. m);
@@ -291,7 +291,7 @@ kept_touched ps ps' t m h k = record {
 
 pub stay_touched : (t u : TouchedPaths) → MoveNothing t u → StayTouched t u
 stay_touched t u m xs ys ys' xs' a b c =
-    let k = lists_kept c a.good (a.works.0 m.0) b.good (b.works.0 m.1) in
+    let k = lists_kept c a.valid (a.works.0 m.0) b.valid (b.works.0 m.1) in
     (kept_touched xs xs' t m.0 a k.0, kept_touched ys ys' u m.1 b k.1)
 
 -- whether a list touches this, asked of each of its primitives and of each path
@@ -345,10 +345,10 @@ module _ {Z : Type 0} (P : Prim → Type 0) (ps : List (code.Primitive Z)) (i : 
   pub all_prims : length ps ≤ i → All P (take i (prims_of ps)) → All P (prims_of ps)
   all_prims l h = rw (take_all i (prims_of ps) (rw (count_of ps) l)) at h
 
-pub touches_where : (ps : List Prim) (paths : List Path) (moves outside still work : Bool) → All IsGoodPrim ps → All (NamesAmong paths) ps → All (IsNamedAmong ps) paths → IsTrue outside ↔ All MovesOutside ps →
+pub touches_where : (ps : List Prim) (paths : List Path) (moves outside still work : Bool) → All IsValidPrim ps → All (NamesAmong paths) ps → All (IsNamedAmong ps) paths → IsTrue outside ↔ All MovesOutside ps →
     outside ≡ moves → IsTrue work ↔ All IsWork ps → work ≡ still → Touches ps (record { paths = paths; moves_outside = moves; moves_nothing = still })
-touches_where ps paths moves outside still work good among named out e all f = record {
-  good = good;
+touches_where ps paths moves outside still work valid among named out e all f = record {
+  valid = valid;
   paths = λ f. (λ c. (holds_of (IsNamedAmong ps) paths named c).named, among_all paths ps among f);
   moves = rw (← e) out;
   works = rw (← f) all;

@@ -1,6 +1,6 @@
 -- When primitives, and lists of them, commute.
 use Rattle.std.specs.Prelude.{ℕ, ◌+◌, ◌<◌, ◌^◌, List, length}
-use Rattle.dm_tree.specs.Validity.{IsGoodPath, ArePlain}
+use Rattle.dm_tree.specs.Validity.{IsValidPath, ArePlain}
 use Rattle.dm_prim.specs.Rectangles.{Rectangle}
 use Rattle.dm_prim.specs.Primitives.{Work, AddFile, RmFile, AddDir, RmDir, Hunk, Prim, At, Move}
 use Rattle.dm_prim.specs.Table.{TableRow}
@@ -10,24 +10,24 @@ abbrev pub IsLineNumber : ℕ → Type 0
 IsLineNumber l = (0 < l) × (l < 2 ^ 32)
 
 -- a hunk has a line in range, an old or a new line, and no newline in any of them
-abbrev pub IsGoodWork : Work → Type 0
-IsGoodWork AddFile = Unit {0}
-IsGoodWork RmFile = Unit {0}
-IsGoodWork AddDir = Unit {0}
-IsGoodWork RmDir = Unit {0}
-IsGoodWork (Hunk l old new) = IsLineNumber l × (0 < length old + length new) × ArePlain old × ArePlain new
+abbrev pub IsValidWork : Work → Type 0
+IsValidWork AddFile = Unit {0}
+IsValidWork RmFile = Unit {0}
+IsValidWork AddDir = Unit {0}
+IsValidWork RmDir = Unit {0}
+IsValidWork (Hunk l old new) = IsLineNumber l × (0 < length old + length new) × ArePlain old × ArePlain new
 
--- a primitive that may be: its paths and its work are good
-abbrev pub IsGoodPrim : Prim → Type 0
-IsGoodPrim (At p w) = IsGoodPath p × IsGoodWork w
-IsGoodPrim (Move a b) = IsGoodPath a × IsGoodPath b
+-- a primitive that may be: its paths and its work are valid
+abbrev pub IsValidPrim : Prim → Type 0
+IsValidPrim (At p w) = IsValidPath p × IsValidWork w
+IsValidPrim (Move a b) = IsValidPath a × IsValidPath b
 
--- p then q commute to q' then p': the table relates them, and all four are good, so that no line and no path of a result is past its limit
+-- p then q commute to q' then p': the table relates them, and all four are valid, so that no line and no path of a result is past its limit
 pub record Commutes (p q q' p' : Prim) : Type 0 where
-  pub good_p : IsGoodPrim p
-  pub good_q : IsGoodPrim q
-  pub good_q' : IsGoodPrim q'
-  pub good_p' : IsGoodPrim p'
+  pub valid_p : IsValidPrim p
+  pub valid_q : IsValidPrim q
+  pub valid_q' : IsValidPrim q'
+  pub valid_p' : IsValidPrim p'
   pub row : TableRow p q q' p'
 
 -- the lists xs then ys commute to ys' then xs': a rectangle of pairs that do

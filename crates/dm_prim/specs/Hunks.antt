@@ -4,7 +4,7 @@ use Rattle.dm_tree.specs.Paths.{Path}
 use Rattle.dm_tree.specs.Trees.{Lines}
 use Rattle.dm_prim.specs.Primitives.{Prim, At, Hunk}
 use Rattle.dm_prim.specs.Table.{LiesAbove}
-use Rattle.dm_prim.specs.Commuting.{IsGoodPrim}
+use Rattle.dm_prim.specs.Commuting.{IsValidPrim}
 use Rattle.dm_prim.specs.declared.hunk.HunkFault.{HunkFault}
 use Rattle.dm_prim.specs.declared.hunk.HunkFault.TheVariants.{BadLine, NoChange}
 
@@ -19,9 +19,9 @@ pub record HunkParts : Type 0 where
 abbrev pub hunk_of : HunkParts → Prim
 hunk_of h = At h.path (Hunk h.line h.old h.new)
 
--- a hunk is what it was made of, and good; at line 0, or with neither old nor new lines, it is refused
+-- a hunk is what it was made of, and valid; at line 0, or with neither old nor new lines, it is refused
 abbrev pub MakesHunk : HunkParts → Result HunkParts HunkFault → Type 0
-MakesHunk h (Ok r) = (r ≡ h) × IsGoodPrim (hunk_of h)
+MakesHunk h (Ok r) = (r ≡ h) × IsValidPrim (hunk_of h)
 MakesHunk h (Err BadLine) = h.line ≡ 0
 MakesHunk h (Err NoChange) = (0 < h.line) × (length h.old + length h.new ≡ 0)
 

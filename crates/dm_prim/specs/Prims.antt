@@ -1,4 +1,4 @@
--- Which primitive a value of the code is, and what commuting such values answers.
+-- Which primitive a value of the code is, and what commuting such values returns.
 use Rattle.std.specs.Prelude.{List, Vec, map, Option, Some, None}
 use Rattle.dm_tree.specs.Paths.{Path}
 use Rattle.dm_prim.specs.Primitives as primitives
@@ -36,27 +36,27 @@ abbrev pub IsWork : primitives.Prim → Type 0
 IsWork (primitives.At f w) = Unit {0}
 IsWork (primitives.Move a b) = ⊥
 
--- p then q commute to the pair that is answered; where none is, they commute to nothing
+-- p then q commute to the pair that is returned; where none is, they commute to nothing
 abbrev pub CommutesTo : {Z : Type 0} → primitives.Prim → primitives.Prim → Option (Primitive Z × Primitive Z) → Type 0
 CommutesTo p q None = (q' p' : primitives.Prim) → Commutes p q q' p' → ⊥
 CommutesTo p q (Some r) = Commutes p q (prim_of r.0) (prim_of r.1)
 
--- the three laws hold of the pair that is answered
+-- the three laws hold of the pair that is returned
 abbrev pub PairLawsHold : {Z : Type 0} → primitives.Prim → primitives.Prim → Option (Primitive Z × Primitive Z) → Type 0
 PairLawsHold p q None = Unit {0}
 PairLawsHold p q (Some r) = PairLaws p q (prim_of r.0) (prim_of r.1)
 
--- x passes all of ys, which become ys', and is then the one that is answered; where none is, it does not pass
+-- x passes all of ys, which become ys', and is then the one that is returned; where none is, it does not pass
 abbrev pub PassesTo : {Z : Type 0} → primitives.Prim → List primitives.Prim → List primitives.Prim → Option (Primitive Z) → Type 0
 PassesTo x ys zs None = (ys' : List primitives.Prim) (x' : primitives.Prim) → CellRow Commutes x ys ys' x' → ⊥
 PassesTo x ys zs (Some x') = CellRow Commutes x ys zs (prim_of x')
 
--- the lists xs then ys commute to the lists that are answered; where none are, they commute to nothing
+-- the lists xs then ys commute to the lists that are returned; where none are, they commute to nothing
 abbrev pub ListsCommuteTo : {Z Y : Type 0} → List primitives.Prim → List primitives.Prim → Option (Vec (Primitive Z) Y × Vec (Primitive Z) Y) → Type 0
 ListsCommuteTo xs ys None = (ys' xs' : List primitives.Prim) → ListsCommute xs ys ys' xs' → ⊥
 ListsCommuteTo xs ys (Some r) = ListsCommute xs ys (prims_of r.0.items) (prims_of r.1.items)
 
--- the three laws hold of the lists that are answered
+-- the three laws hold of the lists that are returned
 abbrev pub ListLawsHold : {Z Y : Type 0} → List primitives.Prim → List primitives.Prim → Option (Vec (Primitive Z) Y × Vec (Primitive Z) Y) → Type 0
 ListLawsHold xs ys None = Unit {0}
 ListLawsHold xs ys (Some r) = ListLaws xs ys (prims_of r.0.items) (prims_of r.1.items)

@@ -3,7 +3,7 @@ use Rattle.std.specs.Prelude.{◌↔◌, Bool, IsTrue, List, [], ◌∷◌, ◌+
 use Rattle.std.specs.List.{All, Contains}
 use Rattle.dm_tree.specs.Paths.{Path, Apart}
 use Rattle.dm_prim.specs.Primitives.{Prim, At, Move, inv_all}
-use Rattle.dm_prim.specs.Commuting.{IsGoodPrim, ListsCommute}
+use Rattle.dm_prim.specs.Commuting.{IsValidPrim, ListsCommute}
 use Rattle.dm_prim.specs.Prims.{IsWork}
 
 -- the paths that a primitive names
@@ -29,9 +29,9 @@ pub record TouchedPaths : Type 0 where
   -- whether none of it is a move
   pub moves_nothing : Bool
 
--- that is known of this list, whose primitives are good
+-- that is known of this list, whose primitives are valid
 pub record Touches (ps : List Prim) (t : TouchedPaths) : Type 0 where
-  pub good : All IsGoodPrim ps
+  pub valid : All IsValidPrim ps
   pub paths : (f : Path) → Contains t.paths f ↔ IsTouched ps f
   pub moves : IsTrue t.moves_outside ↔ All MovesOutside ps
   pub works : IsTrue t.moves_nothing ↔ All IsWork ps

@@ -41,15 +41,6 @@ pub fn apply_all<A: Allocator + Copy, B: Allocator>(
 ) -> Result<(), (usize, TreeFault)>
     ensures { AppliedAll (prims_of prims.now) tree.old tree.new result }
 {
-    apply_each(prims, tree)
-}
-
-fn apply_each<A: Allocator + Copy, B: Allocator>(
-    prims: &[Primitive<B>],
-    tree: &mut Tree<A>,
-) -> Result<(), (usize, TreeFault)>
-    ensures { AppliedAll (prims_of prims.now) tree.old tree.new result }
-{
     for k in 0..prims.len() {
         if let Err(fault) = apply(&prims[k], tree) {
             return Err((k, fault));

@@ -1,6 +1,6 @@
 //! Hunks: at a line of a file, old lines are replaced by new.
 ghost use Rattle.std.specs.Prelude.{◌≡◌, IfOk, length};
-ghost use Rattle.dm_prim.specs.Commuting.{IsGoodPrim, IsLineNumber};
+ghost use Rattle.dm_prim.specs.Commuting.{IsValidPrim, IsLineNumber};
 ghost use Rattle.dm_prim.specs.Hunks.{MakesHunk, hunk_of};
 
 use crate::places::Span;
@@ -20,13 +20,13 @@ pub struct Hunk<A: Allocator> {
 
 impl<A: Allocator> Model for Hunk<A> {
     ghost use Rattle.dm_prim.specs.Hunks.{HunkParts, hunk_of};
-    ghost use Rattle.dm_prim.specs.Commuting.{IsGoodPrim};
+    ghost use Rattle.dm_prim.specs.Commuting.{IsValidPrim};
 
     ghost Value = { HunkParts };
 
     ghost view = { λ h. record { path = h.path; line = h.line; old = h.old; new = h.new } };
 
-    ghost invariant = { λ h. IsGoodPrim (hunk_of (record { path = h.path; line = h.line; old = h.old; new = h.new })) };
+    ghost invariant = { λ h. IsValidPrim (hunk_of (record { path = h.path; line = h.line; old = h.old; new = h.new })) };
 }
 
 /// Why there is no such hunk.
@@ -64,7 +64,7 @@ impl<A: Allocator> Hunk<A> {
     /// The path of the file that it changes.
     pub fn path(&self) -> &Path<A>
         ensures value { result.now ≡ self.now.path }
-        ensures good { IsGoodPrim (hunk_of self.now) }
+        ensures valid { IsValidPrim (hunk_of self.now) }
     {
         &self.path
     }
@@ -72,7 +72,7 @@ impl<A: Allocator> Hunk<A> {
     /// The line of its change, counted from 1.
     pub fn line(&self) -> u32
         ensures value { result ≡ self.now.line }
-        ensures good { IsGoodPrim (hunk_of self.now) }
+        ensures valid { IsValidPrim (hunk_of self.now) }
     {
         self.line
     }
@@ -110,7 +110,7 @@ impl<A: Allocator> Hunk<A> {
         ensures line { result.line ≡ self.now.line }
         ensures old { result.old ≡ length self.now.old }
         ensures new { result.new ≡ length self.now.new }
-        ensures good { IsGoodPrim (hunk_of self.now) }
+        ensures valid { IsValidPrim (hunk_of self.now) }
     {
         Span {
             line: self.line,

@@ -1,8 +1,8 @@
 //! Primitive patches, the smallest changes of a tree: what each does, what undoes it, and when two of
 //! them, or two lists, change places.
 //!
-//! It stands on `dm_tree`. [`apply`] changes a tree as the definition of its primitive says, or answers
-//! the first fault and changes nothing. [`commute`] answers what this project's table, made after
+//! It stands on `dm_tree`. [`apply`] changes a tree as the definition of its primitive says, or returns
+//! the first fault and changes nothing. [`commute`] returns what this project's table, made after
 //! Darcs.Patch.Prim.V1.Commute, relates, and none only where it relates nothing; of each answer its
 //! contract tells three laws: both orders have the same end on every tree, the answer commutes back,
 //! and it commutes past the inverse. [`commute_lists`] does the same for lists. The laws of all values

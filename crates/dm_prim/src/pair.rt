@@ -3,7 +3,7 @@ ghost use Rattle.std.specs.Prelude.{◌≡◌, ◌↔◌, ◌<◌, ℕ, IfOk, Is
 ghost use Rattle.dm_tree.specs.Paths.{Apart, forward};
 ghost use Rattle.dm_prim.specs.Primitives.{At, Move};
 ghost use Rattle.dm_prim.specs.Table.{LiesAbove, WorkAndWork, WorkThenMove, MoveThenMove};
-ghost use Rattle.dm_prim.specs.Commuting.{IsGoodPrim, IsLineNumber};
+ghost use Rattle.dm_prim.specs.Commuting.{IsValidPrim, IsLineNumber};
 ghost use Rattle.dm_prim.specs.Hunks.{ChangePlaces, hunk_of};
 ghost use Rattle.dm_prim.specs.Prims.{prim_of, path_of, work_of, IsWork, CommutesTo, PairLawsHold};
 
@@ -64,8 +64,8 @@ fn commute_works<A: Allocator>(
     if !may_change_places(&p, &q) {
         return None;
     }
-    p.tells_good();
-    q.tells_good();
+    p.tells_valid();
+    q.tells_valid();
     Some((q, p))
 }
 
@@ -200,10 +200,10 @@ fn forward_work<A: Allocator + Copy>(
     requires { IsWork (prim_of work) }
     ensures value { IfOk result (λ answer. MatchOption answer
         (32 < length (forward from.now to.now (path_of (prim_of work))))
-        (λ moved. (prim_of moved ≡ At (forward from.now to.now (path_of (prim_of work))) (work_of (prim_of work))) × IsGoodPrim (prim_of moved))) }
-    ensures good { IsGoodPrim (prim_of work) }
+        (λ moved. (prim_of moved ≡ At (forward from.now to.now (path_of (prim_of work))) (work_of (prim_of work))) × IsValidPrim (prim_of moved))) }
+    ensures valid { IsValidPrim (prim_of work) }
 {
-    work.tells_good();
+    work.tells_valid();
     if !work.path().is_under(from) {
         return Ok(Some(work));
     }
@@ -211,7 +211,7 @@ fn forward_work<A: Allocator + Copy>(
         return Ok(None);
     };
     let moved = work.at(path);
-    moved.tells_good();
+    moved.tells_valid();
     Ok(Some(moved))
 }
 

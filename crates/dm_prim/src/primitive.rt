@@ -2,7 +2,7 @@
 ghost use Rattle.std.specs.Prelude.{◌≡◌, ◌↔◌, IfOk, IsTrue, MatchOption, MatchResult};
 ghost use Rattle.dm_prim.specs.Primitives as primitives;
 ghost use Rattle.dm_prim.specs.Table.{IsDirectoryWork, IsHunk};
-ghost use Rattle.dm_prim.specs.Commuting.{IsGoodPrim};
+ghost use Rattle.dm_prim.specs.Commuting.{IsValidPrim};
 ghost use Rattle.dm_prim.specs.Hunks.{hunk_of};
 ghost use Rattle.dm_prim.specs.Prims.{prim_of, path_of, work_of, IsWork};
 
@@ -26,9 +26,9 @@ impl<A: Allocator> Primitive<A> {
     /// The same primitive with another allocator.
     pub fn copy_into<B: Allocator + Copy>(&self, alloc: B) -> Result<Primitive<B>, AllocError>
         ensures value { IfOk result (λ copy. prim_of copy ≡ prim_of self.now) }
-        ensures good { IsGoodPrim (prim_of self.now) }
+        ensures valid { IsValidPrim (prim_of self.now) }
     {
-        self.tells_good();
+        self.tells_valid();
         match self {
             Primitive::AddFile(path) => Ok(Primitive::AddFile(path.copy_into(alloc)?)),
             Primitive::RmFile(path) => Ok(Primitive::RmFile(path.copy_into(alloc)?)),
@@ -46,7 +46,7 @@ impl<A: Allocator> Primitive<A> {
     /// The move of all that is at or under one path to another.
     pub(crate) fn moving(from: Path<A>, to: Path<A>) -> Primitive<A>
         ensures value { prim_of result ≡ primitives.Move from to }
-        ensures good { IsGoodPrim (primitives.Move from to) }
+        ensures valid { IsValidPrim (primitives.Move from to) }
     {
         Primitive::Move(from, to)
     }
@@ -81,9 +81,9 @@ impl<A: Allocator> Primitive<A> {
         }
     }
 
-    /// Reads its parts, and so tells that it is good. Takes no memory.
-    pub fn tells_good(&self)
-        ensures { IsGoodPrim (prim_of self.now) }
+    /// Reads its parts, and so tells that it is valid. Takes no memory.
+    pub fn tells_valid(&self)
+        ensures { IsValidPrim (prim_of self.now) }
     {
         match self {
             Primitive::AddFile(path) => {

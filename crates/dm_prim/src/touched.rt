@@ -1,7 +1,7 @@
 //! The paths that a list of primitives touches.
 ghost use Rattle.std.specs.Prelude.{◌≡◌, ◌↔◌, ◌++◌, ◌∷◌, [], All, Contains, IfOk, OnOk, IsTrue};
 ghost use Rattle.dm_tree.specs.Paths.{Path as TreePath};
-ghost use Rattle.dm_prim.specs.Commuting.{IsGoodPrim};
+ghost use Rattle.dm_prim.specs.Commuting.{IsValidPrim};
 ghost use Rattle.dm_prim.specs.Prims.{IsWork, prim_of, prims_of};
 ghost use Rattle.dm_prim.specs.Touch.{AreApart, IsApartFrom, IsNamedAmong, IsTouched, MoveNothing, MovesOutside, NamesAmong, PassUnchanged, StayTouched, Touches, TouchesMore};
 
@@ -33,7 +33,7 @@ impl<A: Allocator + Copy> Touched<A> {
     fn add<B: Allocator>(&mut self, prim: &Primitive<B>) -> Result<(), AllocError>
         ensures { OnOk result (TouchesMore (prim_of prim.now) self.old self.new) }
     {
-        prim.tells_good();
+        prim.tells_valid();
         add_path(&mut self.paths, prim.path())?;
         if let Some(target) = prim.target() {
             add_path(&mut self.paths, target)?;
@@ -51,11 +51,14 @@ impl<A: Allocator> Touched<A> {
     pub fn is_of<B: Allocator>(&self, prims: &[Primitive<B>]) -> bool
         ensures { IsTrue result ↔ Touches (prims_of prims.now) self.now }
     {
-        all_tell_good(prims);
-        if !all_name_among(prims, &self.paths) {
-            return false;
+        let paths = self.paths.as_slice();
+        for prim in prims {
+            prim.tells_valid();
+            if !names_among(prim, paths) {
+                return false;
+            }
         }
-        if !are_all_named(&self.paths, prims) {
+        if !are_all_named(paths, prims) {
             return false;
         }
         if all_move_outside(prims) != self.moves_outside {
@@ -111,15 +114,6 @@ pub fn touch<A: Allocator, B: Allocator + Copy>(
     Ok(touched)
 }
 
-/// Reads the parts of each, and so tells that all are good.
-fn all_tell_good<A: Allocator>(prims: &[Primitive<A>])
-    ensures { All IsGoodPrim (prims_of prims.now) }
-{
-    for prim in prims {
-        prim.tells_good();
-    }
-}
-
 /// Whether a path is one of these.
 fn is_among<A: Allocator, B: Allocator>(path: &Path<A>, paths: &[Path<B>]) -> bool
     ensures { IsTrue result ↔ Contains paths.now path.now }
@@ -146,18 +140,6 @@ fn names_among<A: Allocator, B: Allocator>(prim: &Primitive<A>, paths: &[Path<B>
         Some(target) => is_among(target, paths),
         None => true,
     }
-}
-
-/// Whether all that these primitives name is among these paths.
-fn all_name_among<A: Allocator, B: Allocator>(prims: &[Primitive<A>], paths: &[Path<B>]) -> bool
-    ensures { IsTrue result ↔ All (NamesAmong paths.now) (prims_of prims.now) }
-{
-    for prim in prims {
-        if !names_among(prim, paths) {
-            return false;
-        }
-    }
-    true
 }
 
 /// Whether a primitive names a path.

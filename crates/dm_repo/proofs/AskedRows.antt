@@ -1,6 +1,6 @@
 -- Rows that are asked for: what is passed stays as it is.
 use Rattle.std.specs.Prelude.{MatchBool, Contains}
-use Rattle.std.proofs.Common.{◌≡◌, ℕ, ◌+◌, ◌-◌, ◌<◌, ◌≤◌, List, [], ◌∷◌, ◌++◌, length, map, take, drop, get_or, set, Bool, true, false, refl, sym, ap, ◌∙◌, arith}
+use Rattle.std.proofs.Common.{◌≡◌, ℕ, ◌+◌, ◌-◌, ◌<◌, ◌≤◌, List, [], ◌∷◌, ◌++◌, length, map, take, drop, get_or, set, Bool, true, false, refl, ap, ◌∙◌, arith}
 use Rattle.std.proofs.lemmas.List.{take_more, map_push, map-append, drop_more, set-get_or}
 use Rattle.dm_prim.specs.Rectangles.{none, next, row}
 use Rattle.dm_prim.specs.Primitives.{Prim}

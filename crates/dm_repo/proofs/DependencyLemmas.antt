@@ -1,6 +1,7 @@
 -- What a new patch lacks.
-use Rattle.std.proofs.Common.{◌≡◌, ◌⊎◌, inl, inr, ℕ, zero, suc, ◌+◌, ◌<◌, ◌≤◌, Bool, true, false, List, length, take, get_or, slice_get, Some, refl, sym, ap, subst, ◌∙◌, arith}
+use Rattle.std.proofs.Common.{◌≡◌, ◌⊎◌, inl, inr, ℕ, zero, suc, ◌+◌, ◌<◌, ◌≤◌, nat_eq, Bool, true, false, List, length, take, get_or, slice_get, Some, refl, sym, ap, subst, ◌∙◌, arith}
 use Rattle.std.specs.List.{Contains}
+use Rattle.std.proofs.lemmas.Bool.{eqb-true}
 use Rattle.dm_info.specs.PatchInfo.{PatchInfo}
 use Rattle.dm_named.specs.Patches.{Patch}
 use Rattle.dm_bundle.specs.Patches.{infos_of}
@@ -21,9 +22,22 @@ unmarked_new repo new held n x m e h k =
     let b : false ≡ true = some_same (sym h ∙ t) in
     absurd (cc)
 
+-- a patch that names nothing
+pub names_none : (is : List PatchInfo) {i : PatchInfo} → nat_eq (length is) 0 ≡ true → Contains is i → ⊥
+names_none is e (k, l, q) = absurd (omega (arith, l, eqb-true (length is) 0 e))
+
 -- the new patch at n is x, and it names what x names
 pub same_patch : (new : List Patch) (n : ℕ) (x y : Patch) → n < length new → x ≡ get_or new n x → slice_get new n ≡ Some y → x ≡ y
 same_patch new n x y l e f = some_same (sym (at_place new n x l e) ∙ f)
+
+-- a new patch that is held, or names nothing, has all it names
+pub held_has : (repo : List Patch) (b : Contents) (held : List Bool) (n : ℕ) → AreMarksOf held (infos_of b.patches) (Holds repo) → slice_get held n ≡ Some true → HasDependenciesAt repo b n
+held_has repo b held n m h x d e new c = absurd (new (marked_held repo b.patches held n x m e h))
+
+pub none_has : (repo : List Patch) (b : Contents) (n : ℕ) (y : Patch) → n < length b.patches → y ≡ get_or b.patches n y → nat_eq (length y.deps) 0 ≡ true → HasDependenciesAt repo b n
+none_has repo b n y l e z x d f new c =
+    let s : y ≡ x = same_patch b.patches n y x l e f in
+    absurd (names_none y.deps z (subst (λ (p : Patch). Contains p.deps d) (sym s) c))
 
 -- the first dependency that isn't known
 pub first_unknown : (repo : List Patch) (b : Contents) (n d : ℕ) (x : Patch) (i : PatchInfo) → n < length b.patches → x ≡ get_or b.patches n x → (Holds repo x.info → ⊥) → d < length x.deps → i ≡ get_or x.deps d i →

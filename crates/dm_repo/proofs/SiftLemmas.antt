@@ -1,5 +1,5 @@
 -- Sifting: one answer, what is merged applies, and what it has in common with a merge.
-use Rattle.std.proofs.Common.{◌≡◌, ◌≢◌, ◌+◌, ℕ, zero, suc, arith, length-append, List, [], ◌∷◌, ◌++◌, length, map, drop, get_or, ◌⊎◌, inl, inr, refl, sym, ap, ap₂, ◌∙◌, append_assoc, append-nil}
+use Rattle.std.proofs.Common.{◌≡◌, ◌≢◌, ◌+◌, ℕ, suc, arith, length-append, List, [], ◌∷◌, ◌++◌, length, drop, get_or, inl, inr, refl, sym, ap, ap₂, ◌∙◌, append_assoc, append-nil}
 use Rattle.dm_info.specs.PatchInfo.{PatchInfo}
 use Rattle.dm_prim.specs.InTurn.{InTurn, done, step}
 use Rattle.dm_prim.specs.Rectangles.{CellRow, none, next, empty, row}
@@ -13,10 +13,7 @@ use Rattle.dm_repo.specs.declared.policy.Policy.TheVariants.{Refuse, Skip}
 use Rattle.dm_repo.specs.Staircases.{Passes, PassStops, Split, nothing, stays, yields}
 use Rattle.dm_repo.specs.Merging.{MergeRectangle, bare, over, MergesPast, MergePastStops}
 use Rattle.dm_repo.specs.Sifting.{MergesOver, MergesNowhere, Sifts, ends, merges, skips, MergesUnder, ConflictsUnder}
-use Rattle.dm_repo.specs.Squares.{Placed, placed, patches, PlacedCommutes, PlacedMerges, undone}
-use Rattle.dm_repo.specs.declared.stop.Stop.{Stop}
-use Rattle.dm_repo.specs.declared.stop.Stop.TheVariants.{At, NoMemory}
-use Rattle.dm_repo.specs.Stops.{StopsAt}
+use Rattle.dm_repo.specs.Squares.{Placed, patches, PlacedCommutes, PlacedMerges}
 use Rattle.dm_repo.specs.Repositories.{Holds}
 use Rattle.dm_repo.specs.Weighing.{IsHeld, IsBundleSplit, Fits}
 use Rattle.dm_repo.specs.Laws.{PoliciesAgree, EachIsMergedOrSkipped}
@@ -117,19 +114,6 @@ pub stuck_rest : {skipped skipped1 rest : List Placed} {n n1 r : Placed} → Pas
 stuck_rest p s n' skipped' rest' o =
     let e = cons_one (rectangle_one Placed PlacedCommutes placed_one p o.passes_skipped).0 in
     join_stops Placed PlacedMerges merged_one s (rw (← e.0) at o.merges_past)
-
--- a row that stops
-pub skipped_stops : (stop : Stop) (k : ℕ) {xs skipped rest : List Placed} {o n : Placed} → stop ≡ At k → xs ≡ skipped → o ≡ n → StopsAt stop (PassStops PlacedCommutes xs o) → MergesNowhere skipped rest n
-skipped_stops (At j) k i e f (r, p, s) = stuck_skipped (rw (e, f) at s)
-skipped_stops NoMemory k i e f s = absurd (cc)
-
-pub rest_stops : (stop : Stop) (k : ℕ) (xs : List Placed) {skipped skipped1 rest : List Placed} {n n1 : Placed} → stop ≡ At k → Passes PlacedCommutes skipped n n1 skipped1 → map undone xs ≡ rest →
-    StopsAt stop (MergePastStops PlacedMerges (map undone xs) n1) → MergesNowhere skipped rest n
-rest_stops (At j) k xs i p e (r, q, s) = stuck_rest p (rw e at s)
-rest_stops NoMemory k xs i p e s = absurd (cc)
-
-pub goes_over : {skipped skipped' rest rest' : List Placed} {n n1 n' : Placed} → Passes PlacedCommutes skipped n n1 skipped' → MergesPast PlacedMerges rest n1 n' rest' → MergesOver skipped rest n n' skipped' rest'
-goes_over {n1} p g = record { between = n1; passes_skipped = p; merges_past = g }
 
 -- where nothing conflicts both policies agree
 merge_bare : {rest out rest' : List Placed} → MergeRectangle PlacedMerges rest [] out rest' → (out ≡ []) × (rest' ≡ rest)

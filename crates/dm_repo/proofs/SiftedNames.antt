@@ -8,7 +8,7 @@ use Rattle.dm_named.specs.Commuting.{Stays}
 use Rattle.dm_bundle.specs.Patches.{infos_of, Distinct}
 use Rattle.dm_repo.specs.Staircases.{Passes}
 use Rattle.dm_repo.specs.Merging.{bare, over, MergesPast}
-use Rattle.dm_repo.specs.Sifting.{MergesOver, Sifts, ends, merges, skips}
+use Rattle.dm_repo.specs.Sifting.{Sifts, ends, merges, skips}
 use Rattle.dm_repo.specs.Squares.{Placed, patches, PlacedCommutes, PlacedMerges}
 use Rattle.dm_repo.specs.Repositories.{NamesEarlier}
 use Rattle.dm_repo.proofs.Members.{here, more, one_of, none_of}

@@ -1,9 +1,9 @@
 -- One more patch of a list that is split by marks.
-use Rattle.std.proofs.Common.{◌≡◌, ℕ, zero, suc, ◌+◌, ◌<◌, ◌≤◌, List, [], ◌∷◌, ◌++◌, length, take, drop, get_or, slice_get, Some, Bool, true, false, inl, inr, refl, sym, ap, ◌∙◌, arith, add-zero, append_assoc, append-nil, length-append}
-use Rattle.std.proofs.lemmas.List.{take-append-le, take_all, take_more, length-take-le}
+use Rattle.std.proofs.Common.{◌≡◌, ℕ, zero, suc, ◌+◌, ◌<◌, ◌≤◌, List, [], ◌∷◌, ◌++◌, length, take, drop, get_or, slice_get, Some, Bool, true, false, inl, inr, refl, sym, ap, ◌∙◌, arith, add-zero, append_assoc, append-nil}
+use Rattle.std.proofs.lemmas.List.{take-append-le, take-append-drop, take_all, take_more, drop_more, length-drop, length-take-le}
 use Rattle.std.proofs.lemmas.Bool.{cases_lt}
 use Rattle.dm_named.specs.Patches.{Patch}
-use Rattle.dm_repo.specs.Staircases.{Passes, Split, nothing, stays, PassStops, SplitStops}
+use Rattle.dm_repo.specs.Staircases.{Passes, Split, stays, PassStops, SplitStops}
 use Rattle.dm_repo.specs.Squares.{Placed, placed, placed_from, PlacedCommutes}
 use Rattle.dm_repo.specs.Stops.{AreMarkedUpTo, AtPlaces, StopsAt, BlockedBy, blocked_at, IsMarked}
 use Rattle.dm_repo.specs.declared.stop.Stop.{Stop}
@@ -26,10 +26,6 @@ placed_from-append n (x ∷ xs) ys =
     let e : (n + 1) + length xs ≡ n + length (x ∷ xs) = omega arith in
     ap (λ l. (n, x) ∷ l) (placed_from-append (n + 1) xs ys ∙ ap (λ k. placed_from (n + 1) xs ++ placed_from k ys) e)
 
-length-placed_from : (n : ℕ) (xs : List Patch) → length (placed_from n xs) ≡ length xs
-length-placed_from n [] = refl
-length-placed_from n (x ∷ xs) = ap suc (length-placed_from (n + 1) xs)
-
 -- a mark that was read
 pub mark_at : (marks : List Bool) (k : ℕ) (b d : Bool) → k < length marks → get_or marks k d ≡ b → slice_get marks k ≡ Some b
 mark_at [] k b d l e = absurd (omega arith)
@@ -41,66 +37,99 @@ pub blocks_at : (x : Placed) (Q : Placed → Type 0) (S : Placed → Placed → 
 blocks_at x Q S (At k) f (r, e, q) = (x, r, refl, e, f r q)
 blocks_at x Q S NoMemory f s = tt
 
--- of the patches xs those before the place k were taken, and x is the next
-module _ (xs : List Patch) (taken : List Placed) (k : ℕ) (x : Patch) (left : List Patch) (whole : placed xs ≡ taken ++ placed_from k (x ∷ left)) where
-  pub one_taken : placed xs ≡ (taken ++ (k, x) ∷ []) ++ placed_from (k + 1) left
-  one_taken = whole ∙ sym (append_assoc taken ((k, x) ∷ []) (placed_from (k + 1) left))
+-- x is the first of what is left from a place on
+module _ {X : Type 0} (xs : List X) (k : ℕ) (x : X) (left : List X) (e : drop k xs ≡ x ∷ left) where
+  pub is_left : k < length xs
+  is_left = omega (arith, ap length e, length-drop k xs)
 
-  pub one_counted : length taken ≡ k → length (taken ++ (k, x) ∷ []) ≡ k + 1
-  one_counted e = omega (arith, e, length-append taken ((k, x) ∷ []))
+  pub left_is : (x ≡ get_or xs k x) × (drop (k + 1) xs ≡ left)
+  left_is =
+      let d : get_or xs k x ∷ drop (k + 1) xs ≡ x ∷ left = sym (drop_more xs k x is_left) ∙ e in
+      let a : x ≡ get_or xs k x = cc in
+      let b : drop (k + 1) xs ≡ left = cc in
+      (a, b)
 
-  pub is_below : length taken ≡ k → k < length xs
-  is_below e =
-      let a : length xs ≡ length (taken ++ placed_from k (x ∷ left)) = sym (length-placed_from 0 xs) ∙ ap length whole in
-      omega (arith, a, e, length-append taken (placed_from k (x ∷ left)))
-
-  module _ (marks : List Bool) {front rest : List Placed} (m : length marks ≡ length xs) (e : length taken ≡ k) (so_far : Split PlacedCommutes (IsMarked marks) taken front rest) (d : Bool) where
-    pub split_more_in : {h : Placed} {front' rest' : List Placed} → get_or marks k d ≡ true → Passes PlacedCommutes rest (k, x) h rest' → front' ≡ front ++ h ∷ [] →
-        Split PlacedCommutes (IsMarked marks) (taken ++ (k, x) ∷ []) front' rest'
-    split_more_in marked p f = rw f (split_in Placed PlacedCommutes (IsMarked marks) so_far (mark_at marks k true d (rw m (is_below e)) marked) p)
-
-    pub split_more_out : {rest' : List Placed} → get_or marks k d ≡ false → rest' ≡ rest ++ (k, x) ∷ [] → Split PlacedCommutes (IsMarked marks) (taken ++ (k, x) ∷ []) front rest'
-    split_more_out marked r = rw r (split_out Placed PlacedCommutes (IsMarked marks) so_far (λ h. not_both (mark_at marks k false d (rw m (is_below e)) marked) h))
-      where
-        not_both : slice_get marks k ≡ Some false → slice_get marks k ≡ Some true → ⊥
-        not_both f t = let b : false ≡ true = cc in absurd (cc)
-
-    pub split_stop : {r : Placed} → get_or marks k d ≡ true → PassStops PlacedCommutes rest (k, x) r → SplitStops PlacedCommutes (IsMarked marks) (placed xs) (k, x) r
-    split_stop marked s = record {
-      before = taken;
-      after = placed_from (k + 1) left;
-      front = front;
-      rest = rest;
-      at = whole;
-      so_far = so_far;
-      in_set = mark_at marks k true d (rw m (is_below e)) marked;
-      stops = s;
-    }
+-- where nothing is left, all was taken
+pub none_left : {X : Type 0} (xs : List X) (k : ℕ) (left : List X) → drop k xs ≡ left → length left ≡ 0 → take k xs ≡ xs
+none_left xs k left e l = take_all k xs (omega (arith, ap length e, length-drop k xs, l))
 
 -- a patch at a place, with what stands before it and after it
+pub placed_from_around : (first : ℕ) (xs : List Patch) (k : ℕ) (x : Patch) → k < length xs → x ≡ get_or xs k x → placed_from first xs ≡ placed_from first (take k xs) ++ placed_from (first + k) (x ∷ drop (k + 1) xs)
+placed_from_around first xs k x l e =
+    let n : first + length (take k xs) ≡ first + k = omega (arith, length-take-le k xs (omega (arith, l))) in
+    ap (placed_from first) (around xs k x l e) ∙ placed_from-append first (take k xs) (x ∷ drop (k + 1) xs) ∙ ap (λ n. placed_from first (take k xs) ++ placed_from n (x ∷ drop (k + 1) xs)) n
+
 pub placed_around : (xs : List Patch) (k : ℕ) (x : Patch) → k < length xs → x ≡ get_or xs k x → placed xs ≡ placed (take k xs) ++ placed_from k (x ∷ drop (k + 1) xs)
-placed_around xs k x l e =
-    let n : 0 + length (take k xs) ≡ k = omega (arith, length-take-le k xs (omega (arith, l))) in
-    ap placed (around xs k x l e) ∙ placed_from-append 0 (take k xs) (x ∷ drop (k + 1) xs) ∙ ap (λ n. placed (take k xs) ++ placed_from n (x ∷ drop (k + 1) xs)) n
+placed_around xs k x l e = let z : 0 + k ≡ k = omega arith in rw z at (placed_from_around 0 xs k x l e)
 
-pub placed_more : (xs : List Patch) (k : ℕ) (x : Patch) → k < length xs → x ≡ get_or xs k x → placed (take (k + 1) xs) ≡ placed (take k xs) ++ (k, x) ∷ []
-placed_more xs k x l e =
-    let n : 0 + length (take k xs) ≡ k = omega (arith, length-take-le k xs (omega (arith, l))) in
-    ap placed (take_more xs k x l ∙ ap (λ y. take k xs ++ y ∷ []) (sym e)) ∙ placed_from-append 0 (take k xs) (x ∷ []) ∙ ap (λ n. placed (take k xs) ++ placed_from n (x ∷ [])) n
+pub placed_from_more : (first : ℕ) (xs : List Patch) (k : ℕ) (x : Patch) → k < length xs → x ≡ get_or xs k x → placed_from first (take (k + 1) xs) ≡ placed_from first (take k xs) ++ (first + k, x) ∷ []
+placed_from_more first xs k x l e =
+    let n : first + length (take k xs) ≡ first + k = omega (arith, length-take-le k xs (omega (arith, l))) in
+    ap (placed_from first) (take_more xs k x l ∙ ap (λ y. take k xs ++ y ∷ []) (sym e)) ∙ placed_from-append first (take k xs) (x ∷ []) ∙ ap (λ n. placed_from first (take k xs) ++ placed_from n (x ∷ [])) n
 
-pub length-placed : (xs : List Patch) (k : ℕ) → k ≤ length xs → length (placed (take k xs)) ≡ k
-length-placed xs k l = length-placed_from 0 (take k xs) ∙ length-take-le k xs l
+-- of the patches xs, which stand from a place on, those before k were taken, and x is the next
+module _ (first : ℕ) (xs : List Patch) (k : ℕ) (x : Patch) (left : List Patch) (next : drop k xs ≡ x ∷ left) (marks : List Bool) {front rest : List Placed} (m : length marks ≡ first + length xs)
+    (so_far : Split PlacedCommutes (IsMarked marks) (placed_from first (take k xs)) front rest) (d : Bool) where
+  is_within : first + k < length marks
+  is_within = omega (arith, m, is_left xs k x left next)
+
+  taken_more : placed_from first (take (k + 1) xs) ≡ placed_from first (take k xs) ++ (first + k, x) ∷ []
+  taken_more = placed_from_more first xs k x (is_left xs k x left next) (left_is xs k x left next).0
+
+  pub split_more_in : {h : Placed} {front' rest' : List Placed} → get_or marks (first + k) d ≡ true → Passes PlacedCommutes rest (first + k, x) h rest' → front' ≡ front ++ h ∷ [] →
+      Split PlacedCommutes (IsMarked marks) (placed_from first (take (k + 1) xs)) front' rest'
+  split_more_in marked p f = rw (f, taken_more) (split_in Placed PlacedCommutes (IsMarked marks) so_far (mark_at marks (first + k) true d is_within marked) p)
+
+  pub split_more_out : {rest' : List Placed} → get_or marks (first + k) d ≡ false → rest' ≡ rest ++ (first + k, x) ∷ [] → Split PlacedCommutes (IsMarked marks) (placed_from first (take (k + 1) xs)) front rest'
+  split_more_out marked r = rw (r, taken_more) (split_out Placed PlacedCommutes (IsMarked marks) so_far (λ h. not_both (mark_at marks (first + k) false d is_within marked) h))
+    where
+      not_both : slice_get marks (first + k) ≡ Some false → slice_get marks (first + k) ≡ Some true → ⊥
+      not_both f t = let b : false ≡ true = cc in absurd (cc)
+
+  pub split_stop : {r : Placed} → get_or marks (first + k) d ≡ true → PassStops PlacedCommutes rest (first + k, x) r → SplitStops PlacedCommutes (IsMarked marks) (placed_from first xs) (first + k, x) r
+  split_stop marked s = record {
+    before = placed_from first (take k xs);
+    after = placed_from (first + k + 1) (drop (k + 1) xs);
+    front = front;
+    rest = rest;
+    at = placed_from_around first xs k x (is_left xs k x left next) (left_is xs k x left next).0;
+    so_far = so_far;
+    in_set = mark_at marks (first + k) true d is_within marked;
+    stops = s;
+  }
 
 -- the first patches stay where all of them are marked
-all_kept : (marks : List Bool) (n : ℕ) (xs : List Patch) → ((k : ℕ) → k < length xs → slice_get marks (n + k) ≡ Some true) → Split PlacedCommutes (IsMarked marks) (placed_from n xs) (placed_from n xs) []
-all_kept marks n [] f = nothing
-all_kept marks n (x ∷ xs) f =
+before_split : (marks : List Bool) (n : ℕ) (xs : List Patch) {ys front rest : List Placed} → ((k : ℕ) → k < length xs → slice_get marks (n + k) ≡ Some true) → Split PlacedCommutes (IsMarked marks) ys front rest →
+    Split PlacedCommutes (IsMarked marks) (placed_from n xs ++ ys) (placed_from n xs ++ front) rest
+before_split marks n [] f s = s
+before_split marks n (x ∷ xs) f s =
     let z : n + 0 ≡ n = add-zero n in
-    stays (rw z at (f 0 (omega arith))) (all_kept marks (n + 1) xs (λ k l. let e : n + suc k ≡ n + 1 + k = omega arith in rw e at (f (suc k) (omega (arith, l)))))
+    stays (rw z at (f 0 (omega arith))) (before_split marks (n + 1) xs (λ k l. let e : n + suc k ≡ n + 1 + k = omega arith in rw e at (f (suc k) (omega (arith, l)))) s)
 
-pub kept_stay : (marks : List Bool) (xs : List Patch) (kept : ℕ) → kept ≤ length xs → AreMarkedUpTo marks kept → Split PlacedCommutes (IsMarked marks) (placed (take kept xs)) (placed (take kept xs) ++ []) []
-kept_stay marks xs kept l f =
-    rw (append-nil (placed (take kept xs))) (all_kept marks 0 (take kept xs) (λ k b. f (0 + k) (omega (arith, b, length-take-le kept xs l))))
+-- so the whole is split, or stopped, where the others are
+module _ (marks : List Bool) (xs : List Patch) (kept : ℕ) (l : kept ≤ length xs) (marked : AreMarkedUpTo marks kept) where
+  in_two : placed xs ≡ placed (take kept xs) ++ placed_from kept (drop kept xs)
+  in_two =
+      let n : 0 + length (take kept xs) ≡ kept = omega (arith, length-take-le kept xs l) in
+      ap placed (sym (take-append-drop kept xs)) ∙ placed_from-append 0 (take kept xs) (drop kept xs) ∙ ap (λ n. placed (take kept xs) ++ placed_from n (drop kept xs)) n
+
+  stay : {ys front rest : List Placed} → Split PlacedCommutes (IsMarked marks) ys front rest → Split PlacedCommutes (IsMarked marks) (placed (take kept xs) ++ ys) (placed (take kept xs) ++ front) rest
+  stay s = before_split marks 0 (take kept xs) (λ k b. marked (0 + k) (omega (arith, b, length-take-le kept xs l))) s
+
+  pub kept_stay : {front rest : List Placed} → Split PlacedCommutes (IsMarked marks) (placed_from kept (drop kept xs)) front rest → Split PlacedCommutes (IsMarked marks) (placed xs) (placed (take kept xs) ++ front) rest
+  kept_stay s = rw in_two (stay s)
+
+  pub kept_stop : {h r : Placed} → SplitStops PlacedCommutes (IsMarked marks) (placed_from kept (drop kept xs)) h r → SplitStops PlacedCommutes (IsMarked marks) (placed xs) h r
+  kept_stop {h} s = record {
+    before = placed (take kept xs) ++ s.before;
+    after = s.after;
+    front = placed (take kept xs) ++ s.front;
+    rest = s.rest;
+    at = in_two ∙ ap (λ y. placed (take kept xs) ++ y) s.at ∙ sym (append_assoc (placed (take kept xs)) s.before (h ∷ s.after));
+    so_far = stay s.so_far;
+    in_set = s.in_set;
+    stops = s.stops;
+  }
 
 -- one more mark is set
 pub marked_more : (marks : List Bool) (n : ℕ) → AreMarkedUpTo marks n → slice_get marks n ≡ Some true → AreMarkedUpTo marks (n + 1)

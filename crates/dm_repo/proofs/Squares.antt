@@ -1,6 +1,5 @@
 -- Named patches: the laws of their lists of primitives, one by one.
 use Rattle.std.proofs.Common.{◌≡◌, sym, ap, ◌∙◌}
-use Rattle.dm_prim.specs.Primitives.{Prim}
 use Rattle.dm_prim.specs.Primitives.{inv_all}
 use Rattle.dm_prim.specs.Primitives.{LawfulMap}
 use Rattle.dm_named.specs.Patches.{Patch}

@@ -19,7 +19,7 @@ use Rattle.dm_repo.specs.Repositories.{Holds}
 use Rattle.dm_repo.specs.CommonSets.{HoldsAll}
 use Rattle.dm_repo.specs.MarkLists.{AreMarksOf}
 use Rattle.dm_repo.specs.Marking.{RefusesContext}
-use Rattle.dm_repo.specs.Weighing.{RefusesBundle}
+use Rattle.dm_repo.specs.Weighing.{HasPrerequisites, RefusesBundle}
 use Rattle.dm_prim.specs.Primitives.{Prim}
 use Rattle.dm_repo.proofs.Inverses.{inv_all-inv_all}
 use Rattle.dm_repo.specs.Splitting.{RefusesToSplit}
@@ -52,6 +52,17 @@ context_to_weigh repo b policy (HeldDepends n d) h = absurd h
 context_to_weigh repo b policy (DoesNotFit n) h = absurd h
 context_to_weigh repo b policy (Conflicts n d) h = absurd h
 context_to_weigh repo b policy Full h = absurd h
+
+-- a repository that can't be split, as splitting and as weighing tell it
+pub split_to_weigh : (repo : List Patch) (b : Contents) (policy : Policy) (why : Refusal) → HasPrerequisites repo b → RefusesToSplit repo b why → RefusesBundle repo b policy why
+split_to_weigh repo b policy (MissingContext c) p h = h
+split_to_weigh repo b policy (ContextDepends n d) p h = (p, h.1)
+split_to_weigh repo b policy NoMemory p h = tt
+split_to_weigh repo b policy (MissingDependency n d) p h = absurd h
+split_to_weigh repo b policy (HeldDepends n d) p h = absurd h
+split_to_weigh repo b policy (DoesNotFit n) p h = absurd h
+split_to_weigh repo b policy (Conflicts n d) p h = absurd h
+split_to_weigh repo b policy Full p h = absurd h
 
 -- a block and a stop become the refusal that Q tells of
 pub between_places : (Q : Refusal → Type 0) (why : ℕ → ℕ → Refusal) (S : ℕ → ℕ → Type 0) (blocked : Blocked) → Q NoMemory → ((j k : ℕ) → S j k → Q (why j k)) → BlockedBy blocked S → Q (refusal_between why blocked)

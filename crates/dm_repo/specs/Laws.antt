@@ -79,7 +79,7 @@ pub data Answer : Type 0 where
   NothingNew : Answer
   Merged : List Patch → ℕ → Answer
 
--- it answers the weighing of the bundle against the repository
+-- it returns the weighing of the bundle against the repository
 abbrev pub AnswersWeighing : List Patch → Contents → Policy → Answer → Type 0
 AnswersWeighing repo b policy (Refused why) = RefusesBundle repo b policy why
 AnswersWeighing repo b policy NothingNew = IsNothingNew repo b

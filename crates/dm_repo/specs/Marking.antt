@@ -1,4 +1,4 @@
--- What marking the common patches answers.
+-- What marking the common patches returns.
 use Rattle.std.specs.Prelude.{Bool, List}
 use Rattle.dm_named.specs.Patches.{Patch}
 use Rattle.dm_bundle.specs.Patches.{infos_of}

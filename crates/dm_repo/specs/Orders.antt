@@ -31,7 +31,7 @@ pub record TakesInTurn (repo : List Patch) (b c : Contents) (after : List Patch)
 abbrev pub StopsInTurn : List Patch → Contents → Contents → Type 0
 StopsInTurn repo b c = IsNotTaken repo b ⊎ ((between : List Patch) × IsTaken repo b between × IsNotTaken between c)
 
--- the two repositories are those after b and then c, and after c and then b; where none are answered, one of these orders isn't taken
+-- the two repositories are those after b and then c, and after c and then b; where none are returned, one of these orders isn't taken
 abbrev pub TakesBothOrders : List Patch → Contents → Contents → Option (Repository × Repository) → Type 0
 TakesBothOrders repo b c None = StopsInTurn repo b c ⊎ StopsInTurn repo c b
 TakesBothOrders repo b c (Some pair) = TakesInTurn repo b c pair.0.patches × TakesInTurn repo c b pair.1.patches
@@ -54,7 +54,7 @@ abbrev pub EndsAlike : List Patch → Contents → Contents → Option (Reposito
 EndsAlike repo b c None = Unit {0}
 EndsAlike repo b c (Some pair) = IsOverWhole repo b → IsOverWhole repo c → ShareNoPatch b c → AreAlike pair.0.patches pair.1.patches
 
--- the patches of both repositories, where two are answered
+-- the patches of both repositories, where two are returned
 abbrev pub patches_of_both : Option (Repository × Repository) → Option (List Patch × List Patch)
 patches_of_both None = None
 patches_of_both (Some pair) = Some (pair.0.patches, pair.1.patches)

@@ -49,5 +49,5 @@ IsTreeOf repo tree = (t : LawfulMap) × IsMapOf tree t × ShallowFold repo t
 
 -- the patches are a repository, and the tree that is kept is the one that they make
 pub record KeepsTree (repo : List Patch) (tree : trees.Tree) : Type 0 where
-  pub good : IsRepo repo
+  pub valid : IsRepo repo
   pub makes : IsTreeOf repo tree

@@ -1,4 +1,4 @@
--- What splitting a repository answers.
+-- What splitting a repository returns.
 use Rattle.std.specs.Prelude.{List}
 use Rattle.dm_named.specs.Patches.{Patch}
 use Rattle.dm_bundle.specs.Bundles.{Contents}

@@ -1,4 +1,4 @@
--- What weighing answers, over what the code holds.
+-- What weighing returns, over what the code holds.
 use Rattle.std.specs.Prelude.{Bool, List, ◌++◌}
 use Rattle.dm_named.specs.Patches.{Patch}
 use Rattle.dm_bundle.specs.Bundles.{Contents}

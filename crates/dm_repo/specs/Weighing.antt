@@ -1,4 +1,4 @@
--- What weighing a bundle against a repository answers (`darcs apply --no-allow-conflicts` where a conflict is refused, `--skip-conflicts` where
+-- What weighing a bundle against a repository returns (`darcs apply --no-allow-conflicts` where a conflict is refused, `--skip-conflicts` where
 -- patches are skipped; the order of the refusals and the limits are this project's). Each step, and each refusal, holds what the steps before it found.
 use Rattle.std.specs.Prelude.{◌≡◌, ℕ, ◌+◌, ◌≤◌, ◌<◌, List, ◌∷◌, ◌++◌, length, ◌⊎◌}
 use Rattle.dm_prim.specs.InTurn.{InTurn}

@@ -1,8 +1,10 @@
 //! Whether what the new patches depend on is there.
-ghost use Rattle.std.specs.Prelude.{◌≡◌, ◌<◌, ◌↔◌, length, take, Contains, IfOk, MatchOption, IsTrue};
+ghost use Rattle.std.specs.Prelude.{◌≡◌, ◌<◌, ◌↔◌, List, length, take, Contains, IfOk, MatchOption, IsTrue};
 ghost use Rattle.dm_bundle.specs.Patches.{infos_of, Distinct};
-ghost use Rattle.dm_repo.specs.Repositories.{IsRepo};
+ghost use Rattle.dm_named.specs.Patches.{Patch};
+ghost use Rattle.dm_repo.specs.Repositories.{Holds, IsRepo};
 ghost use Rattle.dm_repo.specs.CommonSets.{Common, First, HasDependencies, HasDependenciesAt, IsKnown, LacksDependency, LacksFirst};
+ghost use Rattle.dm_repo.specs.MarkLists.{AreMarksOf};
 ghost use Rattle.dm_repo.specs.Marking.{AreMarked};
 
 use crate::marks::Marks;
@@ -31,7 +33,7 @@ fn is_common<A: Allocator + Copy, B: Allocator>(
     info: &Info<B>,
 ) -> Result<bool, AllocError>
     requires marks { AreMarked repo.now.patches bundle.now marks.now.common.items marks.now.held.items }
-    requires good { IsRepo repo.now.patches }
+    requires valid { IsRepo repo.now.patches }
     ensures { IfOk result (λ common. IsTrue common ↔ Common repo.now.patches bundle.now info.now) }
 {
     match repo.find(info)? {
@@ -50,7 +52,7 @@ fn is_known<A: Allocator + Copy, B: Allocator>(
     info: &Info<B>,
 ) -> Result<bool, AllocError>
     requires marks { AreMarked repo.now.patches bundle.now marks.now.common.items marks.now.held.items }
-    requires good { IsRepo repo.now.patches }
+    requires valid { IsRepo repo.now.patches }
     requires names { names.now.keys ≡ infos_of bundle.now.patches }
     requires distinct { Distinct names.now.keys }
     ensures { IfOk result (λ known. IsTrue known ↔ IsKnown repo.now.patches bundle.now n info.now) }
@@ -70,7 +72,7 @@ fn missing_dependency<A: Allocator + Copy, B: Allocator>(
     n: usize,
 ) -> Result<Option<usize>, AllocError>
     requires marks { AreMarked repo.now.patches bundle.now marks.now.common.items marks.now.held.items }
-    requires good { IsRepo repo.now.patches }
+    requires valid { IsRepo repo.now.patches }
     requires names { names.now.keys ≡ infos_of bundle.now.patches }
     requires distinct { Distinct names.now.keys }
     requires place { n < length bundle.now.patches }
@@ -91,6 +93,23 @@ fn missing_dependency<A: Allocator + Copy, B: Allocator>(
     Ok(None)
 }
 
+/// Whether no new patch that isn't held has a dependency.
+fn have_none<A: Allocator>(bundle: &Bundle<A>, held: &[bool]) -> bool
+    requires { length held.now ≡ length bundle.now.patches }
+    ensures { (repo : List Patch) → AreMarksOf held.now (infos_of bundle.now.patches) (Holds repo) → IsTrue result → HasDependencies repo bundle.now }
+{
+    let new = bundle.new_patches();
+    for n in 0..new.len() {
+        if held[n] {
+            continue;
+        }
+        if !new[n].deps().is_empty() {
+            return false;
+        }
+    }
+    true
+}
+
 /// The place of the first new patch that lacks a dependency, and the place of the first that it lacks.
 pub(crate) fn first_missing<A: Allocator + Copy, B: Allocator + Copy>(
     alloc: B,
@@ -104,6 +123,9 @@ pub(crate) fn first_missing<A: Allocator + Copy, B: Allocator + Copy>(
         (λ places. LacksFirst repo.now.patches bundle.now places.0 places.1)) }
 {
     repo.lawful();
+    if have_none(bundle, &marks.held) {
+        return Ok(None);
+    }
     let new = bundle.new_patches();
     let names = index_of(alloc, new)?;
     for n in 0..new.len() {

@@ -30,7 +30,7 @@ fn refused(fault: TreeFault) -> Result<bool, AllocError>
     }
 }
 
-/// Applies a primitive, and answers whether it leads shallowly: else it doesn't apply, or makes a path that is too deep.
+/// Applies a primitive, and returns whether it leads shallowly: else it doesn't apply, or makes a path that is too deep.
 fn apply_prim<A: Allocator, B: Allocator + Copy>(
     prim: &Prim<A>,
     tree: &mut Tree<B>,
@@ -47,7 +47,7 @@ fn apply_prim<A: Allocator, B: Allocator + Copy>(
     }
 }
 
-/// Applies the primitives of a patch in turn, and answers whether all lead shallowly.
+/// Applies the primitives of a patch in turn, and returns whether all lead shallowly.
 fn apply_patch<A: Allocator, B: Allocator + Copy>(
     patch: &Named<A>,
     tree: &mut Tree<B>,

@@ -28,13 +28,13 @@ pub fn merge()
     ensures each { EachIsMergedOrSkipped }
 {}
 
-/// A repository, a bundle and a policy decide what weighing answers: which refusal, with its places, or that nothing is new,
+/// A repository, a bundle and a policy decide what weighing returns: which refusal, with its places, or that nothing is new,
 /// or which patches are merged, and how many are skipped. Out of memory is no answer of theirs.
 pub fn weighing_has_one_answer()
     ensures { WeighingHasOneAnswer }
 {}
 
-/// A repository and two bundles decide what [`law_both_orders`](crate::law_both_orders) answers: none, or the patches of both
+/// A repository and two bundles decide what [`law_both_orders`](crate::law_both_orders) returns: `None`, or the patches of both
 /// repositories.
 pub fn both_orders_have_one_answer()
     ensures { BothOrdersHaveOneAnswer }

@@ -6,7 +6,7 @@
 //! answer is copied by [`Repo::prepare`], which makes all room, and appended by [`Repo::commit`], which can't fail.
 //!
 //! The crate stands on dm_bundle's bundles, on dm_named's patches and when they commute, and on dm_prim's laws of commutation.
-//! Its theorem is the contract of [`weigh`]: it answers the merged patches and the tree after them, or the first refusal in
+//! Its theorem is the contract of [`weigh`]: it returns the merged patches and the tree after them, or the first refusal in
 //! order, with the place or the pair that it is about; and the [`laws`]: front then rest make the repository's tree, what
 //! fits and is merged applies after the repository, and weighing has one answer. [`law_both_orders`] takes two bundles in both
 //! orders: where they share no patch and rest on the whole repository, both end at the same tree.

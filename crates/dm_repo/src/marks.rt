@@ -25,7 +25,7 @@ pub(crate) fn are_set(marks: &[bool]) -> bool
     marks.iter().all(|mark| *mark)
 }
 
-/// Marks the patches of these names, or answers the place of the first that isn't held.
+/// Marks the patches of these names, or returns the place of the first that isn't held.
 fn mark<A: Allocator>(repo: &Repo<A>, infos: &[Info<A>], marks: &mut [bool]) -> Result<(), usize>
     requires marks { length marks.old ≡ length repo.now.patches }
     requires distinct { Distinct (infos_of repo.now.patches) }
@@ -53,11 +53,14 @@ fn context_marks<A: Allocator + Copy, B: Allocator + Copy>(
         (λ why. RefusesContext repo.now.patches bundle.now why) }
 {
     let mut marks = vec![in alloc; false; repo.len()]?;
-    let context = repo.copy_infos(bundle.context())?;
-    match mark(repo, &context, marks.as_mut_slice()) {
-        Ok(()) => Ok(marks),
-        Err(c) => Err(Refusal::MissingContext(c)),
+    let context = bundle.context();
+    for c in 0..context.len() {
+        match repo.find(&context[c])? {
+            None => return Err(Refusal::MissingContext(c)),
+            Some(k) => marks[k] = true,
+        }
     }
+    Ok(marks)
 }
 
 /// Marks the context and what it rests on: one pass from the last patch to the first, since a dependency stands earlier.

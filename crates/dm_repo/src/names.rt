@@ -54,20 +54,6 @@ pub(crate) fn index_of<A: Allocator + Copy>(
     Ok(names)
 }
 
-/// Copies of patch infos, under another allocator.
-pub(crate) fn copy_infos<A: Allocator, B: Allocator + Copy>(
-    alloc: B,
-    infos: &[Info<A>],
-) -> Result<Vec<Info<B>, B>, AllocError>
-    ensures { IfOk result (λ copies. copies.items ≡ infos.now) }
-{
-    let mut copies = Vec::with_capacity(alloc, infos.len())?;
-    for info in infos {
-        copies.push(info.copy_into(alloc)?)?;
-    }
-    Ok(copies)
-}
-
 /// Copies of the names of patches, under another allocator.
 pub(crate) fn copy_names<A: Allocator, B: Allocator + Copy>(
     alloc: B,

@@ -40,7 +40,7 @@ fn copy_of<A: Allocator, B: Allocator + Copy>(
     Ok(copy)
 }
 
-/// Takes a bundle into a repository, and answers whether it was taken; else the repository is as it was.
+/// Takes a bundle into a repository, and returns whether it was taken; else the repository is as it was.
 fn take<A: Allocator + Copy>(
     alloc: A,
     repo: &mut Repo<A>,
@@ -83,7 +83,7 @@ fn take_in_turn<A: Allocator, B: Allocator + Copy>(
 }
 
 /// Takes two bundles into copies of a repository: the first and then the second, and the second and then the first. A bundle
-/// that conflicts isn't taken. None is answered exactly where one of the four isn't taken.
+/// that conflicts isn't taken. `None` is returned exactly where one of the four isn't taken.
 ///
 /// Where the two share no new patch, and the context of each names exactly the patches of the repository, both
 /// copies have equal trees and patches of the same names, in whatever order.

@@ -22,7 +22,7 @@ pub enum Refusal {
     Conflicts(usize, usize),
     /// The repository would have more than 100,000 patches, or a path would have more than 32 names.
     Full,
-    /// Memory was refused.
+    /// An allocation failed.
     NoMemory,
 }
 

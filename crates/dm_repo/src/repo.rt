@@ -3,7 +3,7 @@ ghost use Rattle.std.specs.Prelude.{◌≡◌, ◌↔◌, ◌<◌, ◌≤◌, []
 ghost use Rattle.dm_bundle.specs.Patches.{infos_of};
 ghost use Rattle.dm_repo.specs.Repositories.{Holds, IsRepo, IsTreeOf, KeepsTree};
 
-use crate::names::{Names, append_names, copy_infos, copy_names, no_names, place_of};
+use crate::names::{Names, append_names, copy_names, no_names, place_of};
 use crate::weighed::Merged;
 use dm_bundle::Bundle;
 use dm_info::Info;
@@ -68,7 +68,7 @@ impl<A: Allocator> Repo<A> {
     /// How many patches it holds.
     pub fn len(&self) -> usize
         ensures value { result ≡ length self.now.patches }
-        ensures good { IsRepo self.now.patches }
+        ensures valid { IsRepo self.now.patches }
     {
         self.patches().len()
     }
@@ -98,7 +98,7 @@ impl<A: Allocator> Repo<A> {
     /// All patches, oldest first.
     pub(crate) fn patches(&self) -> &[Named<A>]
         ensures value { result.now ≡ self.now.patches }
-        ensures good { IsRepo self.now.patches }
+        ensures valid { IsRepo self.now.patches }
     {
         self.patches.as_slice()
     }
@@ -135,7 +135,7 @@ impl<A: Allocator> Repo<A> {
         place_of(&self.names, info)
     }
 
-    /// Appends what was prepared, and answers how many patches that is; takes no memory. The tree after them takes the
+    /// Appends what was prepared, and returns how many patches that is; takes no memory. The tree after them takes the
     /// place of the one that is kept.
     ///
     /// `ready` is that of the last `prepare` on this repository, which is unchanged since.
@@ -177,16 +177,6 @@ impl<A: Allocator + Copy> Repo<A> {
     {
         let name = info.copy_into(*self.patches.allocator())?;
         Ok(self.position(&name))
-    }
-
-    /// Copies of names, under the repository's allocator.
-    pub(crate) fn copy_infos<B: Allocator>(
-        &self,
-        infos: &[Info<B>],
-    ) -> Result<Vec<Info<A>, A>, AllocError>
-        ensures { IfOk result (λ copies. copies.items ≡ infos.now) }
-    {
-        copy_infos(*self.patches.allocator(), infos)
     }
 
     /// Makes the room for the merged patches, and copies them and the tree after them. The repository reads as before.

@@ -13,7 +13,7 @@ use std::alloc::{AllocError, AllocFailed};
 pub(crate) enum Stop {
     /// The patch of this place stops it.
     At(usize),
-    /// Memory was refused.
+    /// An allocation failed.
     NoMemory,
 }
 
@@ -72,7 +72,7 @@ impl Stop {
 pub(crate) enum Blocked {
     /// The patch of the first place is stopped by that of the second.
     By(usize, usize),
-    /// Memory was refused.
+    /// An allocation failed.
     NoMemory,
 }
 

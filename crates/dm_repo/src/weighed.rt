@@ -10,7 +10,7 @@ use crate::fit::check_fit;
 use crate::lookup::look_up;
 use crate::marks::{Marks, are_set};
 use crate::merge::{append_to_whole, merge};
-use crate::parted::{kept_in_place, split_common, split_held};
+use crate::parted::{kept_in_place, split_held, split_repo};
 use crate::policy::Policy;
 use crate::refusal::Refusal;
 use crate::repo::{Repo, copy_patches};
@@ -19,7 +19,7 @@ use dm_named::Named;
 use dm_tree::Tree;
 use std::alloc::Allocator;
 
-/// What weighing a bundle answers.
+/// What weighing a bundle returns.
 #[derive(Drop)]
 pub enum Weighed<A: Allocator> {
     /// The context and every new patch are held.
@@ -60,7 +60,7 @@ fn weigh_new<A: Allocator, B: Allocator + Copy>(
         return append_to_whole(alloc, repo, chosen);
     }
     let kept = kept_in_place(&marks.common);
-    let parted = split_common(alloc, repo, marks, kept)?;
+    let parted = split_repo(alloc, repo, marks, kept)?;
     let chosen = split_held(alloc, new, marks)?;
     check_fit(alloc, &repo.patches()[..kept], &parted.front, &chosen)?;
     merge(alloc, repo, parted.rest, chosen, policy)

@@ -1,5 +1,6 @@
 -- What `dm apply` answers.
-use Rattle.std.specs.Prelude.{◌≡◌, ◌≢◌, ℕ, Bool, true, false, List, [], ◌++◌}
+use Rattle.std.specs.Prelude.{◌≡◌, ◌≢◌, ℕ, Bool, true, false, List, [], ◌++◌, Option, MatchOption}
+use Rattle.std.specs.Borrow.{Bor}
 use Rattle.dm_tree.specs.Trees.{Tree}
 use Rattle.dm_named.specs.Patches.{Patch}
 use Rattle.dm_bundle.specs.Canonical.{bundle_text}
@@ -14,6 +15,7 @@ use Rattle.dm_scratch.specs.Words.{verdict_text}
 use Rattle.dm_tool.specs.declared.fault.ToolFault.{ToolFault}
 use Rattle.dm_tool.specs.declared.fault.ToolFault.TheVariants.{NoMemory, BadBase}
 use Rattle.dm_scratch.specs.Printing.{line_of, listing_text}
+use Rattle.dm_tool.specs.Streams.{Gives}
 use Rattle.dm_tool.specs.Printing.{status_of}
 
 -- the base's text is taken into an empty repository, where conflicts are refused, and that then holds these patches
@@ -21,6 +23,10 @@ pub record IsBase (text : List ℕ) (repo : List Patch) : Type 0 where
   pub verdict : Verdict
   pub accepted : IsAccepted verdict
   pub takes : Takes [] text Refuse verdict repo
+
+-- the repository that is begun with: an empty one where there is no base, else the one that has taken its text
+abbrev pub IsStart : Option (Bor (List ℕ)) → List Patch → Type 0
+IsStart base repo = MatchOption base (repo ≡ []) (λ b. IsBase b.now repo)
 
 -- the base's text isn't taken: memory ran out, or this verdict
 abbrev pub RefusesBase : List ℕ → ToolFault → Type 0
@@ -46,3 +52,11 @@ pub record Answers (repo : List Patch) (as_bundle : Bool) (policy : Policy) (tex
   pub takes : Takes repo text policy verdict after
   pub prints : Prints as_bundle verdict after out
   pub exit : status ≡ status_of verdict
+
+-- so is the text that the reader gave, taken into the repository that this base makes
+pub record AnswersInput (base : Option (Bor (List ℕ))) (as_bundle : Bool) (policy : Policy) (before after : Option (List ℕ)) (out : List ℕ) (status : ℕ) : Type 0 where
+  pub start : List Patch
+  pub text : List ℕ
+  pub is_start : IsStart base start
+  pub gives : Gives before after text
+  pub answers : Answers start as_bundle policy text out status

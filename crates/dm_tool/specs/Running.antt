@@ -1,5 +1,6 @@
 -- What `dm run` answers.
-use Rattle.std.specs.Prelude.{◌≡◌, ◌⊎◌, ℕ, suc, List, [], ◌∷◌, ◌++◌, codes}
+use Rattle.std.specs.Prelude.{◌≡◌, ◌⊎◌, ℕ, suc, List, [], ◌∷◌, ◌++◌, codes, map}
+use Rattle.std.specs.Borrow.{Bor}
 use Rattle.std.specs.Fmt.{decimal}
 use Rattle.dm_named.specs.Patches.{Patch}
 use Rattle.dm_repo.specs.declared.policy.Policy.{Policy}
@@ -8,6 +9,22 @@ use Rattle.dm_mirror.specs.declared.outcome.Outcome.{Outcome}
 use Rattle.dm_mirror.specs.Plans.{AreStarts, IsPlannable}
 use Rattle.dm_mirror.specs.Runs.{AllAccepted, IsRunOf}
 use Rattle.dm_mirror.specs.Report.{IsReport}
+
+-- the bytes of texts that are borrowed
+abbrev pub bytes_of : List (Bor (List ℕ)) → List (List ℕ)
+bytes_of texts = map (λ text. text.now) texts
+
+-- a poster that is handed in: its name and the texts of its bundles
+abbrev pub NamedPoster : Type 0
+NamedPoster = Bor (List ℕ) × Bor (List (Bor (List ℕ)))
+
+-- the names of posters
+abbrev pub names_in : List NamedPoster → List (List ℕ)
+names_in posters = map (λ p. p.0.now) posters
+
+-- the texts of each poster
+abbrev pub texts_in : List NamedPoster → List (List (List ℕ))
+texts_in posters = map (λ p. bytes_of p.1.now) posters
 
 -- the line of a poster: its number and its name
 abbrev pub poster_line : ℕ → List ℕ → List ℕ
@@ -20,7 +37,7 @@ posters_text n (name ∷ names) = poster_line n name ++ posters_text (suc n) nam
 
 -- the exit status: 0 where each mirror took all of every bundle or had its patches already, else 1
 abbrev pub IsStatusOf : Outcome → ℕ → Type 0
-IsStatusOf o status = (AllAccepted o.mirrors.items × (status ≡ 0)) ⊎ ((AllAccepted o.mirrors.items → ⊥) × (status ≡ 1))
+IsStatusOf o status = (AllAccepted o × (status ≡ 0)) ⊎ ((AllAccepted o → ⊥) × (status ≡ 1))
 
 -- a run of posters of these names, which send these texts, to mirrors of these bases and policies, at each of which so many mails may wait, is
 -- answered by these bytes and this exit status

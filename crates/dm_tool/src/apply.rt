@@ -1,10 +1,10 @@
 //! The command `dm apply`.
-ghost use Rattle.std.specs.Prelude.{◌≡◌, ◌≢◌, ◌⊎◌, ℕ, List, [], take, IfOk, IfErr, MatchOption};
-ghost use Rattle.std.specs.Io.KnownBytes.{Appends, Keeps};
+ghost use Rattle.std.specs.Prelude.{◌≡◌, ◌≢◌, ◌⊎◌, List, IfOk, IfErr, MatchOption};
+ghost use Rattle.std.specs.Io.KnownBytes.{Keeps};
 ghost use Rattle.dm_named.specs.Patches.{Patch};
 ghost use Rattle.dm_scratch.specs.declared.verdict.Verdict.{Verdict};
-ghost use Rattle.dm_tool.specs.Streams.{Gives};
-ghost use Rattle.dm_tool.specs.Applying.{Answers, IsBase, RefusesBase};
+ghost use Rattle.dm_tool.specs.Streams.{Writes, WritesPrefix};
+ghost use Rattle.dm_tool.specs.Applying.{AnswersInput, IsStart, RefusesBase};
 
 use crate::fault::ToolFault;
 use crate::print::answer_text;
@@ -18,7 +18,7 @@ use std::io::{Read, Write};
 
 /// The repository that a base's text makes, where a conflict refuses it, or an empty one.
 fn repo_of(alloc: Global, arena: &mut Bump, base: Option<&[u8]>) -> Result<Repo<Global>, ToolFault>
-    ensures ok { IfOk result (λ repo. MatchOption base.entry (repo.patches ≡ []) (λ text. IsBase text.now repo.patches)) }
+    ensures ok { IfOk result (λ repo. IsStart base.entry repo.patches) }
     ensures err { IfErr result (λ e. MatchOption base.entry ⊥ (λ text. RefusesBase text.now e)) }
 {
     let mut repo = Repo::new(alloc);
@@ -34,7 +34,7 @@ fn repo_of(alloc: Global, arena: &mut Bump, base: Option<&[u8]>) -> Result<Repo<
 
 /// Reads a bundle, takes it under a policy into the repository that a base's text makes, or into an empty one, and writes the
 /// verdict's line with the listing of the repository's tree, or `as_bundle` with the canonical bundle of all its patches.
-/// Answers the exit status: 0 where all of the bundle was taken or it brought nothing new, else 1.
+/// Returns the exit status: 0 where all of the bundle was taken or it brought nothing new, else 1.
 ///
 /// Errors: [`ToolFault::BadBase`] where the base isn't taken, before anything is read; [`ToolFault::Read`];
 /// [`ToolFault::NoMemory`] where the base was refused for memory, or where the text or the output could not be kept;
@@ -47,19 +47,16 @@ pub fn apply_over<R: Read, W: Write>(
     reader: &mut R,
     writer: &mut W,
 ) -> Result<u8, ToolFault>
-    ensures ok { IfOk result (λ status. (start : List Patch) × (text : List ℕ) × (out : List ℕ) ×
-        MatchOption base.entry (start ≡ []) (λ b. IsBase b.now start) ×
-        Gives (R.remaining reader.old) (R.remaining reader.new) text ×
-        Answers start as_bundle policy text out status × Appends (W.contents writer.old) (W.contents writer.new) out) }
+    ensures ok { IfOk result (Writes (AnswersInput base.entry as_bundle policy (R.remaining reader.old) (R.remaining reader.new))
+        (W.contents writer.old) (W.contents writer.new)) }
     ensures base_first { IfErr result (λ e. ((e ≢ ToolFault.Read) × (R.remaining reader.new ≡ R.remaining reader.old)) ⊎
-        ((start : List Patch) × MatchOption base.entry (start ≡ []) (λ b. IsBase b.now start))) }
+        ((start : List Patch) × IsStart base.entry start)) }
     ensures bad_base { IfErr result (λ e. (v : Verdict) → (e ≡ ToolFault.BadBase v) → MatchOption base.entry ⊥ (λ b. RefusesBase b.now e)) }
     ensures unread { IfErr result (λ e. (v : Verdict) → (e ≡ ToolFault.BadBase v) → R.remaining reader.new ≡ R.remaining reader.old) }
     ensures silent { IfErr result (λ e. (e ≢ ToolFault.Write) → Keeps (W.contents writer.old) (W.contents writer.new)) }
-    ensures prefix { IfErr result (λ e. (e ≡ ToolFault.Write) → (start : List Patch) × (text : List ℕ) × (out : List ℕ) × (status : ℕ) × (count : ℕ) ×
-        MatchOption base.entry (start ≡ []) (λ b. IsBase b.now start) ×
-        Gives (R.remaining reader.old) (R.remaining reader.new) text ×
-        Answers start as_bundle policy text out status × Appends (W.contents writer.old) (W.contents writer.new) (take count out)) }
+    ensures prefix { IfErr result (λ e. (e ≡ ToolFault.Write) →
+        WritesPrefix (AnswersInput base.entry as_bundle policy (R.remaining reader.old) (R.remaining reader.new))
+        (W.contents writer.old) (W.contents writer.new)) }
 {
     let mut arena = Bump::new(alloc);
     let mut repo = repo_of(alloc, &mut arena, base)?;

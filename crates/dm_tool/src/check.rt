@@ -1,8 +1,8 @@
 //! The command `dm check`.
-ghost use Rattle.std.specs.Prelude.{◌≡◌, ◌≢◌, ℕ, List, take, IfOk, IfErr};
-ghost use Rattle.std.specs.Io.KnownBytes.{Appends, Keeps};
-ghost use Rattle.dm_tool.specs.Streams.{Gives};
-ghost use Rattle.dm_tool.specs.Checking.{Checks};
+ghost use Rattle.std.specs.Prelude.{◌≡◌, ◌≢◌, IfOk, IfErr};
+ghost use Rattle.std.specs.Io.KnownBytes.{Keeps};
+ghost use Rattle.dm_tool.specs.Streams.{Writes, WritesPrefix};
+ghost use Rattle.dm_tool.specs.Checking.{Checks, ChecksInput};
 
 use crate::fault::ToolFault;
 use crate::status::status_of;
@@ -31,7 +31,7 @@ fn check_text(alloc: Global, text: Vec<u8>) -> Result<(Vec<u8>, u8), AllocError>
 }
 
 /// Reads a bundle and writes its canonical text, or the line of the verdict: that the text is
-/// malformed, or that memory ran out as it was read. Answers the exit status, 0 with a
+/// malformed, or that memory ran out as it was read. Returns the exit status, 0 with a
 /// canonical text and 1 with a verdict.
 ///
 /// Errors: [`ToolFault::Read`], [`ToolFault::NoMemory`] where the text or the output could not be
@@ -42,12 +42,10 @@ pub fn check_over<R: Read, W: Write>(
     reader: &mut R,
     writer: &mut W,
 ) -> Result<u8, ToolFault>
-    ensures ok { IfOk result (λ status. (text : List ℕ) × (out : List ℕ) × Gives (R.remaining reader.old) (R.remaining reader.new) text ×
-        Checks text out status × Appends (W.contents writer.old) (W.contents writer.new) out) }
+    ensures ok { IfOk result (Writes (ChecksInput (R.remaining reader.old) (R.remaining reader.new)) (W.contents writer.old) (W.contents writer.new)) }
     ensures silent { IfErr result (λ e. (e ≢ ToolFault.Write) → Keeps (W.contents writer.old) (W.contents writer.new)) }
-    ensures prefix { IfErr result (λ e. (e ≡ ToolFault.Write) → (text : List ℕ) × (out : List ℕ) × (status : ℕ) × (count : ℕ) ×
-        Gives (R.remaining reader.old) (R.remaining reader.new) text ×
-        Checks text out status × Appends (W.contents writer.old) (W.contents writer.new) (take count out)) }
+    ensures prefix { IfErr result (λ e. (e ≡ ToolFault.Write) →
+        WritesPrefix (ChecksInput (R.remaining reader.old) (R.remaining reader.new)) (W.contents writer.old) (W.contents writer.new)) }
     ensures no_base { IfErr result (λ e. (v : Verdict) → e ≢ ToolFault.BadBase v) }
 {
     let text = read_text(alloc, reader)?;

@@ -120,7 +120,7 @@ fn tell<R: Runtime + AllocGlobal>(rt: &R, fault: WordFault<'_>) -> u8 {
 }
 
 /// The exit status of a command that has run.
-fn status_of<R: Runtime + AllocGlobal>(rt: &R, answer: Result<u8, WordFault<'_>>) -> u8 {
+fn exit_status<R: Runtime + AllocGlobal>(rt: &R, answer: Result<u8, WordFault<'_>>) -> u8 {
     match answer {
         Ok(status) => status,
         Err(fault) => tell(rt, fault),
@@ -165,7 +165,7 @@ fn out_of_memory(kind: ErrorKind) -> Option<ToolFault> {
     }
 }
 
-/// Prints why the words start no command, or the help that they ask for, and answers the exit status.
+/// Prints why the words start no command, or the help that they ask for, and returns the exit status.
 fn explain<R: Runtime + AllocGlobal>(rt: &R, error: &Error) -> u8 {
     if let Some(fault) = out_of_memory(error.kind()) {
         return tell(rt, WordFault::Tool(fault));
@@ -176,20 +176,20 @@ fn explain<R: Runtime + AllocGlobal>(rt: &R, error: &Error) -> u8 {
     if error.use_stderr() { NO_ANSWER } else { 0 }
 }
 
-/// Runs the command that was named, and answers the exit status.
+/// Runs the command that was named, and returns the exit status.
 fn start<'a, R: Runtime + AllocGlobal + Threads + Wait + Sync>(
     rt: &R,
     matches: &ArgMatches<'a>,
 ) -> u8 {
     match matches.subcommand() {
-        Some(("apply", words)) => status_of(rt, apply(rt, words)),
-        Some(("check", _)) => status_of(rt, check(rt)),
-        Some(("run", words)) => status_of(rt, run_plan(rt, words)),
+        Some(("apply", words)) => exit_status(rt, apply(rt, words)),
+        Some(("check", _)) => exit_status(rt, check(rt)),
+        Some(("run", words)) => exit_status(rt, run_plan(rt, words)),
         _ => NO_ANSWER,
     }
 }
 
-/// Runs the command that these words name, and answers the exit status.
+/// Runs the command that these words name, and returns the exit status.
 fn run_command<R: Runtime + AllocGlobal + Threads + Wait + Sync>(rt: &R, words: &[String]) -> u8 {
     let program = match program(rt.alloc()) {
         Ok(program) => program,
@@ -201,7 +201,7 @@ fn run_command<R: Runtime + AllocGlobal + Threads + Wait + Sync>(rt: &R, words: 
     }
 }
 
-/// Runs the command of the process's own words, and answers the exit status.
+/// Runs the command of the process's own words, and returns the exit status.
 pub fn run<R: Runtime + AllocGlobal + Threads + Wait + Sync>(rt: &R) -> u8 {
     let Ok(args) = env::args(rt) else {
         let _ = eprintln!(rt; "dm: cannot read the command line");

@@ -11,13 +11,13 @@ use thiserror::Error;
 /// Why a command gives no answer. The program prints it on standard error, after `dm: `.
 #[derive(Clone, Copy, PartialEq, Eq, Debug, Error)]
 pub enum ToolFault {
-    /// The reader answered an error. Nothing was written.
+    /// The reader returned an error. Nothing was written.
     #[error("cannot read input")]
     Read,
-    /// The writer answered an error, or took no byte. A prefix of the output was written.
+    /// The writer returned an error, or took no byte. A prefix of the output was written.
     #[error("cannot write output")]
     Write,
-    /// A growth was refused. Nothing was written.
+    /// An allocation failed. Nothing was written.
     #[error("no memory")]
     NoMemory,
     /// The base isn't taken into an empty repository: the text is malformed, or its bundle refused. Nothing was read or written.

@@ -11,7 +11,7 @@
 //! for the words of the command line. Its theorems are the contracts of [`check::check_over`],
 //! [`apply::apply_over`] and [`running::run_over`]: over a reader and a writer that tell their bytes, what
 //! is written and the exit status are those of the bundle that the text stands for, or of the text's first
-//! fault, or those of taking it, or of a run of which the headline holds.
+//! fault, or those of taking it, or of a run in which no bundle is lost, doubled or reordered.
 #![tactic(auto)]
 
 mod apply;

@@ -153,7 +153,7 @@ fn read_base<'a, R: Runtime + AllocGlobal>(
     }
 }
 
-/// Runs the plan that the words name: the base is read first, then the files in the order of the words. Answers the exit
+/// Runs the plan that the words name: the base is read first, then the files in the order of the words. Returns the exit
 /// status.
 pub fn run_plan<'a, R: Runtime + AllocGlobal + Threads + Wait + Sync>(
     rt: &R,

@@ -1,11 +1,12 @@
 //! The command `dm run`.
-ghost use Rattle.std.specs.Prelude.{◌≡◌, ◌≢◌, ◌++◌, ℕ, List, map, take, IfOk, IfErr, OnOk};
-ghost use Rattle.std.specs.Io.KnownBytes.{Appends, Keeps};
+ghost use Rattle.std.specs.Prelude.{◌≡◌, ◌≢◌, ◌++◌, ℕ, List, map, IfOk, IfErr, OnOk};
+ghost use Rattle.std.specs.Io.KnownBytes.{Keeps};
 ghost use Rattle.dm_scratch.specs.declared.verdict.Verdict.{Verdict};
 ghost use Rattle.dm_mirror.specs.declared.plan.PlanFault.{PlanFault};
 ghost use Rattle.dm_mirror.specs.Plans.{IsFirstFault};
 ghost use Rattle.dm_mirror.specs.Report.{IsReport};
-ghost use Rattle.dm_tool.specs.Running.{IsStatusOf, RunsTo, poster_line, posters_text};
+ghost use Rattle.dm_tool.specs.Streams.{Writes, WritesPrefix};
+ghost use Rattle.dm_tool.specs.Running.{IsStatusOf, RunsTo, bytes_of, names_in, poster_line, posters_text, texts_in};
 
 use crate::fault::ToolFault;
 use crate::streams::write_text;
@@ -21,7 +22,7 @@ fn texts_of<'a>(
     alloc: Global,
     posters: &[(&'a str, &'a [&'a [u8]])],
 ) -> Result<Vec<&'a [&'a [u8]]>, AllocError>
-    ensures { IfOk result (λ all. map (λ texts. map (λ text. text.now) texts.now) all.items ≡ map (λ p. map (λ text. text.now) p.1.now) posters.now) }
+    ensures { IfOk result (λ all. map (λ texts. bytes_of texts.now) all.items ≡ texts_in posters.now) }
 {
     let mut all = Vec::with_capacity(alloc, posters.len())?;
     for poster in posters {
@@ -41,7 +42,7 @@ fn push_poster(number: usize, name: &str, out: &mut Vec<u8>) -> Result<(), Alloc
 
 /// A line for each poster.
 fn push_posters(posters: &[(&str, &[&[u8]])], out: &mut Vec<u8>) -> Result<(), AllocError>
-    ensures { OnOk result (out.new.items ≡ out.old.items ++ posters_text 0 (map (λ p. p.0.now) posters.now)) }
+    ensures { OnOk result (out.new.items ≡ out.old.items ++ posters_text 0 (names_in posters.now)) }
 {
     for number in 0..posters.len() {
         push_poster(number, posters[number].0, out)?;
@@ -55,7 +56,7 @@ fn run_text(
     posters: &[(&str, &[&[u8]])],
     outcome: &Outcome,
 ) -> Result<Vec<u8>, AllocError>
-    ensures { IfOk result (λ text. (report : List ℕ) × IsReport outcome.now report × (text.items ≡ posters_text 0 (map (λ p. p.0.now) posters.now) ++ report)) }
+    ensures { IfOk result (λ text. (report : List ℕ) × IsReport outcome.now report × (text.items ≡ posters_text 0 (names_in posters.now) ++ report)) }
 {
     let mut text = Vec::new(alloc);
     push_posters(posters, &mut text)?;
@@ -65,7 +66,7 @@ fn run_text(
 }
 
 /// The exit status of a run: 0 where each mirror took all of every bundle or had its patches already, else 1.
-fn status_of(outcome: &Outcome) -> u8
+fn status_of_run(outcome: &Outcome) -> u8
     ensures { IsStatusOf outcome.now result }
 {
     if outcome.all_accepted() { 0 } else { 1 }
@@ -80,8 +81,9 @@ fn answer_of<R: Threads + Wait + Sync>(
     policies: &[Policy],
     bound: usize,
 ) -> Result<(Vec<u8>, u8), ToolFault>
-    ensures ok { IfOk result (λ x. RunsTo (map (λ p. p.0.now) posters.now) (map (λ p. map (λ text. text.now) p.1.now) posters.now) (map (λ base. base.now) bases.now) policies.now bound x.0.items x.1) }
-    ensures bad_plan { IfErr result (λ e. (fault : PlanFault) → (e ≡ ToolFault.BadPlan fault) → IsFirstFault (map (λ p. map (λ text. text.now) p.1.now) posters.now) (map (λ base. base.now) bases.now) policies.now bound fault) }
+    ensures ok { IfOk result (λ x. RunsTo (names_in posters.now) (texts_in posters.now) (bytes_of bases.now) policies.now bound x.0.items x.1) }
+    ensures bad_plan { IfErr result (λ e. (fault : PlanFault) → (e ≡ ToolFault.BadPlan fault) →
+        IsFirstFault (texts_in posters.now) (bytes_of bases.now) policies.now bound fault) }
     ensures unwritten { IfErr result (λ e. e ≢ ToolFault.Write) }
     ensures unread { IfErr result (λ e. e ≢ ToolFault.Read) }
     ensures no_base { IfErr result (λ e. (v : Verdict) → e ≢ ToolFault.BadBase v) }
@@ -90,11 +92,11 @@ fn answer_of<R: Threads + Wait + Sync>(
     let plan = Plan::build(alloc, &texts, bases, policies, bound)?;
     let outcome = run(rt, alloc, plan, &Open)?;
     let text = run_text(alloc, posters, &outcome)?;
-    Ok((text, status_of(&outcome)))
+    Ok((text, status_of_run(&outcome)))
 }
 
 /// Runs a plan of posters, each with its name and the texts of its bundles, and of mirrors, each with the text of its base,
-/// where an empty text is an empty repository, and with its policy. Writes a line for each poster and then the report. Answers
+/// where an empty text is an empty repository, and with its policy. Writes a line for each poster and then the report. Returns
 /// the exit status: 0 where each mirror took all of every bundle or had its patches already, else 1.
 ///
 /// Errors: [`ToolFault::BadPlan`] where there is no such plan; [`ToolFault::NoThread`]; [`ToolFault::NoMemory`];
@@ -108,14 +110,14 @@ pub fn run_over<R: Threads + Wait + Sync, W: Write>(
     bound: usize,
     writer: &mut W,
 ) -> Result<u8, ToolFault>
-    ensures ok { IfOk result (λ status. (out : List ℕ) ×
-        RunsTo (map (λ p. p.0.now) posters.now) (map (λ p. map (λ text. text.now) p.1.now) posters.now) (map (λ base. base.now) bases.now) policies.now bound out status ×
-        Appends (W.contents writer.old) (W.contents writer.new) out) }
-    ensures bad_plan { IfErr result (λ e. (fault : PlanFault) → (e ≡ ToolFault.BadPlan fault) → IsFirstFault (map (λ p. map (λ text. text.now) p.1.now) posters.now) (map (λ base. base.now) bases.now) policies.now bound fault) }
+    ensures ok { IfOk result (Writes (RunsTo (names_in posters.now) (texts_in posters.now) (bytes_of bases.now) policies.now bound)
+        (W.contents writer.old) (W.contents writer.new)) }
+    ensures bad_plan { IfErr result (λ e. (fault : PlanFault) → (e ≡ ToolFault.BadPlan fault) →
+        IsFirstFault (texts_in posters.now) (bytes_of bases.now) policies.now bound fault) }
     ensures silent { IfErr result (λ e. (e ≢ ToolFault.Write) → Keeps (W.contents writer.old) (W.contents writer.new)) }
-    ensures prefix { IfErr result (λ e. (e ≡ ToolFault.Write) → (out : List ℕ) × (status : ℕ) × (count : ℕ) ×
-        RunsTo (map (λ p. p.0.now) posters.now) (map (λ p. map (λ text. text.now) p.1.now) posters.now) (map (λ base. base.now) bases.now) policies.now bound out status ×
-        Appends (W.contents writer.old) (W.contents writer.new) (take count out)) }
+    ensures prefix { IfErr result (λ e. (e ≡ ToolFault.Write) →
+        WritesPrefix (RunsTo (names_in posters.now) (texts_in posters.now) (bytes_of bases.now) policies.now bound)
+        (W.contents writer.old) (W.contents writer.new)) }
     ensures unread { IfErr result (λ e. e ≢ ToolFault.Read) }
     ensures no_base { IfErr result (λ e. (v : Verdict) → e ≢ ToolFault.BadBase v) }
 {

@@ -5,7 +5,6 @@ ghost use Rattle.dm_tool.specs.Streams.{Gives};
 
 use crate::fault::ToolFault;
 use dm_bundle::MOST_BYTES;
-use dm_mirror::{WriteFault, write_report};
 use std::alloc::Global;
 use std::io::{Read, Write};
 
@@ -45,8 +44,16 @@ pub fn write_text<W: Write>(text: &[u8], writer: &mut W) -> Result<(), ToolFault
     ensures prefix { OnErr result ((count : ℕ) × Appends (W.contents writer.old) (W.contents writer.new) (take count text.now)) }
     ensures fault { IfErr result (λ e. e ≡ ToolFault.Write) }
 {
-    match write_report(text, writer) {
+    let mut written = 0;
+    while written < text.len() {
+        match writer.write(&text[written..]) {
+            Ok(0) => return Err(ToolFault::Write),
+            Ok(count) => written += count,
+            Err(_) => return Err(ToolFault::Write),
+        }
+    }
+    match writer.flush() {
         Ok(()) => Ok(()),
-        Err(WriteFault::Device) => Err(ToolFault::Write),
+        Err(_) => Err(ToolFault::Write),
     }
 }

@@ -13,8 +13,8 @@ module _ (n : ℕ) (run ends : List ℕ) (ls : Lines) where
   pub view_from : HoldsFrom n run ends ls → cut n ends run ≡ ls
   view_from h = ap₂ (λ e r. cut n e r) h.placed h.whole ∙ cut-ends n ls
 
-  pub good_from : HoldsFrom n run ends ls → HoldsFrom n run ends (cut n ends run)
-  good_from h = subst (λ (x : Lines). HoldsFrom n run ends x) (sym (view_from h)) h
+  pub valid_from : HoldsFrom n run ends ls → HoldsFrom n run ends (cut n ends run)
+  valid_from h = subst (λ (x : Lines). HoldsFrom n run ends x) (sym (view_from h)) h
 
   pub held_from : HoldsFrom n run ends (cut n ends run) → cut n ends run ≡ ls → HoldsFrom n run ends ls
   held_from h e = subst (λ (x : Lines). HoldsFrom n run ends x) e h

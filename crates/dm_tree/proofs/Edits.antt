@@ -123,7 +123,7 @@ module _ (ks new : List Child) (p : Path) (ls ls' : Lines) (s : SetsAt (look ks)
       parents = λ q n some. kept_dir q (t.lawful.parents q n (there (q ++ n ∷ []) some));
       lines = λ q x is. cases_at (look ks) (look new) p (File ls') s q (λ o. o ≡ Some (File x) → x ≢ []) (λ _ h. subst (λ (y : Lines). y ≢ []) (some_inj x h) left) (λ h. t.lawful.lines q x h) is;
     };
-    good = λ q ne some. t.good q ne (there q some);
+    valid = λ q ne some. t.valid q ne (there q some);
   }
     where
       some_inj : (x : Lines) → Some (File ls') ≡ Some (File x) → ls' ≡ x

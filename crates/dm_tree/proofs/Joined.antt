@@ -1,5 +1,5 @@
 -- Lines in parts: where a line is, and a change inside one part.
-use Rattle.std.proofs.Common.{◌≡◌, ℕ, ◌+◌, ◌-◌, ◌<◌, ◌≤◌, List, [], ◌∷◌, ◌++◌, length, take, drop, get_or, set, zero, suc, Result, Ok, Err, OnOk, refl, sym, ap, ap₂, ◌∙◌, arith, append_assoc, append-nil, length-append, take-append-drop}
+use Rattle.std.proofs.Common.{◌≡◌, ℕ, ◌+◌, ◌-◌, ◌<◌, ◌≤◌, List, [], ◌∷◌, ◌++◌, length, take, drop, get_or, set, zero, suc, Result, Ok, Err, OnOk, refl, sym, ap, ap₂, subst, ◌∙◌, arith, append_assoc, append-nil, length-append, take-append-drop}
 use Rattle.std.specs.List.{splice}
 use Rattle.std.proofs.lemmas.List.{take_all, drop_all, take_more, drop_more, take-append-le, drop-append-le, set_split, get_or_append_left, get_or-append-add, get_or_default}
 use Rattle.std.specs.Prelude.{sum_by}
@@ -92,9 +92,6 @@ pub record CutTo (ps : List Lines) (ls : Lines) (at : ℕ) : Type 0 where
   pub within : at ≤ length ls
   pub some : 0 < length ps
 
-pub cut_all : (ps : List Lines) (ls : Lines) (at : ℕ) → CutTo ps ls at → length ls ≤ at → joined ps ≡ ls
-cut_all ps ls at c le = c.lines ∙ take_all at ls le
-
 -- the lines before a place, and from it on
 module _ (ps : List Lines) (at k line : ℕ) (l : Locates ps at k line) where
   pub take_located : take at (joined ps) ≡ joined (take k ps) ++ take line (get_or ps k [])
@@ -130,6 +127,20 @@ rebuilt ps all fs start end k line m last a b e =
     e ∙ ap (λ z. joined (take k ps) ++ z) (append_assoc front (fs ++ behind) rest ∙ ap (λ z. front ++ z) (append_assoc fs behind rest))
     ∙ sym (append_assoc (joined (take k ps)) front (fs ++ (behind ++ rest)))
     ∙ ap₂ (λ x y. x ++ (fs ++ y)) (sym (take_located ps start k line a)) (sym (drop_located ps end m last b))
+
+pub located_in : (xs ps : List Lines) (at k line : ℕ) → xs ≡ ps → Locates xs at k line → Locates ps at k line
+located_in xs ps at k line e l = subst (λ (z : List Lines). Locates z at k line) e l
+
+-- a change of a range that lies inside one part
+module _ (ps : List Lines) (start end k line m last : ℕ) (same : k ≡ m) (a : Locates ps start k line) (b : Locates ps end m last) where
+  pub one_part : last ≤ length (get_or ps k [])
+  one_part = rw same b.1
+
+  pub one_order : start ≤ end → line ≤ last
+  one_order o = omega (arith, o, a.2, b.2, ap (λ n. length (joined (take n ps))) same)
+
+  pub spliced_part : (all fs : Lines) → all ≡ splice (joined ps) (length (joined (take k ps)) + line) (length (joined (take k ps)) + last) fs → all ≡ splice (joined ps) start end fs
+  spliced_part all fs e = e ∙ ap₂ (λ x y. splice (joined ps) x y fs) (sym a.2) (ap (λ n. length (joined (take n ps)) + last) same ∙ sym b.2)
 
 pub joined-splice : (ps qs made : List Lines) (i j : ℕ) → qs ≡ splice ps i j made → joined qs ≡ joined (take i ps) ++ (joined made ++ joined (drop j ps))
 joined-splice ps qs made i j e = ap joined e ∙ joined-append (take i ps) (made ++ drop j ps) ∙ ap (λ z. joined (take i ps) ++ z) (joined-append made (drop j ps))

@@ -3,11 +3,11 @@ use Rattle.std.proofs.Common.{◌≡◌, ℕ, zero, suc, ◌+◌, ◌<◌, ◌�
 use Rattle.std.specs.Ordering.{eq_by_cmp}
 use Rattle.std.specs.FinMap.{find, entries, from_sorted, entries-from_sorted, get-from_sorted, get-from_entries, same_map}
 use Rattle.dm_tree.specs.Paths.{Name, Path}
-use Rattle.dm_tree.specs.Validity.{IsGoodPath}
+use Rattle.dm_tree.specs.Validity.{IsValidPath}
 use Rattle.dm_tree.specs.Trees.{Entry, Dir, path_cmp}
 use Rattle.dm_tree.specs.Listings.{kind_of, listed_entry}
 use Rattle.dm_tree.specs.Children.{PathEntries, Child, IsTree, below, all, flatten, look}
-use Rattle.dm_tree.specs.Walks.{listed, AreGood, Later, InOrder}
+use Rattle.dm_tree.specs.Walks.{listed, AreValid, Later, InOrder}
 use Rattle.dm_tree.specs.declared.listing.Kind.TheVariants as kind
 use Rattle.dm_tree.specs.declared.listing.Listed.{Listed}
 use Rattle.dm_tree.proofs.Children.{find-flatten_root}
@@ -20,22 +20,22 @@ pub if_ok : {T E : Type 0} (r : Result T E) (P Q : T → Type 0) → ((x : T) �
 if_ok (Ok x) P Q f h = f x h
 if_ok (Err e) P Q f h = h
 
-good_left : (above : Path) (xs ys : PathEntries) → AreGood above (xs ++ ys) → AreGood above xs
-good_left above [] ys g = tt
-good_left above (x ∷ xs) ys g = (g.0, good_left above xs ys g.1)
+valid_left : (above : Path) (xs ys : PathEntries) → AreValid above (xs ++ ys) → AreValid above xs
+valid_left above [] ys g = tt
+valid_left above (x ∷ xs) ys g = (g.0, valid_left above xs ys g.1)
 
-good_right : (above : Path) (xs ys : PathEntries) → AreGood above (xs ++ ys) → AreGood above ys
-good_right above [] ys g = g
-good_right above (x ∷ xs) ys g = good_right above xs ys g.1
+valid_right : (above : Path) (xs ys : PathEntries) → AreValid above (xs ++ ys) → AreValid above ys
+valid_right above [] ys g = g
+valid_right above (x ∷ xs) ys g = valid_right above xs ys g.1
 
-pub good_at : (above : Path) (ks : List Child) (i : ℕ) (d : Child) → i < length ks → AreGood above (flatten ks) → AreGood above (below (get_or ks i d).name (all (get_or ks i d)))
-good_at above [] i d lt g = absurd (omega arith)
-good_at above (k ∷ ks) zero d lt g = good_left above (below k.name (all k)) (flatten ks) g
-good_at above (k ∷ ks) (suc i) d lt g = good_at above ks i d (omega arith) (good_right above (below k.name (all k)) (flatten ks) g)
+pub valid_at : (above : Path) (ks : List Child) (i : ℕ) (d : Child) → i < length ks → AreValid above (flatten ks) → AreValid above (below (get_or ks i d).name (all (get_or ks i d)))
+valid_at above [] i d lt g = absurd (omega arith)
+valid_at above (k ∷ ks) zero d lt g = valid_left above (below k.name (all k)) (flatten ks) g
+valid_at above (k ∷ ks) (suc i) d lt g = valid_at above ks i d (omega arith) (valid_right above (below k.name (all k)) (flatten ks) g)
 
-pub good_below : (above : Path) (n : Name) (rs : PathEntries) → AreGood above (below n rs) → AreGood (above ++ n ∷ []) rs
-good_below above n [] g = tt
-good_below above n (r ∷ rs) g = (subst IsGoodPath (sym (append_assoc above (n ∷ []) r.0)) g.0, good_below above n rs g.1)
+pub valid_below : (above : Path) (n : Name) (rs : PathEntries) → AreValid above (below n rs) → AreValid (above ++ n ∷ []) rs
+valid_below above n [] g = tt
+valid_below above n (r ∷ rs) g = (subst IsValidPath (sym (append_assoc above (n ∷ []) r.0)) g.0, valid_below above n rs g.1)
 
 flatten_take : (ks : List Child) (i : ℕ) (d : Child) → i < length ks → flatten (take (suc i) ks) ≡ flatten (take i ks) ++ below (get_or ks i d).name (all (get_or ks i d))
 flatten_take [] i d lt = absurd (omega arith)
@@ -96,19 +96,19 @@ pub dir_sorted : (k : Child) (ks ks' : List Child) → k.under ≡ flatten ks �
 dir_sorted k ks ks' is e o = subst (λ u. InOrder (([], k.entry) ∷ u)) (sym is) (later_flatten ks, subst (λ l. InOrder (flatten l)) e o)
 
 -- every row of a tree may stand in a listing
-good_rows : (rs : PathEntries) → ((q : Path) → IsSome (find path_cmp q rs) → IsGoodPath q) → AreGood [] rs
-good_rows [] h = tt
-good_rows (r ∷ rs) h = (h r.0 (subst IsSome (sym (ap (λ b. cond b (Some r.1) (find path_cmp r.0 rs)) (self_equal r.0))) refl), good_rows rs (λ q some. h q (keep q some)))
+valid_rows : (rs : PathEntries) → ((q : Path) → IsSome (find path_cmp q rs) → IsValidPath q) → AreValid [] rs
+valid_rows [] h = tt
+valid_rows (r ∷ rs) h = (h r.0 (subst IsSome (sym (ap (λ b. cond b (Some r.1) (find path_cmp r.0 rs)) (self_equal r.0))) refl), valid_rows rs (λ q some. h q (keep q some)))
   where
     keep : (q : Path) → IsSome (find path_cmp q rs) → IsSome (cond (eq_by_cmp path_cmp q r.0) (Some r.1) (find path_cmp q rs))
     keep q some = elim (eq_by_cmp path_cmp q r.0) as (λ t. IsSome (cond t (Some r.1) (find path_cmp q rs))) [ true ↦ refl | false ↦ some ]
 
-pub good_tree : (ks : List Child) → IsTree ks → AreGood [] (flatten ks)
-good_tree ks t = good_rows (flatten ks) each
+pub valid_tree : (ks : List Child) → IsTree ks → AreValid [] (flatten ks)
+valid_tree ks t = valid_rows (flatten ks) each
   where
-    each : (q : Path) → IsSome (find path_cmp q (flatten ks)) → IsGoodPath q
+    each : (q : Path) → IsSome (find path_cmp q (flatten ks)) → IsValidPath q
     each [] some = absurd (not_none (find path_cmp [] (flatten ks)) some (find-flatten_root ks))
-    each (n ∷ q) some = t.good (n ∷ q) (λ e. let f : n ∷ q ≡ [] = e in cc) (not_none (look ks (n ∷ q)) some)
+    each (n ∷ q) some = t.valid (n ∷ q) (λ e. let f : n ∷ q ≡ [] = e in cc) (not_none (look ks (n ∷ q)) some)
 
 pub entries_tree : (ks : List Child) → InOrder (flatten ks) → entries (tree_of ks) ≡ ([], Dir) ∷ flatten ks
 entries_tree ks o =

@@ -1,11 +1,11 @@
 -- What a rename leaves: the children of a tree.
 use Rattle.std.proofs.Common.{◌≡◌, ◌≢◌, ◌≤◌, List, [], ◌∷◌, ◌++◌, length, Option, Some, None, sym, ap, subst, ◌∙◌, arith, append-nil, append_assoc, length-append, refl}
 use Rattle.dm_tree.specs.Paths.{Name, Path, Under, Apart}
-use Rattle.dm_tree.specs.Validity.{IsGoodPath}
+use Rattle.dm_tree.specs.Validity.{IsValidPath}
 use Rattle.dm_tree.specs.Trees.{Lines, Entry, Dir, File, Map, HasParent, IsLawful}
 use Rattle.dm_tree.specs.Changes.{MayMove, Renamed}
 use Rattle.dm_tree.specs.Children.{Child, IsRising, IsTree, look}
-use Rattle.dm_tree.proofs.ValidityLemmas.{good_moved}
+use Rattle.dm_tree.proofs.ValidityLemmas.{valid_moved}
 use Rattle.dm_tree.proofs.Paths.{Place, in_left, in_right, outside, place}
 use Rattle.dm_tree.proofs.Removes.{snoc}
 use Rattle.dm_tree.proofs.MoveLemmas.{may_apart}
@@ -56,15 +56,15 @@ module _ (m m' : Map) (a b : Path) (l : IsLawful m) (apart : Apart a b) (up : Ha
       no_file : (ls : Lines) → None ≡ Some (File ls) → ⊥
       no_file ls h = cc
 
-  pub moved_names : ((q : Path) → q ≢ [] → m q ≢ None → IsGoodPath q) → IsGoodPath b → ((r : Path) → m (a ++ r) ≢ None → length (b ++ r) ≤ 32) → (q : Path) → q ≢ [] → m' q ≢ None → IsGoodPath q
-  moved_names good here fits q ne = cases q (λ o. o ≢ None → IsGoodPath q) (λ r e some. subst IsGoodPath (sym e) (good_moved a b r (good (a ++ r) (not_root a b r apart.right) some) here (fits r some))) (λ some. absurd (some refl)) (λ h k some. good q ne some)
+  pub moved_names : ((q : Path) → q ≢ [] → m q ≢ None → IsValidPath q) → IsValidPath b → ((r : Path) → m (a ++ r) ≢ None → length (b ++ r) ≤ 32) → (q : Path) → q ≢ [] → m' q ≢ None → IsValidPath q
+  moved_names valid here fits q ne = cases q (λ o. o ≢ None → IsValidPath q) (λ r e some. subst IsValidPath (sym e) (valid_moved a b r (valid (a ++ r) (not_root a b r apart.right) some) here (fits r some))) (λ some. absurd (some refl)) (λ h k some. valid q ne some)
 
 -- after a rename, done or refused, the children are those of a tree
-pub moved_tree : (ks new : List Child) (a b : Path) → IsTree ks → IsRising new → MayMove (look ks) a b → IsGoodPath b → ((r : Path) → look ks (a ++ r) ≢ None → length (b ++ r) ≤ 32) → Renamed a b (look ks) (look new) → IsTree new
-moved_tree ks new a b t rising may good fits ren =
+pub moved_tree : (ks new : List Child) (a b : Path) → IsTree ks → IsRising new → MayMove (look ks) a b → IsValidPath b → ((r : Path) → look ks (a ++ r) ≢ None → length (b ++ r) ≤ 32) → Renamed a b (look ks) (look new) → IsTree new
+moved_tree ks new a b t rising may valid fits ren =
     let apart = may_apart (look ks) t.lawful a b may in
     record {
       rising = rising;
       lawful = moved_lawful (look ks) (look new) a b t.lawful apart may.parent_is ren;
-      good = moved_names (look ks) (look new) a b t.lawful apart may.parent_is ren t.good good fits;
+      valid = moved_names (look ks) (look new) a b t.lawful apart may.parent_is ren t.valid valid fits;
     }

@@ -4,7 +4,7 @@ use Rattle.std.specs.Ordering.{eq_by_cmp}
 use Rattle.std.specs.FinMap.{remove, get-remove, same_map}
 use Rattle.std.proofs.lemmas.Bool.{eqb-true}
 use Rattle.dm_tree.specs.Paths.{Name, Path, Under}
-use Rattle.dm_tree.specs.Validity.{IsGoodPath}
+use Rattle.dm_tree.specs.Validity.{IsValidPath}
 use Rattle.dm_tree.specs.Trees.{Lines, Entry, Dir, File, Map, IsLawful, path_cmp}
 use Rattle.dm_tree.specs.Children.{Child, look, IsRising, IsTree}
 use Rattle.dm_tree.specs.Walks.{SetsAt, Grafts, nothing}
@@ -67,15 +67,15 @@ module _ (m m' : Map) (p : Path) (l : IsLawful m) (g : Grafts m m' p nothing) wh
       no_file : (ls : Lines) → None ≡ Some (File ls) → ⊥
       no_file ls h = cc
 
-  removes_good : ((q : Path) → q ≢ [] → m q ≢ None → IsGoodPath q) → (q : Path) → q ≢ [] → m' q ≢ None → IsGoodPath q
-  removes_good good q ne = cases q (λ o. o ≢ None → IsGoodPath q) (λ _ some. absurd (some refl)) (λ _ some. good q ne some)
+  removes_valid : ((q : Path) → q ≢ [] → m q ≢ None → IsValidPath q) → (q : Path) → q ≢ [] → m' q ≢ None → IsValidPath q
+  removes_valid valid q ne = cases q (λ o. o ≢ None → IsValidPath q) (λ _ some. absurd (some refl)) (λ _ some. valid q ne some)
 
 not_root : (p : Path) → 0 < length p → p ≢ []
 not_root p lt h = omega (arith, ap length h)
 
 -- after a removal the children are those of a tree
 pub removed : (ks new : List Child) (p : Path) → IsTree ks → IsRising new → 0 < length p → Grafts (look ks) (look new) p nothing → IsTree new
-removed ks new p t r lt g = record { rising = r; lawful = removes_lawful (look ks) (look new) p t.lawful g (not_root p lt); good = removes_good (look ks) (look new) p t.lawful g t.good }
+removed ks new p t r lt g = record { rising = r; lawful = removes_lawful (look ks) (look new) p t.lawful g (not_root p lt); valid = removes_valid (look ks) (look new) p t.lawful g t.valid }
 
 pub removed_map : (ks new : List Child) (p : Path) → SetsAt (look ks) (look new) p None → tree_of new ≡ remove (tree_of ks) p
 removed_map ks new p s =

@@ -1,47 +1,36 @@
 -- Whether the lines of parts begin with those of a text, told part by part.
-use Rattle.std.proofs.Common.{◌≡◌, ℕ, ◌+◌, ◌-◌, ◌<◌, ◌≤◌, ◌↔◌, List, [], ◌++◌, length, take, drop, get_or, min, zero, suc, refl, sym, ap, ap₂, ◌∙◌, arith, append_assoc, length-append, length-drop, take-append-drop}
-use Rattle.std.proofs.lemmas.List.{take_all, drop_all, drop_at, drop_more, drop-drop, take-append-le, drop-append-le, nil_from_length}
+use Rattle.std.proofs.Common.{◌≡◌, ℕ, ◌+◌, ◌-◌, ◌<◌, ◌≤◌, ◌↔◌, List, [], ◌++◌, length, take, drop, get_or, min, zero, suc, refl, sym, ap, ap₂, ◌∙◌, arith, append_assoc, length-drop, take-append-drop}
+use Rattle.std.proofs.lemmas.List.{take_all, drop_all, drop_at, drop_more, drop-drop, take-append-le, drop-append-le}
 use Rattle.dm_tree.specs.Trees.{Lines}
-use Rattle.dm_tree.specs.Paths.{Under}
-use Rattle.dm_tree.specs.Files.{joined}
+use Rattle.dm_tree.specs.Files.{joined, BeginWith}
 
 module _ (xs rest fs : Lines) (n : ℕ) (least : n ≡ min (length xs) (length fs)) where
-  on : Under (xs ++ rest) fs → Under rest (drop n fs)
+  on : BeginWith (xs ++ rest) fs → BeginWith rest (drop n fs)
   on (r, e) = go (length xs - length fs) refl
     where
-      go : (d : ℕ) → length xs - length fs ≡ d → Under rest (drop n fs)
+      go : (d : ℕ) → length xs - length fs ≡ d → BeginWith rest (drop n fs)
       go zero z = (r, sym (drop_at xs rest n (omega (arith, least, z))) ∙ ap (drop n) e ∙ drop-append-le n fs r (omega (arith, least)))
       go (suc d) z = (rest, ap (λ z. z ++ rest) (sym (drop_all n fs (omega (arith, least, z)))))
 
-  back : take n xs ≡ take n fs → Under rest (drop n fs) → Under (xs ++ rest) fs
+  back : take n xs ≡ take n fs → BeginWith rest (drop n fs) → BeginWith (xs ++ rest) fs
   back same (r, e) = go (length xs - length fs) refl
     where
-      go : (d : ℕ) → length xs - length fs ≡ d → Under (xs ++ rest) fs
+      go : (d : ℕ) → length xs - length fs ≡ d → BeginWith (xs ++ rest) fs
       go zero z = (r, ap₂ (λ x y. x ++ y) (sym (take_all n xs (omega (arith, least, z))) ∙ same) e ∙ sym (append_assoc (take n fs) (drop n fs) r) ∙ ap (λ z. z ++ r) (take-append-drop n fs))
       go (suc d) z = (drop n xs ++ rest, ap (λ z. z ++ rest) (sym (take-append-drop n xs)) ∙ append_assoc (take n xs) (drop n xs) rest ∙ ap (λ z. z ++ (drop n xs ++ rest)) (same ∙ take_all n fs (omega (arith, least, z))))
 
-  differ : (take n xs ≡ take n fs → ⊥) → Under (xs ++ rest) fs → ⊥
+  differ : (take n xs ≡ take n fs → ⊥) → BeginWith (xs ++ rest) fs → ⊥
   differ not (r, e) = not (sym (take-append-le n xs rest (omega (arith, least))) ∙ ap (take n) e ∙ take-append-le n fs r (omega (arith, least)))
-
--- no lines begin with no lines alone
-nothing_left : (fs : Lines) → Under [] fs → fs ≡ []
-nothing_left fs (r, e) = nil_from_length fs (omega (arith, ap length e, length-append fs r))
 
 -- what is left to compare once the parts before k were as they should be
 pub record Standing (ps : List Lines) (first : ℕ) (fs : Lines) (k line at : ℕ) : Type 0 where
   pub here : line ≤ length (get_or ps k [])
   pub within : at ≤ length fs
-  pub same : Under (drop first (joined ps)) fs ↔ Under (drop line (joined (drop k ps))) (drop at fs)
+  pub same : BeginWith (drop first (joined ps)) fs ↔ BeginWith (drop line (joined (drop k ps))) (drop at fs)
 
 module _ (ps : List Lines) (first : ℕ) (fs : Lines) (k line at : ℕ) (s : Standing ps first fs k line at) where
-  pub stands_all : at ≡ length fs → Under (drop first (joined ps)) fs
+  pub stands_all : at ≡ length fs → BeginWith (drop first (joined ps)) fs
   stands_all e = s.same.1 (drop line (joined (drop k ps)), ap (λ z. z ++ drop line (joined (drop k ps))) (sym (drop_all at fs (omega (arith, e)))))
-
-  pub stands_end : length ps ≤ k → Under (drop first (joined ps)) fs → at ≡ length fs
-  stands_end le u =
-      let none : drop line (joined (drop k ps)) ≡ [] = ap (λ z. drop line (joined z)) (drop_all k ps le) ∙ drop_all line [] (omega arith) in
-      let left : drop at fs ≡ [] = nothing_left (drop at fs) (let v = s.same.0 u in (v.0, sym none ∙ v.1)) in
-      omega (arith, s.within, ap length left, length-drop at fs)
 
   module _ (p : Lines) (count : ℕ) (lt : k < length ps) (read : p ≡ get_or ps k p) (fits : line ≤ length p) (least : count ≡ min (length p - line) (length fs - at)) where
     abbrev rest : Lines
@@ -53,7 +42,7 @@ module _ (ps : List Lines) (first : ℕ) (fs : Lines) (k line at : ℕ) (s : Sta
     short : count ≡ min (length (drop line p)) (length (drop at fs))
     short = omega (arith, least, length-drop line p, length-drop at fs)
 
-    pub stands_not : (take (line + count - line) (drop line p) ≡ take (at + count - at) (drop at fs) → ⊥) → Under (drop first (joined ps)) fs → ⊥
+    pub stands_not : (take (line + count - line) (drop line p) ≡ take (at + count - at) (drop at fs) → ⊥) → BeginWith (drop first (joined ps)) fs → ⊥
     stands_not not u =
         let v = s.same.0 u in
         let a : count ≡ line + count - line = omega arith in
@@ -69,13 +58,13 @@ module _ (ps : List Lines) (first : ℕ) (fs : Lines) (k line at : ℕ) (s : Sta
             let b : at + count - at ≡ count = omega arith in
             ap (λ n. take n (drop line p)) a ∙ same ∙ ap (λ n. take n (drop at fs)) b
 
-        forth : Under (drop first (joined ps)) fs → Under rest (drop (at + count) fs)
+        forth : BeginWith (drop first (joined ps)) fs → BeginWith rest (drop (at + count) fs)
         forth u =
             let v = s.same.0 u in
             let w = on (drop line p) rest (drop at fs) count short (v.0, sym opened ∙ v.1) in
             (w.0, w.1 ∙ ap (λ z. z ++ w.0) (drop-drop count at fs))
 
-        home : Under rest (drop (at + count) fs) → Under (drop first (joined ps)) fs
+        home : BeginWith rest (drop (at + count) fs) → BeginWith (drop first (joined ps)) fs
         home u =
             let w = back (drop line p) rest (drop at fs) count short equal (u.0, u.1 ∙ ap (λ z. z ++ u.0) (sym (drop-drop count at fs))) in
             s.same.1 (w.0, opened ∙ w.1)

@@ -19,8 +19,8 @@ module _ (run ends : List ℕ) (ls : Lines) where
   pub view_of : Holds run ends ls → cut 0 ends run ≡ ls
   view_of h = ap₂ (λ e r. cut 0 e r) h.placed h.whole ∙ cut-ends 0 ls
 
-  pub good_of : Holds run ends ls → Holds run ends (cut 0 ends run)
-  good_of h = subst (λ (x : Lines). Holds run ends x) (sym (view_of h)) h
+  pub valid_of : Holds run ends ls → Holds run ends (cut 0 ends run)
+  valid_of h = subst (λ (x : Lines). Holds run ends x) (sym (view_of h)) h
 
   pub held : Holds run ends (cut 0 ends run) → cut 0 ends run ≡ ls → Holds run ends ls
   held h e = subst (λ (x : Lines). Holds run ends x) e h

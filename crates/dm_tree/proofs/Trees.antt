@@ -10,11 +10,11 @@ use Rattle.std.specs.FinMap.{get, insert, from_entries, get-from_entries, get-in
 use Rattle.dm_tree.specs.declared.node.Leaf.{Leaf}
 use Rattle.dm_tree.specs.declared.node.Leaf.TheVariants.{Folder, Empty}
 use Rattle.dm_tree.specs.Paths.{Name, Path}
-use Rattle.dm_tree.specs.Validity.{IsGoodPath}
+use Rattle.dm_tree.specs.Validity.{IsValidPath}
 use Rattle.dm_tree.specs.Trees.{Lines, Entry, Dir, File, Map, Tree, HasParent, IsLawful, Deep, path_cmp}
 use Rattle.dm_tree.specs.Children.{Child, flatten, look, IsRising, IsTree}
 use Rattle.dm_tree.specs.Walks.{SetsAt, leaf_entry}
-use Rattle.dm_tree.proofs.ValidityLemmas.{good_parts}
+use Rattle.dm_tree.proofs.ValidityLemmas.{valid_parts}
 
 pub path_total : IsTotalOrder path_cmp
 path_total = lists_total nat_list_cmp_total
@@ -68,25 +68,25 @@ module _ (m m' : Map) (p : Path) (e : Entry) (s : SetsAt m m' p (Some e)) where
       apart h = cc
 
   adds_lawful : IsLawful m → HasParent p m → m p ≡ None → ((ls : Lines) → e ≡ File ls → ls ≢ []) → IsLawful m'
-  adds_lawful l up absent good = record {
+  adds_lawful l up absent valid = record {
     root = kept_at [] absent Dir l.root;
     parents = λ q n some. kept_at q absent Dir (cases_at (q ++ n ∷ []) (λ o. o ≢ None → m q ≡ Some Dir) (λ is _. ap m (snoc_inj q up.0 n up.1 (is ∙ up.2)).0 ∙ up.3) (λ h. l.parents q n h) some);
-    lines = λ q ls is. cases_at q (λ o. o ≡ Some (File ls) → ls ≢ []) (λ _ h. good ls (some_inj ls h)) (λ h. l.lines q ls h) is;
+    lines = λ q ls is. cases_at q (λ o. o ≡ Some (File ls) → ls ≢ []) (λ _ h. valid ls (some_inj ls h)) (λ h. l.lines q ls h) is;
   }
     where
       some_inj : (ls : Lines) → Some e ≡ Some (File ls) → e ≡ File ls
       some_inj ls h = cc
 
-  adds_good : ((q : Path) → q ≢ [] → m q ≢ None → IsGoodPath q) → IsGoodPath p → (q : Path) → q ≢ [] → m' q ≢ None → IsGoodPath q
-  adds_good good here q = cases_at q (λ o. q ≢ [] → o ≢ None → IsGoodPath q) (λ is _ _. subst IsGoodPath (sym is) here) (good q)
+  adds_valid : ((q : Path) → q ≢ [] → m q ≢ None → IsValidPath q) → IsValidPath p → (q : Path) → q ≢ [] → m' q ≢ None → IsValidPath q
+  adds_valid valid here q = cases_at q (λ o. q ≢ [] → o ≢ None → IsValidPath q) (λ is _ _. subst IsValidPath (sym is) here) (valid q)
 
 -- after an addition the children are those of a tree
-pub added : (ks new : List Child) (p : Path) (e : Entry) → IsTree ks → IsGoodPath p → ((ls : Lines) → e ≡ File ls → ls ≢ []) → HasParent p (look ks) → look ks p ≡ None → IsRising new → SetsAt (look ks) (look new) p (Some e) → IsTree new
-added ks new p e t here good up absent rising s =
-    record { rising = rising; lawful = adds_lawful (look ks) (look new) p e s t.lawful up absent good; good = adds_good (look ks) (look new) p e s t.good here }
+pub added : (ks new : List Child) (p : Path) (e : Entry) → IsTree ks → IsValidPath p → ((ls : Lines) → e ≡ File ls → ls ≢ []) → HasParent p (look ks) → look ks p ≡ None → IsRising new → SetsAt (look ks) (look new) p (Some e) → IsTree new
+added ks new p e t here valid up absent rising s =
+    record { rising = rising; lawful = adds_lawful (look ks) (look new) p e s t.lawful up absent valid; valid = adds_valid (look ks) (look new) p e s t.valid here }
 
 pub fresh : IsTree []
-fresh = record { rising = tt; lawful = record { root = refl; parents = up; lines = file }; good = good }
+fresh = record { rising = tt; lawful = record { root = refl; parents = up; lines = file }; valid = valid }
   where
     up : (q : Path) (n : Name) → look [] (q ++ n ∷ []) ≢ None → look [] q ≡ Some Dir
     up [] n some = refl
@@ -96,13 +96,13 @@ fresh = record { rising = tt; lawful = record { root = refl; parents = up; lines
     file [] ls is = λ _. let f : Some Dir ≡ Some (File ls) = is in cc
     file (n ∷ q) ls is = λ _. let f : None ≡ Some (File ls) = is in cc
 
-    good : (q : Path) → q ≢ [] → look [] q ≢ None → IsGoodPath q
-    good [] ne some = absurd (ne refl)
-    good (n ∷ q) ne some = absurd (some refl)
+    valid : (q : Path) → q ≢ [] → look [] q ≢ None → IsValidPath q
+    valid [] ne some = absurd (ne refl)
+    valid (n ∷ q) ne some = absurd (some refl)
 
-pub leaf_good : (l : Leaf) (ls : Lines) → leaf_entry l ≡ File ls → ls ≢ []
-leaf_good Folder ls e = λ _. let f : Dir ≡ File ls = e in cc
-leaf_good Empty ls e = λ none. let f : File ([] ∷ []) ≡ File ls = e in cc
+pub leaf_valid : (l : Leaf) (ls : Lines) → leaf_entry l ≡ File ls → ls ≢ []
+leaf_valid Folder ls e = λ _. let f : Dir ≡ File ls = e in cc
+leaf_valid Empty ls e = λ none. let f : File ([] ∷ []) ≡ File ls = e in cc
 
 pub not_deep : (ks : List Child) → IsTree ks → Deep (look ks) → ⊥
-not_deep ks t (q, deep, some) = let good = good_parts q (t.good q (λ e. omega (arith, ap length e, deep)) some) in omega (arith, good.not_deep, deep)
+not_deep ks t (q, deep, some) = let valid = valid_parts q (t.valid q (λ e. omega (arith, ap length e, deep)) some) in omega (arith, valid.not_deep, deep)

@@ -36,14 +36,14 @@ module _ {T : Type 0} (name : T → Name) (xs : List T) where
     pub name_refused : (e : PathFault) → names_fault (name (get_or xs i d) ∷ []) ≡ Some e → names_fault (map name xs) ≡ Some e
     name_refused e h = step ∙ cond_some (is_bad_name (name (get_or xs i d))) (nat_lt 255 (length (name (get_or xs i d)))) BadName TooLong e (names_fault (map name (drop (i + 1) xs))) h
 
-    pub name_good : names_fault (name (get_or xs i d) ∷ []) ≡ None → names_fault (map name xs) ≡ names_fault (map name (drop (i + 1) xs))
-    name_good h = step ∙ cond_none (is_bad_name (name (get_or xs i d))) (nat_lt 255 (length (name (get_or xs i d)))) BadName TooLong (names_fault (map name (drop (i + 1) xs))) h
+    pub name_valid : names_fault (name (get_or xs i d) ∷ []) ≡ None → names_fault (map name xs) ≡ names_fault (map name (drop (i + 1) xs))
+    name_valid h = step ∙ cond_none (is_bad_name (name (get_or xs i d))) (nat_lt 255 (length (name (get_or xs i d)))) BadName TooLong (names_fault (map name (drop (i + 1) xs))) h
 
   pub names_end : (i : ℕ) → length xs ≤ i → names_fault (map name xs) ≡ names_fault (map name (drop i xs)) → names_fault (map name xs) ≡ None
   names_end i le e = e ∙ ap (λ ys. names_fault (map name ys)) (drop_all i xs le)
 
--- a good path, in its three parts
-pub record Good (p : Path) : Type 0 where
+-- a valid path, in its three parts
+pub record Valid (p : Path) : Type 0 where
   pub not_root : 0 < length p
   pub not_deep : length p ≤ 32
   pub named : names_fault p ≡ None
@@ -53,13 +53,13 @@ two_tests true b f h = cc
 two_tests false true f h = cc
 two_tests false false f h = (refl, refl, h)
 
-pub good_parts : (p : Path) → path_fault p ≡ None → Good p
-good_parts p h =
+pub valid_parts : (p : Path) → path_fault p ≡ None → Valid p
+valid_parts p h =
     let t = two_tests (nat_eq (length p) 0) (nat_lt 32 (length p)) (names_fault p) h in
     record { not_root = grind (arith, nat_tests, t.0); not_deep = grind (arith, nat_tests, t.1); named = t.2 }
 
-pub good_whole : (p : Path) → Good p → path_fault p ≡ None
-good_whole p g =
+pub valid_whole : (p : Path) → Valid p → path_fault p ≡ None
+valid_whole p g =
     let a : nat_eq (length p) 0 ≡ false = grind (arith, nat_tests, g.not_root) in
     let b : nat_lt 32 (length p) ≡ false = few (length p) g.not_deep in
     ap (λ x. cond x (Some Empty) (cond (nat_lt 32 (length p)) (Some TooDeep) (names_fault p))) a ∙ ap (λ x. cond x (Some TooDeep) (names_fault p)) b ∙ g.named
@@ -82,9 +82,9 @@ pub names_append : (b x : Path) → names_fault b ≡ None → names_fault x ≡
 names_append [] x h k = k
 names_append (n ∷ b) x h k = swap_rest (is_bad_name n) (nat_lt 255 (length n)) (names_fault b) (names_fault (b ++ x)) (λ e. names_append b x e k) h
 
--- the path stays good under another directory, where it has at most 32 names
-pub good_moved : (a b r : Path) → path_fault (a ++ r) ≡ None → path_fault b ≡ None → length (b ++ r) ≤ 32 → path_fault (b ++ r) ≡ None
-good_moved a b r ga gb le =
-    let pa = good_parts (a ++ r) ga in
-    let pb = good_parts b gb in
-    good_whole (b ++ r) (record { not_root = omega (arith, pb.not_root, length-append b r); not_deep = le; named = names_append b r pb.named (names_right a r pa.named) })
+-- the path stays valid under another directory, where it has at most 32 names
+pub valid_moved : (a b r : Path) → path_fault (a ++ r) ≡ None → path_fault b ≡ None → length (b ++ r) ≤ 32 → path_fault (b ++ r) ≡ None
+valid_moved a b r ga gb le =
+    let pa = valid_parts (a ++ r) ga in
+    let pb = valid_parts b gb in
+    valid_whole (b ++ r) (record { not_root = omega (arith, pb.not_root, length-append b r); not_deep = le; named = names_append b r pb.named (names_right a r pa.named) })

@@ -1,9 +1,9 @@
--- How a directory keeps its children: in the order of their names, each with the rows inside it.
+-- How a directory keeps its children: in the order of their names, each with the rows inside it. For the clauses of private functions and the fields of private types alone.
 use Rattle.std.specs.Prelude.{◌≡◌, ◌≢◌, ℕ, zero, suc, List, [], ◌∷◌, ◌++◌, Option, None}
 use Rattle.std.specs.FinMap.{find}
 use Rattle.std.specs.declared.cmp.Ordering.TheVariants.{Less}
 use Rattle.dm_tree.specs.Paths.{Name, Path}
-use Rattle.dm_tree.specs.Validity.{IsGoodPath}
+use Rattle.dm_tree.specs.Validity.{IsValidPath}
 use Rattle.dm_tree.specs.Trees.{Entry, Dir, IsLawful, name_cmp, path_cmp}
 
 -- paths with their entries
@@ -57,8 +57,8 @@ IsGap n [] (suc i) = ⊥
 IsGap n (k ∷ ks) zero = name_cmp n k.name ≡ Less
 IsGap n (k ∷ ks) (suc i) = (name_cmp k.name n ≡ Less) × IsGap n ks i
 
--- what is true of the children of a tree's root: `good` is of each path but the root
+-- what is true of the children of a tree's root: `valid` is of each path but the root
 pub record IsTree (ks : List Child) : Type 0 where
   pub rising : IsRising ks
   pub lawful : IsLawful (look ks)
-  pub good : (q : Path) → q ≢ [] → look ks q ≢ None → IsGoodPath q
+  pub valid : (q : Path) → q ≢ [] → look ks q ≢ None → IsValidPath q

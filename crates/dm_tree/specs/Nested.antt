@@ -1,4 +1,4 @@
--- What a node means.
+-- What a node means. For the clauses of private functions and the fields of private types alone.
 use Rattle.std.specs.Prelude.{◌<◌, [], length}
 use Rattle.dm_tree.specs.declared.node.Body.{Body}
 use Rattle.dm_tree.specs.declared.node.Body.TheVariants.{Text, Children}
@@ -16,6 +16,6 @@ under_of (Text lines) = []
 under_of (Children children) = flatten children.items
 
 -- a file has a line, and a directory's children rise
-abbrev pub IsGood : {A : Type 0} → Body A → Type 0
-IsGood (Text lines) = 0 < length lines
-IsGood (Children children) = IsRising children.items
+abbrev pub IsValid : {A : Type 0} → Body A → Type 0
+IsValid (Text lines) = 0 < length lines
+IsValid (Children children) = IsRising children.items

@@ -1,4 +1,4 @@
--- Lines as one run of bytes, with the place where each line ends.
+-- Lines as one run of bytes, with the place where each line ends. For the clauses of private functions and the fields of private types alone.
 use Rattle.std.specs.Prelude.{◌≡◌, ℕ, ◌+◌, ◌-◌, List, [], ◌∷◌, take, drop, length}
 use Rattle.std.specs.List.{concat}
 use Rattle.dm_tree.specs.Trees.{Lines}

@@ -1,5 +1,5 @@
 -- What may stand in a path and in a list of lines, and by which fault the rest is refused.
-use Rattle.std.specs.Prelude.{◌≡◌, ℕ, List, [], ◌∷◌, length, Bool, false, ◌||◌, cond, Option, Some, None, Result, Ok, Err, ◌==◌, nat_lt}
+use Rattle.std.specs.Prelude.{◌≡◌, ℕ, List, [], ◌∷◌, length, codes, Bool, false, ◌||◌, cond, Option, Some, None, Result, Ok, Err, ◌==◌, nat_lt}
 use Rattle.std.specs.List.{list_any, All}
 use Rattle.std.specs.Ordering.{eq_by_cmp}
 use Rattle.dm_tree.specs.declared.fault.PathFault.{PathFault}
@@ -17,9 +17,9 @@ is_name = eq_by_cmp name_cmp
 abbrev pub is_bad_name : Name → Bool
 is_bad_name n =
     is_name n []
-    || (is_name n (46 ∷ [])
-    || (is_name n (46 ∷ 46 ∷ [])
-    || (is_name n (95 ∷ 100 ∷ 97 ∷ 114 ∷ 99 ∷ 115 ∷ [])
+    || (is_name n (codes ".")
+    || (is_name n (codes "..")
+    || (is_name n (codes "_darcs")
     || (list_any (λ y. y == 47) n
     || list_any (λ y. y == 0) n))))
 
@@ -33,8 +33,8 @@ abbrev pub path_fault : List Name → Option PathFault
 path_fault ns = cond (length ns == 0) (Some path.Empty) (cond (nat_lt 32 (length ns)) (Some path.TooDeep) (names_fault ns))
 
 -- the path has 1 to 32 names, each of which may stand in a path
-abbrev pub IsGoodPath : Path → Type 0
-IsGoodPath p = path_fault p ≡ None
+abbrev pub IsValidPath : Path → Type 0
+IsValidPath p = path_fault p ≡ None
 
 -- the fault, but out of memory, which no names are to blame for
 abbrev pub path_fault_of : PathFault → Option PathFault

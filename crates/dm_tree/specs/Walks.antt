@@ -11,7 +11,7 @@ use Rattle.dm_tree.specs.declared.node.Body.{Body}
 use Rattle.dm_tree.specs.declared.node.Leaf.{Leaf}
 use Rattle.dm_tree.specs.declared.node.Leaf.TheVariants.{Folder, Empty}
 use Rattle.dm_tree.specs.Paths.{Path, Under}
-use Rattle.dm_tree.specs.Validity.{IsGoodPath}
+use Rattle.dm_tree.specs.Validity.{IsValidPath}
 use Rattle.dm_tree.specs.Trees.{Lines, Entry, Dir, File, Map, HasParent, empty_file, path_cmp}
 use Rattle.dm_tree.specs.Changes.{InRange, ReplacesLines}
 use Rattle.dm_tree.specs.Listings.{kind_of}
@@ -78,9 +78,9 @@ listed above [] = []
 listed above (r ∷ rs) = record { path = above ++ r.0; kind = kind_of r.1 } ∷ listed above rs
 
 -- the paths that the rows have there may stand in a listing
-abbrev pub AreGood : Path → PathEntries → Type 0
-AreGood above [] = Unit {0}
-AreGood above (r ∷ rs) = IsGoodPath (above ++ r.0) × AreGood above rs
+abbrev pub AreValid : Path → PathEntries → Type 0
+AreValid above [] = Unit {0}
+AreValid above (r ∷ rs) = IsValidPath (above ++ r.0) × AreValid above rs
 
 -- each path of the rows comes after p
 abbrev pub Later : Path → PathEntries → Type 0

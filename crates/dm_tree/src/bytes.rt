@@ -1,5 +1,5 @@
 //! A list of bytes that is owned: a name, or a line.
-ghost use Rattle.std.specs.Prelude.{◌≡◌, ◌↔◌, ◌++◌, [], IfOk, OnOk, IsTrue};
+ghost use Rattle.std.specs.Prelude.{◌≡◌, ◌↔◌, ◌++◌, IfOk, OnOk, IsTrue};
 ghost use Rattle.dm_tree.specs.Validity.{is_name};
 
 use std::alloc::{AllocError, Allocator};
@@ -20,15 +20,6 @@ impl<A: Allocator> Model for Bytes<A> {
 }
 
 impl<A: Allocator> Bytes<A> {
-    /// No bytes; takes no memory.
-    pub fn new(alloc: A) -> Bytes<A>
-        ensures { result ≡ [] }
-    {
-        Bytes {
-            bytes: Vec::new(alloc),
-        }
-    }
-
     /// A copy of the bytes.
     pub fn from_slice(alloc: A, bytes: &[u8]) -> Result<Bytes<A>, AllocError>
         ensures { IfOk result (λ r. r ≡ bytes.now) }

@@ -7,7 +7,7 @@ ghost use Rattle.dm_tree.specs.declared.fault.LineFault.TheVariants as line;
 use std::alloc::AllocError;
 use thiserror::Error;
 
-/// Why a change of a tree is refused. Each call says which of these it answers, and in which
+/// Why a change of a tree is refused. Each call says which of these it returns, and in which
 /// order.
 #[derive(Clone, Copy, Debug, PartialEq, Eq, Error)]
 pub enum TreeFault {

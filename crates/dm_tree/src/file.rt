@@ -1,9 +1,8 @@
 //! A file's lines.
 ghost use Rattle.std.specs.Prelude.{◌≡◌, ◌↔◌, ◌+◌, ◌-◌, ◌<◌, ◌≤◌, ◌∷◌, [], length, drop, IsTrue, IfOk, OnOk, OnErr, slice_index_or};
 ghost use Rattle.std.specs.List.{splice};
-ghost use Rattle.dm_tree.specs.Files.{lines_of};
+ghost use Rattle.dm_tree.specs.Files.{lines_of, BeginWith};
 ghost use Rattle.dm_tree.specs.Listings.{file_size};
-ghost use Rattle.dm_tree.specs.Paths.{Under};
 
 use crate::parts::{copy_parts, find, replace, seek, size, stands};
 use crate::text::Text;
@@ -90,7 +89,7 @@ impl<A: Allocator> File<A> {
     /// Whether the lines from `start` on begin with all those of the text.
     pub(crate) fn begins<B: Allocator>(&self, start: usize, text: &Text<B>) -> bool
         requires { start ≤ length self.now }
-        ensures { IsTrue result ↔ Under (drop start self.now) text.now }
+        ensures { IsTrue result ↔ BeginWith (drop start self.now) text.now }
     {
         let parts = self.parts.as_slice();
         if parts.is_empty() {
@@ -138,7 +137,7 @@ fn make_part<A: Allocator + Copy>(parts: &mut Vec<Text<A>, A>) -> Result<(), All
 /// Whether an empty file's lines from `start` on begin with all those of the text.
 fn blank_begins<A: Allocator>(start: usize, text: &Text<A>) -> bool
     requires { start ≤ 1 }
-    ensures { IsTrue result ↔ Under (drop start ([] ∷ [])) text.now }
+    ensures { IsTrue result ↔ BeginWith (drop start ([] ∷ [])) text.now }
 {
     if text.is_empty() {
         return true;

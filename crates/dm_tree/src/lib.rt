@@ -6,7 +6,7 @@
 //! "Patches"; Prim.V1): adding and removing an empty file or an empty directory, moving what is at
 //! one path to another, and replacing lines of a file.
 //!
-//! The crate stands on `std` alone. Its theorem is that every change answers the first fault that
+//! The crate stands on `std` and `thiserror`. Its theorem is that every change returns the first fault that
 //! holds, in a fixed order, or does to the map exactly what that primitive does; that a refusal
 //! leaves the tree as it was; and that a tree is always lawful: what holds something is a
 //! directory, a file has a line, and no path has more than 32 names ([`laws::tree_is_lawful`]).

@@ -50,7 +50,7 @@ impl<A: Allocator> Lines<A> {
     /// The count of lines.
     pub fn len(&self) -> usize
         ensures value { result ≡ length self.now }
-        ensures good { ArePlain self.now }
+        ensures valid { ArePlain self.now }
     {
         self.text.len()
     }
@@ -112,7 +112,7 @@ impl<A: Allocator> Lines<A> {
 
     pub(crate) fn text(&self) -> &Text<A>
         ensures value { result.now ≡ self.now }
-        ensures good { ArePlain self.now }
+        ensures valid { ArePlain self.now }
     {
         &self.text
     }

@@ -1,7 +1,7 @@
 //! The entries of a tree, one by one.
 ghost use Rattle.std.specs.Prelude.{◌≡◌, ◌∷◌, ◌++◌, [], IfOk};
 ghost use Rattle.dm_tree.specs.Children.{IsRising, all, below, flatten};
-ghost use Rattle.dm_tree.specs.Walks.{AreGood, InOrder, listed};
+ghost use Rattle.dm_tree.specs.Walks.{AreValid, InOrder, listed};
 
 use crate::bytes::{Bytes, copy_all};
 use crate::node::{Body, Node};
@@ -47,7 +47,7 @@ fn list_node<A: Allocator, B: Allocator + Copy>(
     above: &[Bytes<B>],
     out: &mut Vec<Listed<B>, B>,
 ) -> Result<(), AllocError>
-    requires good { AreGood above.now (below node.now.name (all node.now)) }
+    requires valid { AreValid above.now (below node.now.name (all node.now)) }
     ensures ok { IfOk result (λ _. out.new.items ≡ out.old.items ++ listed above.now (below node.now.name (all node.now))) }
     ensures sorted { IfOk result (λ _. InOrder (all node.now)) }
 {
@@ -82,7 +82,7 @@ pub(crate) fn list_children<A: Allocator, B: Allocator + Copy>(
     out: &mut Vec<Listed<B>, B>,
 ) -> Result<(), AllocError>
     requires rising { IsRising children.now }
-    requires good { AreGood above.now (flatten children.now) }
+    requires valid { AreValid above.now (flatten children.now) }
     ensures ok { IfOk result (λ _. out.new.items ≡ out.old.items ++ listed above.now (flatten children.now)) }
     ensures sorted { IfOk result (λ _. InOrder (flatten children.now)) }
 {

@@ -5,7 +5,7 @@ ghost use Rattle.std.specs.Option.{option_map};
 ghost use Rattle.dm_tree.specs.Paths.{Path as Names};
 ghost use Rattle.dm_tree.specs.Trees.{HasParent, Dir};
 ghost use Rattle.dm_tree.specs.Children.{IsRising, IsAt, IsGap, look};
-ghost use Rattle.dm_tree.specs.Nested.{IsGood, entry_of};
+ghost use Rattle.dm_tree.specs.Nested.{IsValid, entry_of};
 ghost use Rattle.dm_tree.specs.Walks.{Grafts, SetsAt, leaf_entry, nothing, part_of};
 
 use crate::bytes::Bytes;
@@ -35,11 +35,11 @@ impl<A: Allocator> Model for Node<A> {
     ghost Value = { Child };
 
     ghost use Rattle.std.specs.Prelude.{length};
-    ghost use Rattle.dm_tree.specs.Nested.{entry_of, under_of, IsGood};
+    ghost use Rattle.dm_tree.specs.Nested.{entry_of, under_of, IsValid};
 
     ghost view = { λ a. record { name = a.name; entry = entry_of a.body; under = under_of a.body } };
 
-    ghost invariant = { λ a. IsGood a.body };
+    ghost invariant = { λ a. IsValid a.body };
 
     ghost size = { λ d. length d.under };
 
@@ -176,7 +176,7 @@ pub(crate) fn cut<A: Allocator, B: Allocator>(
     ensures rising { IsRising children.new.items }
     ensures cut { Grafts (look children.old.items) (look children.new.items) path.now nothing }
     ensures part { (q : Names) → part_of result q ≡ look children.old.items (path.now ++ q) }
-    ensures good { IsGood result }
+    ensures valid { IsValid result }
 {
     let Some((name, rest)) = path.split_first() else {
         unreachable!()
@@ -204,7 +204,7 @@ pub(crate) fn put<A: Allocator, B: Allocator>(
     requires nonempty { 0 < length path.now }
     requires rising { IsRising children.old.items }
     requires there { IsSome (look children.old.items path.now) }
-    requires good { IsGood body }
+    requires valid { IsValid body }
     ensures rising { IsRising children.new.items }
     ensures put { Grafts (look children.old.items) (look children.new.items) path.now (part_of body) }
 {

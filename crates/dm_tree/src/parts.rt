@@ -1,8 +1,7 @@
 //! The parts of a file: short texts, one after another.
 ghost use Rattle.std.specs.Prelude.{◌≡◌, ◌↔◌, ℕ, ◌+◌, ◌-◌, ◌*◌, ◌^◌, ◌<◌, ◌≤◌, ◌++◌, ◌∷◌, [], length, take, drop, sum_by, IsTrue, IfOk, OnOk, OnErr, MatchOption, slice_index_or};
 ghost use Rattle.std.specs.List.{splice};
-ghost use Rattle.dm_tree.specs.Files.{HasLine, Locates, joined};
-ghost use Rattle.dm_tree.specs.Paths.{Under};
+ghost use Rattle.dm_tree.specs.Files.{BeginWith, HasLine, Locates, joined};
 
 use crate::chain::Chain;
 use crate::text::Text;
@@ -105,7 +104,7 @@ pub(crate) fn size<A: Allocator>(parts: &[Text<A>]) -> u128
 /// Whether the lines of the parts, from one of the first part's on, begin with those of the text.
 pub(crate) fn stands<A: Allocator>(parts: &[Text<A>], first: usize, text: &TextRef<'_>) -> bool
     requires { first ≤ length (slice_index_or parts.now 0 []) }
-    ensures { IsTrue result ↔ Under (drop first (joined parts.now)) text.now }
+    ensures { IsTrue result ↔ BeginWith (drop first (joined parts.now)) text.now }
 {
     let mut line = first;
     let mut at = 0;
@@ -166,7 +165,8 @@ fn splice_part<A: Allocator + Copy, B: Allocator>(
     requires order { start ≤ end }
     requires within { end ≤ length (slice_index_or parts.old.items part []) }
     ensures count { length parts.new.items ≡ length parts.old.items }
-    ensures ok { OnOk result (joined parts.new.items ≡ splice (joined parts.old.items) (length (joined (take part parts.old.items)) + start) (length (joined (take part parts.old.items)) + end) fresh.now) }
+    ensures ok { OnOk result (joined parts.new.items ≡ splice (joined parts.old.items)
+        (length (joined (take part parts.old.items)) + start) (length (joined (take part parts.old.items)) + end) fresh.now) }
     ensures err { OnErr result (parts.new.items ≡ parts.old.items) }
 {
     parts[part].splice(start, end, fresh)
@@ -186,7 +186,9 @@ fn rebuild<A: Allocator + Copy, B: Allocator>(
     requires to { to.line ≤ length (slice_index_or parts.old.items to.part []) }
     requires fits { from.line + (length fresh.now + (length (slice_index_or parts.old.items to.part []) - to.line)) < 2 ^ 64 }
     ensures some { 0 < length parts.new.items }
-    ensures ok { OnOk result (joined parts.new.items ≡ joined (take from.part parts.old.items) ++ ((take from.line (slice_index_or parts.old.items from.part []) ++ (fresh.now ++ drop to.line (slice_index_or parts.old.items to.part []))) ++ joined (drop (to.part + 1) parts.old.items))) }
+    ensures ok { OnOk result (joined parts.new.items ≡ joined (take from.part parts.old.items) ++
+        ((take from.line (slice_index_or parts.old.items from.part []) ++ (fresh.now ++ drop to.line (slice_index_or parts.old.items to.part [])))
+        ++ joined (drop (to.part + 1) parts.old.items))) }
     ensures err { OnErr result (parts.new.items ≡ parts.old.items) }
 {
     let alloc = *parts.allocator();

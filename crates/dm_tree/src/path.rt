@@ -1,6 +1,6 @@
 //! The path of an entry: 1 to 32 names.
 ghost use Rattle.std.specs.Prelude.{◌≡◌, ◌<◌, ◌≤◌, ◌↔◌, ◌∷◌, [], length, map, IfOk, IfSome, IsTrue, MatchOption, Some, slice_index_or};
-ghost use Rattle.dm_tree.specs.Validity.{AnswersPath, IsGoodPath, is_bad_name, names_fault, path_fault, path_fault_of};
+ghost use Rattle.dm_tree.specs.Validity.{AnswersPath, IsValidPath, is_bad_name, names_fault, path_fault, path_fault_of};
 ghost use Rattle.dm_tree.specs.Paths.{Inside, Under, forward};
 
 use crate::bytes::{Bytes, copy_all, is_same, push_all};
@@ -18,13 +18,13 @@ pub struct Path<A: Allocator> {
 
 impl<A: Allocator> Model for Path<A> {
     ghost use Rattle.std.specs.Prelude.{List, ℕ};
-    ghost use Rattle.dm_tree.specs.Validity.{IsGoodPath};
+    ghost use Rattle.dm_tree.specs.Validity.{IsValidPath};
 
     ghost Value = { List (List ℕ) };
 
     ghost view = { λ a. a.names.items };
 
-    ghost invariant = { λ a. IsGoodPath a.names.items };
+    ghost invariant = { λ a. IsValidPath a.names.items };
 }
 
 impl<A: Allocator + Copy> Path<A> {
@@ -150,7 +150,7 @@ impl<A: Allocator> Path<A> {
     /// The count of names, 1 to 32.
     pub fn len(&self) -> usize
         ensures value { result ≡ length self.now }
-        ensures good { IsGoodPath self.now }
+        ensures valid { IsValidPath self.now }
     {
         self.names.len()
     }
@@ -203,7 +203,7 @@ impl<A: Allocator> Path<A> {
         ensures value { IfOk result (λ answer. MatchOption answer
             (32 < length (forward from.now to.now self.now))
             (λ path. path ≡ forward from.now to.now self.now)) }
-        ensures good { IsGoodPath self.now × IsGoodPath from.now × IsGoodPath to.now }
+        ensures valid { IsValidPath self.now × IsValidPath from.now × IsValidPath to.now }
     {
         let names = self.names();
         let front = from.names();
@@ -222,7 +222,7 @@ impl<A: Allocator> Path<A> {
     }
 
     pub(crate) fn from_names(names: Vec<Bytes<A>, A>) -> Path<A>
-        requires { IsGoodPath names.items }
+        requires { IsValidPath names.items }
         ensures { result ≡ names.items }
     {
         Path { names }
@@ -232,7 +232,7 @@ impl<A: Allocator> Path<A> {
         ensures value { result.now ≡ self.now }
         ensures not_root { 0 < length self.now }
         ensures not_deep { length self.now ≤ 32 }
-        ensures good { IsGoodPath self.now }
+        ensures valid { IsValidPath self.now }
     {
         self.names.as_slice()
     }

@@ -26,7 +26,7 @@ use std::marker::Model;
 ///
 /// The root is a directory, what holds something is a directory, a file has a line, and no path
 /// has more than 32 names ([`laws::tree_is_lawful`](crate::laws::tree_is_lawful)). A call that
-/// answers an error leaves the tree as it was; the errors of a call come in the order in which it
+/// returns an error leaves the tree as it was; the errors of a call come in the order in which it
 /// lists them, [`TreeFault::NoMemory`] last.
 #[derive(Drop)]
 pub struct Tree<A: Allocator> {

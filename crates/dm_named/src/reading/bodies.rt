@@ -13,10 +13,12 @@ use crate::text::{begins_at, skip, word_at};
 use dm_prim::Prim;
 use std::alloc::Allocator;
 
-/// Whether what stands in the place of a primitive is refused.
+/// Whether what is at a place, where a primitive may be, is refused.
 fn is_unsupported_at(text: &[u8], at: usize) -> bool
     requires { at ≤ length text.now }
-    ensures { MatchBool result (WordAmong unsupported_words (drop at text.now) ⊎ Begins 40 (drop at text.now)) ((WordAmong unsupported_words (drop at text.now) → ⊥) × (Begins 40 (drop at text.now) → ⊥)) }
+    ensures { MatchBool result
+        (WordAmong unsupported_words (drop at text.now) ⊎ Begins 40 (drop at text.now))
+        ((WordAmong unsupported_words (drop at text.now) → ⊥) × (Begins 40 (drop at text.now) → ⊥)) }
 {
     if begins_at(text, at, b'(') {
         return true;
@@ -29,7 +31,7 @@ fn is_unsupported_at(text: &[u8], at: usize) -> bool
     }
 }
 
-/// What is wrong inside braces where neither a primitive nor the closing one stands.
+/// What is wrong inside braces where there is neither a primitive nor the closing brace.
 fn brace_fault(text: &[u8], at: usize) -> FaultKind
     requires within { at ≤ length text.now }
     requires no_prim { WordAmong prim_words (drop at text.now) → ⊥ }

@@ -12,7 +12,7 @@ use crate::text::{begins_at, info_at, skip};
 use dm_info::Info;
 use std::alloc::Allocator;
 
-/// As many patch infos as stand there, each after white space, and the place after the last.
+/// All patch infos that follow one another from a place on, each after white space, and the place after the last.
 fn infos_at<A: Allocator + Copy>(
     alloc: A,
     text: &[u8],

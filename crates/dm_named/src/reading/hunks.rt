@@ -1,4 +1,4 @@
-//! Hunks as text, from after their path.
+//! The text of hunks after their path.
 
 ghost use Rattle.std.specs.Prelude.{◌≡◌, ◌≤◌, ℕ, List, [], length, drop, IfOk, IfErr};
 ghost use Rattle.dm_named.specs.Words.{LineGroup};
@@ -12,7 +12,7 @@ use dm_prim::{Hunk, HunkFault};
 use dm_tree::{Lines, Path};
 use std::alloc::{AllocError, Allocator};
 
-/// The lines that begin with a byte, without it, and the place after them.
+/// The lines from a place on that begin with this byte, without the byte, and the place after them.
 fn lines_at<A: Allocator + Copy>(
     alloc: A,
     byte: u8,
@@ -34,7 +34,7 @@ fn lines_at<A: Allocator + Copy>(
     Ok((lines, at))
 }
 
-/// No lines, with room for those that begin with a byte: of each all but that byte and its newline.
+/// No lines yet, but room for those from a place on that begin with this byte: for each, all but that byte and the newline.
 fn room_at<A: Allocator + Copy>(
     alloc: A,
     byte: u8,
@@ -52,7 +52,7 @@ fn room_at<A: Allocator + Copy>(
     )
 }
 
-/// The count of the lines that begin with a byte, and the place after them.
+/// The count of the lines from a place on that begin with this byte, and the place after them.
 fn count_lines(byte: u8, text: &[u8], start: usize) -> (usize, usize)
     requires { start ≤ length text.now }
     ensures { start ≤ result.1 }
@@ -67,7 +67,7 @@ fn count_lines(byte: u8, text: &[u8], start: usize) -> (usize, usize)
     (count, at)
 }
 
-/// The place after the lines that begin with a space.
+/// The place after the lines from a place on that begin with a space.
 fn skip_lines(text: &[u8], start: usize) -> usize
     requires { start ≤ length text.now }
     ensures group { (lines : List (List ℕ)) × LineGroup 32 (drop start text.now) lines (drop result text.now) }
@@ -82,7 +82,7 @@ fn skip_lines(text: &[u8], start: usize) -> usize
     at
 }
 
-/// A hunk from after its path, whose word stands at a place, and the place after it.
+/// A hunk, read from after its path, and the place after it. `hunk` is the place of its word.
 pub(crate) fn hunk_at<A: Allocator + Copy>(
     alloc: A,
     path: Path<A>,

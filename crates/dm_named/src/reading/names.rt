@@ -11,15 +11,15 @@ use dm_tree::PathFault;
 use memchr::memchr;
 use std::alloc::{AllocError, AllocFailed, Allocator};
 
-/// The most bytes of a name.
+/// The most bytes that a name may have.
 const MOST_BYTES: usize = 255;
 
 /// Why a name or a path could not be read.
 #[derive(Clone, Copy)]
 pub(crate) enum NameFault {
-    /// The text is none.
+    /// The text is not that of a name or a path.
     BadPath,
-    /// A growth was refused.
+    /// An allocation failed.
     NoMemory,
 }
 
@@ -64,7 +64,7 @@ impl From<NameFault> for FaultKind {
     }
 }
 
-/// The byte whose code these digits are.
+/// The byte whose code is spelled by these digits.
 fn byte_of_code(digits: &[u8]) -> Option<u8>
     ensures found { IfSome result (λ b. IsCode digits.now b) }
     ensures none { IfNone result ((b : ℕ) → IsCode digits.now b → ⊥) }
@@ -85,7 +85,7 @@ fn byte_of_code(digits: &[u8]) -> Option<u8>
     Some(number as u8)
 }
 
-/// What stands after this byte, if the text begins with it.
+/// The text after this byte, if it begins with it.
 pub(crate) fn strip(byte: u8, text: &[u8]) -> Option<&[u8]>
     ensures { MatchOption result ((rest : List ℕ) → text.now ≡ byte ∷ rest → ⊥) (λ rest. text.now ≡ byte ∷ rest.now) }
 {
@@ -95,7 +95,7 @@ pub(crate) fn strip(byte: u8, text: &[u8]) -> Option<&[u8]>
     }
 }
 
-/// The byte at the front, its escape resolved, and what stands after it.
+/// The byte at the front, its escape resolved, and the text after it.
 fn byte_of(text: &[u8]) -> Option<(u8, &[u8])>
     ensures found { IfSome result (λ x. NameByte text.now x.0 x.1.now) }
     ensures none { IfNone result ((b : ℕ) (rest : List ℕ) → NameByte text.now b rest → ⊥) }
@@ -111,7 +111,7 @@ fn byte_of(text: &[u8]) -> Option<(u8, &[u8])>
     Some((byte, &inside[end + 1..]))
 }
 
-/// The bytes of a name, its escapes resolved, and no more than a name of a path may have.
+/// The bytes of a name, its escapes resolved. More than a name may have are a fault.
 pub(crate) fn name_of<A: Allocator>(alloc: A, text: &[u8]) -> Result<Vec<u8, A>, NameFault>
     ensures found { IfOk result (λ name. IsNameText text.now name.items) }
     ensures none { IfErr result (λ e. (e ≡ NameFault.BadPath) → (name : List ℕ) → IsNameText text.now name → 255 < length name) }

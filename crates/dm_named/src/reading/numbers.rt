@@ -7,7 +7,7 @@ ghost use Rattle.dm_named.specs.Words.{is_white, skipped, IsNumberText, NumberLi
 use crate::fault::{FaultKind, ReadFault};
 use crate::text::{is_white, line_at, skip, word_at};
 
-/// The number that digits stand for.
+/// The number that is spelled by these digits.
 fn number_of(digits: &[u8]) -> Option<u32>
     ensures found { IfSome result (λ n. IsNumberText digits.now n) }
     ensures none { IfNone result ((n : ℕ) → IsNumberText digits.now n → ⊥) }

@@ -1,7 +1,7 @@
 //! Paths as text.
 
 ghost use Rattle.std.specs.Prelude.{◌≡◌, ◌<◌, ◌≤◌, [], List, ℕ, length, drop, map, IfOk, IfErr};
-ghost use Rattle.dm_tree.specs.Validity.{IsGoodPath};
+ghost use Rattle.dm_tree.specs.Validity.{IsValidPath};
 ghost use Rattle.dm_named.specs.Many.{Many};
 ghost use Rattle.dm_named.specs.Paths.{Piece, SlashName, IsPathText, NextPath};
 ghost use Rattle.dm_named.specs.Faults.{PathFaultAt};
@@ -13,7 +13,7 @@ use dm_tree::Path;
 use memchr::memchr;
 use std::alloc::Allocator;
 
-/// What stands before the next slash, or the end, and the rest.
+/// The text up to the next slash, or to the end, and the rest.
 fn piece_of(text: &[u8]) -> (&[u8], &[u8])
     ensures { Piece text.now result.0.now result.1.now }
 {
@@ -23,7 +23,7 @@ fn piece_of(text: &[u8]) -> (&[u8], &[u8])
     }
 }
 
-/// A slash and a name, and the rest.
+/// The name after a slash, and the rest.
 fn slash_name<A: Allocator + Copy>(alloc: A, text: &[u8]) -> Result<(Vec<u8, A>, &[u8]), NameFault>
     ensures found { IfOk result (λ x. SlashName text.now x.0.items x.1.now) }
     ensures none { IfErr result (λ e. (e ≡ NameFault.BadPath) → (name rest : List ℕ) → SlashName text.now name rest → 255 < length name) }
@@ -36,10 +36,10 @@ fn slash_name<A: Allocator + Copy>(alloc: A, text: &[u8]) -> Result<(Vec<u8, A>,
     Ok((name, rest))
 }
 
-/// Names, each after its slash, and no more than a path may have.
+/// All names of a text, each after its slash. More than a path may have are a fault.
 fn names_of<A: Allocator + Copy>(alloc: A, text: &[u8]) -> Result<Vec<Vec<u8, A>, A>, NameFault>
     ensures found { IfOk result (λ x. Many SlashName text.now (map (λ v. v.items) x.items) []) }
-    ensures none { IfErr result (λ e. (e ≡ NameFault.BadPath) → (names : List (List ℕ)) → Many SlashName text.now names [] → IsGoodPath names → ⊥) }
+    ensures none { IfErr result (λ e. (e ≡ NameFault.BadPath) → (names : List (List ℕ)) → Many SlashName text.now names [] → IsValidPath names → ⊥) }
 {
     let mut names = Vec::new(alloc);
     let mut rest = text;

@@ -15,10 +15,10 @@ use crate::reading::words::{PrimWord, prim_word_at};
 use dm_prim::Prim;
 use std::alloc::Allocator;
 
-/// A named patch has at most so many primitives.
+/// The most primitives that a named patch may have.
 const MOST_PRIMS: usize = 10000;
 
-/// The primitive whose word stands from one place to another, and the place after it.
+/// A primitive whose word is at `start` and ends at `at`, and the place after it.
 fn prim_at<A: Allocator + Copy>(
     alloc: A,
     word: PrimWord,
@@ -52,7 +52,7 @@ fn prim_at<A: Allocator + Copy>(
     }
 }
 
-/// As many primitives as stand there, each after white space, and the place after the last.
+/// All primitives that follow one another from a place on, each after white space, and the place after the last.
 pub(crate) fn prims_at<A: Allocator + Copy>(
     alloc: A,
     text: &[u8],

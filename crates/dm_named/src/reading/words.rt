@@ -1,4 +1,4 @@
-//! The words in the place of a primitive.
+//! The words where a primitive may begin.
 
 ghost use Rattle.std.specs.Prelude.{◌≡◌, ◌≢◌, ◌≤◌, ◌<◌, length, drop, IfSome, IfNone, MatchBool};
 ghost use Rattle.dm_named.specs.Words.{skipped, Word, Among, WordAmong};
@@ -18,14 +18,14 @@ pub(crate) enum PrimWord {
     Hunk,
 }
 
-/// What a word in the place of a primitive is.
+/// What a word is where a primitive may begin.
 #[derive(Clone, Copy)]
 pub(crate) enum BodyWord {
-    /// That of a primitive.
+    /// The word of a primitive.
     Prim(PrimWord),
-    /// That of a patch that this profile refuses.
+    /// The word of a patch that this profile refuses.
     Unsupported,
-    /// Neither.
+    /// Any other.
     Other,
 }
 
@@ -49,7 +49,7 @@ fn is_unsupported(word: &[u8]) -> bool
         || same(word, b"etacilpud")
 }
 
-/// What a word in the place of a primitive is.
+/// Tells what a word is where a primitive may begin.
 pub(crate) fn body_word(word: &[u8]) -> BodyWord
     ensures { IsBodyWord word.now result }
 {
@@ -77,7 +77,7 @@ pub(crate) fn body_word(word: &[u8]) -> BodyWord
     BodyWord::Other
 }
 
-/// The primitive's word after white space, its place, and the place after it.
+/// The word of a primitive after white space, its place, and the place after it; none if there is another word.
 pub(crate) fn prim_word_at(text: &[u8], at: usize) -> Option<(PrimWord, usize, usize)>
     requires { at ≤ length text.now }
     ensures word { IfSome result (λ x. Word (drop x.1 text.now) (word_of x.0) (drop x.2 text.now)) }

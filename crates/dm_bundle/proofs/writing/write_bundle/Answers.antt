@@ -14,8 +14,8 @@ returns-clause-text g c =
     (joined (codes "New patches:\n\n") (flat_map patch_text c.new_patches.result.now) (codes "\nContext:\n\n") (flat_map info_line c.context.result.now) c.new-text.result.items c.extend_from_slice.new.self.items c.push_patches.new.out.items c.extend_from_slice-2.new.self.items c.push_context.new.out.items
     c.new-text.ensures.items c.in_ok-extend_from_slice.ensures.items c.in_ok-push_patches.ensures.text c.in_ok-extend_from_slice-2.ensures.items c.in_ok-push_context.ensures.text)
 
-pub returns-clause-good : goal.returns-clause-good
-returns-clause-good g c = record { patches = rw (← c.new_patches.ensures.value) c.in_ok-push_patches.ensures.good; context = rw (← c.context.ensures) c.in_ok-push_context.ensures.good; no_doubles = c.new_patches.ensures.no_doubles }
+pub returns-clause-valid : goal.returns-clause-valid
+returns-clause-valid g c = record { patches = rw (← c.new_patches.ensures.value) c.in_ok-push_patches.ensures.valid; context = rw (← c.context.ensures) c.in_ok-push_context.ensures.valid; no_doubles = c.new_patches.ensures.no_doubles }
 
 pub returns-clause-stands : goal.returns-clause-stands
-returns-clause-stands g c = rw (returns-clause-text g c) (round_trip c.args.bundle.now (returns-clause-good g c))
+returns-clause-stands g c = rw (returns-clause-text g c) (round_trip c.args.bundle.now (returns-clause-valid g c))

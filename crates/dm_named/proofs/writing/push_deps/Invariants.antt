@@ -9,5 +9,5 @@ abbrev pub invariant-loop-dep : goal.invariant-loop-dep
 invariant-loop-dep g l =
     record {
       text : l.out.items ≡ l.fn.out.items ++ (codes "<\n" ++ flat_map info_line (take l.dep-index l.deps));
-      good : AllByRecursion IsInfo (take l.dep-index l.deps);
+      valid : AllByRecursion IsInfo (take l.dep-index l.deps);
     }

@@ -1,8 +1,8 @@
 use Rattle.dm_named.proofs.writing.push_named.Goals as goal
 
-pub returns-clause-good : goal.returns-clause-good
-returns-clause-good g c = record {
-  info = rw (← c.info.ensures) c.in_ok-push_info.ensures.good;
-  deps = rw (← c.deps.ensures) c.in_ok-push_deps.ensures.good;
-  prims = rw (← c.prims.ensures) c.in_ok-push_body.ensures.good;
+pub returns-clause-valid : goal.returns-clause-valid
+returns-clause-valid g c = record {
+  info = rw (← c.info.ensures) c.in_ok-push_info.ensures.valid;
+  deps = rw (← c.deps.ensures) c.in_ok-push_deps.ensures.valid;
+  prims = rw (← c.prims.ensures) c.in_ok-push_body.ensures.valid;
 }

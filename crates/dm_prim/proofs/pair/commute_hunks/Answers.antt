@@ -8,4 +8,4 @@ returns-in_err-second_line g c = rw c.from_residual.ensures (no_places c.args.fi
 pub returns : goal.returns
 returns g c = let l = c.in_ok-second_line.ensures in rw (c.at_line.ensures, c.at_line-2.ensures)
     (at_places c.args.first c.args.second _ _ _ _ _ _ c.span.ensures.line c.span.ensures.old c.span.ensures.new
-    c.span-2.ensures.line c.span-2.ensures.old c.span-2.ensures.new c.requires c.span.ensures.good c.span-2.ensures.good _ _ l.0 l.1 l.2)
+    c.span-2.ensures.line c.span-2.ensures.old c.span-2.ensures.new c.requires c.span.ensures.valid c.span-2.ensures.valid _ _ l.0 l.1 l.2)

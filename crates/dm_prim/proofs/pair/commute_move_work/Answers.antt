@@ -1,5 +1,5 @@
 use Rattle.std.proofs.Common.{subst}
-use Rattle.dm_tree.specs.Validity.{IsGoodPath}
+use Rattle.dm_tree.specs.Validity.{IsValidPath}
 use Rattle.dm_tree.proofs.Fronts.{refuted}
 use Rattle.dm_prim.specs.Prims.{prim_of}
 use Rattle.dm_prim.proofs.TableLemmas.{no_move_work, long_move_work, moved_after}
@@ -14,5 +14,5 @@ returns-in_default g c = long_move_work (prim_of c.args.q) c.args.a c.args.b c.r
 pub returns : goal.returns
 returns g c = let m = rw c.in-Some.is at c.in_ok-moved.ensures.value in
     moved_after (prim_of c.args.q) c.args.a c.args.b c.requires (prim_of c.in-Some.moved) m.0
-    (c.may_move_after.ensures.0 c.if-not-may_move_after.false) c.in_ok-moved.ensures.good m.1
-    (subst IsGoodPath c.a.view_is c.a.invariant) (subst IsGoodPath c.b.view_is c.b.invariant)
+    (c.may_move_after.ensures.0 c.if-not-may_move_after.false) c.in_ok-moved.ensures.valid m.1
+    (subst IsValidPath c.a.view_is c.a.invariant) (subst IsValidPath c.b.view_is c.b.invariant)

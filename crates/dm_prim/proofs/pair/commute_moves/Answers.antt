@@ -1,5 +1,5 @@
 use Rattle.std.proofs.Common.{subst}
-use Rattle.dm_tree.specs.Validity.{IsGoodPath}
+use Rattle.dm_tree.specs.Validity.{IsValidPath}
 use Rattle.dm_tree.proofs.Fronts.{refuted}
 use Rattle.dm_prim.proofs.TableLemmas.{no_move_both, both_moved, long_from, long_to, long_first_from, long_first_to}
 use Rattle.dm_prim.proofs.pair.commute_moves.Goals as goal
@@ -26,5 +26,5 @@ returns g c = rw (c.moving-second.ensures.value, c.moving-first.ensures.value)
     (both_moved c.args.a c.args.b c.args.c c.args.d c.in-Some.from c.in-Some-2.to c.in-Some-3.first_from c.in-Some-4.first_to
     (rw c.in-Some.is at c.in_ok-from.ensures) (rw c.in-Some-2.is at c.in_ok-to.ensures)
     (rw c.in-Some-3.is at c.in_ok-first_from.ensures) (rw c.in-Some-4.is at c.in_ok-first_to.ensures) (c.may_move_both.ensures.0 c.if-not-may_move_both.false)
-    (subst IsGoodPath c.a.view_is c.a.invariant, subst IsGoodPath c.b.view_is c.b.invariant) (subst IsGoodPath c.c.view_is c.c.invariant, subst IsGoodPath c.d.view_is c.d.invariant)
-    c.moving-second.ensures.good c.moving-first.ensures.good)
+    (subst IsValidPath c.a.view_is c.a.invariant, subst IsValidPath c.b.view_is c.b.invariant) (subst IsValidPath c.c.view_is c.c.invariant, subst IsValidPath c.d.view_is c.d.invariant)
+    c.moving-second.ensures.valid c.moving-first.ensures.valid)

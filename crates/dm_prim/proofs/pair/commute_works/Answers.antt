@@ -10,4 +10,4 @@ returns-then-not-may_change_places g c = no_two_paths (prim_of c.args.p) (prim_o
 
 pub returns : goal.returns
 returns g c = change_places (prim_of c.args.p) (prim_of c.args.q) c.requires.first c.requires.second
-    (c.may_change_places.ensures.0 c.if-not-may_change_places.false) c.tells_good.ensures c.tells_good-2.ensures
+    (c.may_change_places.ensures.0 c.if-not-may_change_places.false) c.tells_valid.ensures c.tells_valid-2.ensures

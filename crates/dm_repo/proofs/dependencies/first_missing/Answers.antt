@@ -1,6 +1,13 @@
-use Rattle.std.proofs.Common.{arith}
+use Rattle.std.proofs.Common.{refl, ◌∙◌, arith}
+use Rattle.std.proofs.lemmas.List.{length-map}
 use Rattle.dm_repo.proofs.DependencyLemmas.{first_lacking, all_have, have_more}
 use Rattle.dm_repo.proofs.dependencies.first_missing.Goals as goal
+
+pub have_none-requires : goal.have_none-requires
+have_none-requires g c = rw c.deref.ensures.value (c.requires.held_is.length_is ∙ length-map c.args.bundle.now.patches (λ p. p.info))
+
+pub returns-then-have_none : goal.returns-then-have_none
+returns-then-have_none g c = c.if-have_none.ensures c.args.repo.now.patches (rw c.deref.ensures.value c.requires.held_is) refl
 
 pub loop-n-init : goal.loop-n-init
 loop-n-init g c = λ m l. absurd (omega (arith, l))

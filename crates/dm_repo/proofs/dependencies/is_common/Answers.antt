@@ -14,7 +14,7 @@ index-requires g c =
 pub returns-in-None : goal.returns-in-None
 returns-in-None g c =
     let none = rw c.in-None.is at c.in_ok-find.ensures in
-    ((λ e. absurd (false≢true e)), λ h. absurd (none (common_held c.args.repo.now.patches c.args.bundle.now c.requires.good.earlier c.requires.marks.knows c.args.info.now h)))
+    ((λ e. absurd (false≢true e)), λ h. absurd (none (common_held c.args.repo.now.patches c.args.bundle.now c.requires.valid.earlier c.requires.marks.knows c.args.info.now h)))
 
 pub returns-in-Some : goal.returns-in-Some
 returns-in-Some g c =

@@ -21,17 +21,17 @@ loop-k-preserved-in-Ok g c =
     let kept = whole c.mark.new.marks (drop (length c.mark.new.marks) c.loop-k.marks.items) c.loop-k.marks.len (search rules) in
     let n : length (infos_of c.args.repo.now.patches) ≡ length c.args.repo.now.patches = length-map c.args.repo.now.patches (λ p. p.info) in
     let l : c.loop-k.k - 1 < length c.loop-k.marks.items = omega (arith, n, c.loop-k.invariant.length_is, c.loop-k.auto.k, c.len-k.ensures.value, c.loop-k-test.true) in
-    rw kept (close_in repo c.args.bundle.now.context c.loop-k.marks.items c.mark.new.marks c.loop-k.k c.patch.result.now c.loop-k-test.true c.len-k.ensures.good c.patch.ensures c.loop-k.invariant
+    rw kept (close_in repo c.args.bundle.now.context c.loop-k.marks.items c.mark.new.marks c.loop-k.k c.patch.result.now c.loop-k-test.true c.len-k.ensures.valid c.patch.ensures c.loop-k.invariant
     (mark_at c.loop-k.marks.items (c.loop-k.k - 1) true c.index.result.now l (sym c.index.ensures ∙ c.if-index.true)) also)
 
 pub unreachable-requires : goal.unreachable-requires
-unreachable-requires g c = no_lack c.args.repo.now.patches (c.loop-k.k - 1) c.in-Err.field-0 c.patch.result.now c.len-k.ensures.good c.patch.ensures (rw c.deps.ensures at c.in-Err.ensures)
+unreachable-requires g c = no_lack c.args.repo.now.patches (c.loop-k.k - 1) c.in-Err.field-0 c.patch.result.now c.len-k.ensures.valid c.patch.ensures (rw c.deps.ensures at c.in-Err.ensures)
 
 pub loop-k-preserved : goal.loop-k-preserved
 loop-k-preserved g c =
     let n : length (infos_of c.args.repo.now.patches) ≡ length c.args.repo.now.patches = length-map c.args.repo.now.patches (λ p. p.info) in
     let l : c.loop-k.k - 1 < length c.loop-k.marks.items = omega (arith, n, c.loop-k.invariant.length_is, c.loop-k.auto.k, c.len-k.ensures.value, c.loop-k-test.true) in
-    close_out c.args.repo.now.patches c.args.bundle.now.context c.loop-k.marks.items c.loop-k.k c.loop-k-test.true (omega (arith, c.loop-k.auto.k, c.len-k.ensures.value)) c.len-k.ensures.good c.loop-k.invariant
+    close_out c.args.repo.now.patches c.args.bundle.now.context c.loop-k.marks.items c.loop-k.k c.loop-k-test.true (omega (arith, c.loop-k.auto.k, c.len-k.ensures.value)) c.len-k.ensures.valid c.loop-k.invariant
     (mark_at c.loop-k.marks.items (c.loop-k.k - 1) false c.index.result.now l (sym c.index.ensures ∙ c.if-index.false))
 
 pub returns : goal.returns

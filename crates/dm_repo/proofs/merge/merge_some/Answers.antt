@@ -1,4 +1,4 @@
-use Rattle.std.proofs.Common.{rules, ◌≡◌, ◌∙◌, refl, sym, ap, map, drop, length}
+use Rattle.std.proofs.Common.{rules, ◌≡◌, ◌∙◌, refl, ap, map, drop, length}
 use Rattle.std.proofs.lemmas.Bool.{false≢true}
 use Rattle.dm_repo.specs.declared.policy.Policy.TheVariants.{Skip}
 use Rattle.dm_repo.specs.declared.refusal.Refusal.TheVariants.{Conflicts}

@@ -1,6 +1,6 @@
-use Rattle.std.proofs.Common.{◌≡◌, ◌++◌, length}
+use Rattle.std.proofs.Common.{◌≡◌, take, drop}
 use Rattle.dm_repo.specs.Staircases.{Split}
-use Rattle.dm_repo.specs.Squares.{placed, placed_from, PlacedCommutes}
+use Rattle.dm_repo.specs.Squares.{placed_from, PlacedCommutes}
 use Rattle.dm_repo.specs.Stops.{IsMarked}
 use Rattle.dm_repo.proofs.parted.split_by.Given as goal
 
@@ -8,7 +8,6 @@ abbrev pub invariant-loop-k : goal.invariant-loop-k
 invariant-loop-k g l = record {
   can_next : (goal.iterator-loop-k g).can_next l.k-iterator;
   is_finite : (goal.iterator-loop-k g).is_finite l.k-iterator;
-  whole : placed l.fn.patches.items ≡ l.yielded ++ placed_from l.k-iterator.count l.k-iterator.iter.rest.items;
-  counted : length l.yielded ≡ l.k-iterator.count;
-  split : Split PlacedCommutes (IsMarked l.marks) l.yielded l.front.items l.rest.items;
+  left : drop l.k-iterator.count l.fn.patches.items ≡ l.k-iterator.iter.rest.items;
+  split : Split PlacedCommutes (IsMarked l.marks) (placed_from l.first (take l.k-iterator.count l.fn.patches.items)) l.front.items l.rest.items;
 }

@@ -1,20 +1,27 @@
-use Rattle.dm_repo.specs.Stops.{AtPlaces}
+use Rattle.dm_repo.specs.Stops.{AtPlaces, IsMarked}
 use Rattle.dm_repo.specs.Staircases.{SplitStops}
 use Rattle.dm_repo.specs.Squares.{PlacedCommutes, placed}
+use Rattle.dm_repo.specs.Repositories.{Holds}
 use Rattle.dm_repo.specs.Weighing.{IsHeld, RefusesBundle}
 use Rattle.dm_repo.specs.declared.refusal.Refusal.TheVariants.{HeldDepends}
-use Rattle.dm_repo.proofs.Steps.{between_places}
+use Rattle.dm_repo.proofs.Alike.{split_alike}
+use Rattle.dm_repo.proofs.Steps.{alike_placed, stops_alike, blocked_map, between_places}
 use Rattle.dm_repo.proofs.parted.split_held.Goals as goal
 
 pub returns-in-Ok : goal.returns-in-Ok
-returns-in-Ok g c = λ repo b policy front rest e found parted. record {
-  repo_split = parted;
-  held = c.in-Ok.parted.front.items;
-  split = rw e (c.in-Ok.ensures repo (rw c.deref.ensures.value (rw e at found.marked.held_is)));
-}
+returns-in-Ok g c = λ repo b policy front rest e found parted.
+    let marks = c.args.marks.now.held.items in
+    let a = alike_placed marks (Holds repo) c.args.new.items (rw e at found.marked.held_is) in
+    record {
+      repo_split = parted;
+      held = c.in-Ok.parted.front.items;
+      split = rw e (split_alike PlacedCommutes (IsMarked marks) (IsHeld repo) a (rw c.deref.ensures.value at c.in-Ok.ensures));
+    }
 
 pub returns-in-Err : goal.returns-in-Err
 returns-in-Err g c = λ repo b policy front rest e found parted.
+    let marks = c.args.marks.now.held.items in
+    let a = alike_placed marks (Holds repo) c.args.new.items (rw e at found.marked.held_is) in
     rw c.held_depends.ensures
     (between_places (RefusesBundle repo b policy) HeldDepends (AtPlaces (SplitStops PlacedCommutes (IsHeld repo) (placed b.patches))) c.in-Err.blocked tt
-    (λ j k s. (front, rest, parted, s)) (rw e (c.in-Err.ensures repo (rw c.deref.ensures.value (rw e at found.marked.held_is)))))
+    (λ j k s. (front, rest, parted, s)) (rw e (blocked_map c.in-Err.blocked (λ h r q. stops_alike PlacedCommutes a q) (rw c.deref.ensures.value at c.in-Err.ensures))))

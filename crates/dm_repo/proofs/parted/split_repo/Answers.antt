@@ -1,16 +1,41 @@
-use Rattle.dm_repo.specs.Squares.{PlacedCommutes}
-use Rattle.dm_repo.specs.Stops.{IsMarked}
+use Rattle.std.proofs.Common.{arith}
+use Rattle.std.proofs.lemmas.List.{length-drop, take_rest}
+use Rattle.std.proofs.lemmas.Result.{err_from_is_err_and}
+use Rattle.dm_repo.specs.Squares.{PlacedCommutes, placed}
+use Rattle.dm_repo.specs.Staircases.{SplitStops}
+use Rattle.dm_repo.specs.Stops.{AtPlaces, IsMarked}
 use Rattle.dm_repo.specs.CommonSets.{Common}
 use Rattle.dm_repo.specs.Weighing.{IsCommon}
+use Rattle.dm_repo.specs.Splitting.{RefusesToSplit}
+use Rattle.dm_repo.specs.declared.refusal.Refusal.TheVariants.{ContextDepends}
 use Rattle.dm_repo.proofs.Alike.{split_alike}
-use Rattle.dm_repo.proofs.Steps.{match_map, alike_placed, stops_alike, blocked_map}
+use Rattle.dm_repo.proofs.Splits.{kept_stay, kept_stop}
+use Rattle.dm_repo.proofs.Steps.{alike_placed, stops_alike, blocked_map, between_places}
 use Rattle.dm_repo.proofs.parted.split_repo.Goals as goal
 
-pub returns : goal.returns
-returns g c = λ b m.
+pub split_by-requires : goal.split_by-requires
+split_by-requires g c =
     let repo = c.args.repo.now.patches in
-    let marks = c.args.common.now in
-    let a = alike_placed marks (Common repo b) repo m in
-    match_map c.split_after.result (rw c.patches.ensures.value at c.split_after.ensures)
-    (λ parted s. split_alike PlacedCommutes (IsMarked marks) (IsCommon repo b) a s)
-    (λ blocked s. blocked_map blocked (λ h r q. stops_alike PlacedCommutes a q) s)
+    let copied = rw (c.patches.ensures.value, take_rest repo c.args.kept) at c.in_ok-copied.ensures in
+    rw (c.deref.ensures.value, copied) (omega (arith, c.requires.marks, c.requires.within, length-drop c.args.kept repo))
+
+pub returns-in_err-copied : goal.returns-in_err-copied
+returns-in_err-copied g c = λ b marked. let p = err_from_is_err_and c.from_residual.result c.from_residual.ensures.1 in rw (p.1, p.2) tt
+
+pub returns-in-Ok : goal.returns-in-Ok
+returns-in-Ok g c = λ b marked.
+    let repo = c.args.repo.now.patches in
+    let marks = c.args.marks.now.common.items in
+    let a = alike_placed marks (Common repo b) repo marked.common_is in
+    let s = rw (c.deref.ensures.value, c.in_ok-copied.ensures, c.patches.ensures.value, take_rest repo c.args.kept) at c.in-Ok.ensures in
+    split_alike PlacedCommutes (IsMarked marks) (IsCommon repo b) a (kept_stay marks repo c.args.kept (rw c.requires.marks at c.requires.within) c.requires.marked s)
+
+pub returns-in-Err : goal.returns-in-Err
+returns-in-Err g c = λ b marked.
+    let repo = c.args.repo.now.patches in
+    let marks = c.args.marks.now.common.items in
+    let a = alike_placed marks (Common repo b) repo marked.common_is in
+    let s = rw (c.deref.ensures.value, c.in_ok-copied.ensures, c.patches.ensures.value, take_rest repo c.args.kept) at c.in-Err.ensures in
+    rw c.context_depends.ensures
+    (between_places (RefusesToSplit repo b) ContextDepends (AtPlaces (SplitStops PlacedCommutes (IsCommon repo b) (placed repo))) c.in-Err.blocked tt (λ j k q. (marked.knows, q))
+    (blocked_map c.in-Err.blocked (λ h r q. stops_alike PlacedCommutes a (kept_stop marks repo c.args.kept (rw c.requires.marks at c.requires.within) c.requires.marked q)) s))

@@ -1,4 +1,4 @@
-use Rattle.std.proofs.Common.{◌≡◌, ◌∷◌, drop, map, refl}
+use Rattle.std.proofs.Common.{drop, map}
 use Rattle.dm_repo.specs.declared.policy.Policy.TheVariants.{Skip}
 use Rattle.dm_repo.specs.Merging.{MergePastStops}
 use Rattle.dm_repo.specs.Sifting.{ConflictsUnder}

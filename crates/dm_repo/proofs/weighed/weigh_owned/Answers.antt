@@ -14,7 +14,7 @@ returns g c =
     record {
       weighed = merged;
       refusal = tt;
-      leaves_repo = record { good = merge_is_repo c.args.repo.now.patches c.args.bundle c.args.policy c.in_ok-merged.merged.patches.items c.in_ok-merged.merged.skipped c.lawful.ensures c.names_are_distinct.ensures merged.0; makes = merged.1 };
+      leaves_repo = record { valid = merge_is_repo c.args.repo.now.patches c.args.bundle c.args.policy c.in_ok-merged.merged.patches.items c.in_ok-merged.merged.skipped c.lawful.ensures c.names_are_distinct.ensures merged.0; makes = merged.1 };
     }
 
 pub returns-in_err-marks-clause-refusal : goal.returns-in_err-marks-clause-refusal

@@ -30,37 +30,41 @@ pub returns-in_err-write_text-clause-prefix : goal.returns-in_err-write_text-cla
 returns-in_err-write_text-clause-prefix g c =
     let q = err_from_is_err_and c.from_residual-in_err-write_text.result c.from_residual-in_err-write_text.ensures.1 in
     let cut = c.in_err-write_text.ensures.prefix in
-    rw (q.1, q.2) (λ is. (
-      c.in_ok-repo.repo.patches,
-      c.in_ok-bundle.bundle.items,
-      c.in_ok-text.text.items,
-      status_of c.take-verdict.result,
-      cut.0,
-      c.in_ok-repo.ensures.ok,
-      c.in_ok-bundle.ensures.text,
-      record {
-        verdict = c.take-verdict.result;
-        after = c.take-verdict.new.repo.patches;
-        takes = subst (λ (t : List ℕ). Takes c.in_ok-repo.repo.patches t c.args.policy c.take-verdict.result c.take-verdict.new.repo.patches) c.deref.ensures.value c.take-verdict.ensures;
-        prints = c.in_ok-text.ensures;
-        exit = refl;
-      },
-      subst (λ (t : List ℕ). Appends (g.W.Write.contents c.args.writer.now) (g.W.Write.contents c.write_text.new.writer) (take cut.0 t)) c.deref-2.ensures.value cut.1,
-    ))
+    rw (q.1, q.2) (λ is. record {
+      out = c.in_ok-text.text.items;
+      status = status_of c.take-verdict.result;
+      count = cut.0;
+      answers = record {
+        start = c.in_ok-repo.repo.patches;
+        text = c.in_ok-bundle.bundle.items;
+        is_start = c.in_ok-repo.ensures.ok;
+        gives = c.in_ok-bundle.ensures.text;
+        answers = record {
+          verdict = c.take-verdict.result;
+          after = c.take-verdict.new.repo.patches;
+          takes = subst (λ (t : List ℕ). Takes c.in_ok-repo.repo.patches t c.args.policy c.take-verdict.result c.take-verdict.new.repo.patches) c.deref.ensures.value c.take-verdict.ensures;
+          prints = c.in_ok-text.ensures;
+          exit = refl;
+        };
+      };
+      written = subst (λ (t : List ℕ). Appends (g.W.Write.contents c.args.writer.now) (g.W.Write.contents c.write_text.new.writer) (take cut.0 t)) c.deref-2.ensures.value cut.1;
+    })
 
 pub returns-clause-ok : goal.returns-clause-ok
-returns-clause-ok g c = (
-  c.in_ok-repo.repo.patches,
-  c.in_ok-bundle.bundle.items,
-  c.in_ok-text.text.items,
-  c.in_ok-repo.ensures.ok,
-  c.in_ok-bundle.ensures.text,
-  record {
-    verdict = c.take-verdict.result;
-    after = c.take-verdict.new.repo.patches;
-    takes = subst (λ (t : List ℕ). Takes c.in_ok-repo.repo.patches t c.args.policy c.take-verdict.result c.take-verdict.new.repo.patches) c.deref.ensures.value c.take-verdict.ensures;
-    prints = c.in_ok-text.ensures;
-    exit = c.status_of.ensures;
-  },
-  subst (Appends (g.W.Write.contents c.args.writer.now) (g.W.Write.contents c.write_text.new.writer)) c.deref-2.ensures.value c.in_ok-write_text.ensures.ok,
-)
+returns-clause-ok g c = record {
+  out = c.in_ok-text.text.items;
+  answers = record {
+    start = c.in_ok-repo.repo.patches;
+    text = c.in_ok-bundle.bundle.items;
+    is_start = c.in_ok-repo.ensures.ok;
+    gives = c.in_ok-bundle.ensures.text;
+    answers = record {
+      verdict = c.take-verdict.result;
+      after = c.take-verdict.new.repo.patches;
+      takes = subst (λ (t : List ℕ). Takes c.in_ok-repo.repo.patches t c.args.policy c.take-verdict.result c.take-verdict.new.repo.patches) c.deref.ensures.value c.take-verdict.ensures;
+      prints = c.in_ok-text.ensures;
+      exit = c.status_of.ensures;
+    };
+  };
+  written = subst (Appends (g.W.Write.contents c.args.writer.now) (g.W.Write.contents c.write_text.new.writer)) c.deref-2.ensures.value c.in_ok-write_text.ensures.ok;
+}

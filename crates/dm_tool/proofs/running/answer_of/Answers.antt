@@ -17,7 +17,7 @@ returns-clause-ok g c =
     let lists = same_lists _ _ _ _ c.deref.ensures.value c.in_ok-texts.ensures in
     let texts = c.in_ok-plan.ensures.texts ∙ lists in
     record {
-      plannable = subst (λ ts. IsPlannable ts (map (λ base. base.now) c.args.bases.now) c.args.policies.now c.args.bound) lists c.in_ok-plan.ensures.good;
+      plannable = subst (λ ts. IsPlannable ts (map (λ base. base.now) c.args.bases.now) c.args.policies.now c.args.bound) lists c.in_ok-plan.ensures.valid;
       starts = plan_starts plan;
       are_starts = c.in_ok-plan.ensures.starts;
       outcome = c.in_ok-outcome.outcome;
@@ -25,5 +25,5 @@ returns-clause-ok g c =
       report = c.in_ok-text.ensures.0;
       is_report = c.in_ok-text.ensures.1;
       bytes = c.in_ok-text.ensures.2;
-      exit = c.status_of.ensures;
+      exit = c.status_of_run.ensures;
     }

@@ -2,7 +2,7 @@ use Rattle.std.proofs.Common.{sym, ap, ◌∙◌, subst, ◌≡◌, ◌<◌, len
 use Rattle.std.specs.List.{splice}
 use Rattle.dm_tree.specs.Trees.{File}
 use Rattle.dm_tree.specs.Children.{look, IsRising}
-use Rattle.dm_tree.specs.Nested.{IsGood}
+use Rattle.dm_tree.specs.Nested.{IsValid}
 use Rattle.dm_tree.specs.Walks.{CanSplice}
 use Rattle.dm_tree.proofs.Children.{rising-set}
 use Rattle.dm_tree.proofs.Adds.{dir_child, leaf_child, at_name, set_same, seen}
@@ -30,10 +30,10 @@ edit_at-requires g t c κs within =
     let view : dir_child c.child.inside.name c.in-Children.inner.items ≡ c.index_mut-child.result.now = rw c.in-Children.is at c.child.view_is in
     let o = opened name _ ks _ c.in-Ok.i c.index_mut-child.result.now c.child.inside.name c.in-Children.inner.items c.as_slice.ensures c.deref.ensures.value c.in-Ok.ensures.found c.index_mut-child.ensures.value view in
     let may = subst (λ x. CanSplice x c.args.start c.args.end c.args.fresh.now) (look_dir name ks c.in-Ok.i c.child.inside.name c.in-Children.inner.items c.args.path.now c.in-Some.rest.now c.requires.rising o c.in-Some.ensures.cases.0) c.requires.may in
-    let good : IsRising c.in-Children.inner.items = subst IsGood c.in-Children.is c.child.invariant in
+    let valid : IsRising c.in-Children.inner.items = subst IsValid c.in-Children.is c.child.invariant in
     let some = some_rest c.in-Some.rest.now (sym c.is_empty.ensures ∙ c.if-is_empty.false) in
     let less : length c.in-Some.rest.now < length c.args.path.now = omega (arith, c.in-Some.ensures.cases.1) in
-    (omega (arith, less, c.decreases), (within.0, (within.1.0, (within.1.1, (some, (good, may))))))
+    (omega (arith, less, c.decreases), (within.0, (within.1.0, (within.1.1, (some, (valid, may))))))
 
 pub unreachable-requires-then-not-is_empty : goal.unreachable-requires-then-not-is_empty
 unreachable-requires-then-not-is_empty g t c =
@@ -61,7 +61,7 @@ invariant_of-child-in-Text g t c =
     let seen_file = seen name ks c.in-Ok.i c.index_mut-child.result.now (leaf_child c.child.inside.name (File c.in-Text.file)) at c.index_mut-child.ensures.value view in
     let none = no_rest c.in-Some.rest.now (sym c.is_empty-in-Text.ensures ∙ c.if-not-is_empty.false) in
     let may : CanSplice (Some (File c.in-Text.file)) c.args.start c.args.end c.args.fresh.now = subst (λ x. CanSplice x c.args.start c.args.end c.args.fresh.now) (look_here name ks c.child.inside.name c.in-Text.file c.args.path.now c.in-Some.rest.now c.requires.rising seen_file c.in-Some.ensures.cases.0 none) c.requires.may in
-    let had : 0 < length c.in-Text.file = subst IsGood c.in-Text.is c.child.invariant in
+    let had : 0 < length c.in-Text.file = subst IsValid c.in-Text.is c.child.invariant in
     still_lines c.splice.result c.in-Text.file c.splice.new.self (splice c.in-Text.file c.args.start c.args.end c.args.fresh.now) c.splice.ensures.ok c.splice.ensures.err may.1.1 had
 
 pub returns-else-is_empty-clause-rising : goal.returns-else-is_empty-clause-rising

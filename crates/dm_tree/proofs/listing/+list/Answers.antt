@@ -1,12 +1,12 @@
 use Rattle.std.proofs.Common.{arith, ◌≡◌, ◌<◌, ◌∙◌, ◌++◌, ◌∷◌, [], length, sym, ap, subst, get_or}
 use Rattle.dm_tree.specs.Trees.{Entry}
 use Rattle.dm_tree.specs.Children.{Child, PathEntries, all, below, flatten, IsRising}
-use Rattle.dm_tree.specs.Nested.{IsGood}
-use Rattle.dm_tree.specs.Walks.{AreGood}
+use Rattle.dm_tree.specs.Nested.{IsValid}
+use Rattle.dm_tree.specs.Walks.{AreValid}
 use Rattle.dm_tree.specs.NodeFalls.{one_le}
 use Rattle.dm_tree.proofs.Adds.{dir_child}
 use Rattle.dm_tree.proofs.Sorted.{sorted_flatten}
-use Rattle.dm_tree.proofs.Listings.{if_ok, good_at, good_below, more_rows, dir_rows, sorted_more, sorted_all, dir_sorted}
+use Rattle.dm_tree.proofs.Listings.{if_ok, valid_at, valid_below, more_rows, dir_rows, sorted_more, sorted_all, dir_sorted}
 use Rattle.dm_tree.proofs.listing.+list.Goals as goal
 
 pub list_children-list_node-requires : goal.list_children-list_node-requires
@@ -16,8 +16,8 @@ list_children-list_node-requires g t c κs within =
     let lt : i < length ks = omega (arith, c.loop-child-test.true) in
     let le = one_le ks i c.child-item.result lt in
     let is : length c.child-item.result.under ≡ length (get_or ks i c.child-item.result).under = ap (λ (k : Child). length k.under) c.child-item.is in
-    let good = subst (λ (k : Child). AreGood c.args.above.now (below k.name (all k))) (sym c.child-item.is) (good_at c.args.above.now ks i c.child-item.result lt c.requires.good) in
-    (omega (arith, le, is, c.decreases), (within.0, (within.1, good)))
+    let valid = subst (λ (k : Child). AreValid c.args.above.now (below k.name (all k))) (sym c.child-item.is) (valid_at c.args.above.now ks i c.child-item.result lt c.requires.valid) in
+    (omega (arith, le, is, c.decreases), (within.0, (within.1, valid)))
 
 pub list_children-loop-child-preserved : goal.list_children-loop-child-preserved
 list_children-loop-child-preserved g t c =
@@ -37,10 +37,10 @@ list_node-list_children-requires g t c κs within =
     let under : flatten c.in-Children.children.items ≡ k.under = ap (λ (x : Child). x.under) view in
     let children : c.deref-in-Children.result.now ≡ c.in-Children.children.items = c.deref-in-Children.ensures.value in
     let size : length (flatten c.deref-in-Children.result.now) ≡ length k.under = ap (λ l. length (flatten l)) children ∙ ap (λ (u : PathEntries). length u) under in
-    let rising : IsRising c.in-Children.children.items = subst IsGood c.in-Children.is c.node.invariant in
+    let rising : IsRising c.in-Children.children.items = subst IsValid c.in-Children.is c.node.invariant in
     let names = c.deref-in-Children-2.ensures.value ∙ c.in_ok-names-in-Children.ensures ∙ ap (λ n. c.args.above.now ++ n ∷ []) c.name-in-Children.ensures in
-    let good = good_below c.args.above.now k.name k.under c.requires.good.1 in
-    (omega (arith, size, c.decreases), (within.0, (within.1, (subst IsRising (sym children) rising, subst (λ p. AreGood p (flatten c.deref-in-Children.result.now)) (sym names) (subst (AreGood (c.args.above.now ++ k.name ∷ [])) (sym (ap flatten children ∙ under)) good)))))
+    let valid = valid_below c.args.above.now k.name k.under c.requires.valid.1 in
+    (omega (arith, size, c.decreases), (within.0, (within.1, (subst IsRising (sym children) rising, subst (λ p. AreValid p (flatten c.deref-in-Children.result.now)) (sym names) (subst (AreValid (c.args.above.now ++ k.name ∷ [])) (sym (ap flatten children ∙ under)) valid)))))
 
 pub list_node-returns-in_ok-push-in-Children-clause-ok : goal.list_node-returns-in_ok-push-in-Children-clause-ok
 list_node-returns-in_ok-push-in-Children-clause-ok g t c =

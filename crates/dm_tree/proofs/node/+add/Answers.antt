@@ -2,7 +2,7 @@ use Rattle.std.proofs.Common.{refl, sym, ap, ◌∙◌, subst, ◌≡◌, ◌<�
 use Rattle.std.specs.List.{insert}
 use Rattle.dm_tree.specs.Trees.{Dir, File}
 use Rattle.dm_tree.specs.Children.{Child, IsRising, look}
-use Rattle.dm_tree.specs.Nested.{IsGood}
+use Rattle.dm_tree.specs.Nested.{IsValid}
 use Rattle.dm_tree.specs.Walks.{SetsAt, leaf_entry}
 use Rattle.dm_tree.proofs.Children.{child_at-at, child_at-gap, rising-set, rising-insert}
 use Rattle.dm_tree.proofs.Adds.{dir_child, leaf_child, at_name, set_same, seen, parent_dir, parent_file, parent_absent, child_here, sets_dir, sets_leaf}
@@ -35,9 +35,9 @@ add-requires g t c κs within =
     let some = some_rest c.in-Some.rest.now (sym c.is_empty.ensures ∙ c.if-is_empty.false) in
     let parent = parent_dir ks c.requires.rising name c.child.inside.name c.in-Children.inner.items o.seen c.args.path.now c.in-Some.rest.now c.in-Some.ensures.cases.0 some c.requires.parent in
     let absent : look c.in-Children.inner.items c.in-Some.rest.now ≡ None = sym (look_dir name ks c.in-Ok.i c.child.inside.name c.in-Children.inner.items c.args.path.now c.in-Some.rest.now c.requires.rising o c.in-Some.ensures.cases.0) ∙ c.requires.absent in
-    let good : IsRising c.in-Children.inner.items = subst IsGood c.in-Children.is c.child.invariant in
+    let valid : IsRising c.in-Children.inner.items = subst IsValid c.in-Children.is c.child.invariant in
     let less : length c.in-Some.rest.now < length c.args.path.now = omega (arith, c.in-Some.ensures.cases.1) in
-    (omega (arith, less, c.decreases), (within.0, (within.1, (some, (good, (parent, absent))))))
+    (omega (arith, less, c.decreases), (within.0, (within.1, (some, (valid, (parent, absent))))))
 
 pub unreachable-requires-in-Text : goal.unreachable-requires-in-Text
 unreachable-requires-in-Text g t c =

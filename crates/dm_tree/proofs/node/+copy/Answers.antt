@@ -1,6 +1,6 @@
 use Rattle.std.proofs.Common.{arith, ◌≡◌, ◌<◌, ◌∙◌, length, sym, ap, subst, List, ℕ}
 use Rattle.dm_tree.specs.Children.{Child, flatten, IsRising}
-use Rattle.dm_tree.specs.Nested.{IsGood}
+use Rattle.dm_tree.specs.Nested.{IsValid}
 use Rattle.dm_tree.proofs.Adds.{dir_child}
 use Rattle.dm_tree.proofs.node.+copy.Goals as goal
 use Rattle.std.proofs.Common.{get_or}
@@ -15,13 +15,13 @@ copy_node-copy_children-requires g t c κs within =
 
 pub copy_node-invariant_of-result : goal.copy_node-invariant_of-result
 copy_node-invariant_of-result g t c =
-    let good : 0 < length c.in-Text.file = subst IsGood c.in-Text.is c.node.invariant in
-    subst (λ (l : List (List ℕ)). 0 < length l) (sym (c.in_ok-copy_into-in-Text.ensures)) good
+    let valid : 0 < length c.in-Text.file = subst IsValid c.in-Text.is c.node.invariant in
+    subst (λ (l : List (List ℕ)). 0 < length l) (sym (c.in_ok-copy_into-in-Text.ensures)) valid
 
 pub copy_node-invariant_of-result-in-Children : goal.copy_node-invariant_of-result-in-Children
 copy_node-invariant_of-result-in-Children g t c =
-    let good : IsRising c.in-Children.children.items = subst IsGood c.in-Children.is c.node.invariant in
-    subst IsRising (sym (c.in_ok-copy_children-in-Children.ensures ∙ c.deref.ensures.value)) good
+    let valid : IsRising c.in-Children.children.items = subst IsValid c.in-Children.is c.node.invariant in
+    subst IsRising (sym (c.in_ok-copy_children-in-Children.ensures ∙ c.deref.ensures.value)) valid
 
 pub copy_children-copy_node-requires : goal.copy_children-copy_node-requires
 copy_children-copy_node-requires g t c κs within =

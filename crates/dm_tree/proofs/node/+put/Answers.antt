@@ -1,7 +1,7 @@
 use Rattle.std.proofs.Common.{refl, sym, ap, ◌∙◌, subst, ◌≡◌, ◌<◌, ◌∷◌, [], length, set, Some, IsSome, arith}
 use Rattle.dm_tree.specs.Trees.{File}
 use Rattle.dm_tree.specs.Children.{Child, look, IsRising}
-use Rattle.dm_tree.specs.Nested.{entry_of, under_of, IsGood}
+use Rattle.dm_tree.specs.Nested.{entry_of, under_of, IsValid}
 use Rattle.dm_tree.specs.Walks.{Grafts, part_of}
 use Rattle.dm_tree.proofs.Children.{child_at-set, rising-set, grafts-child}
 use Rattle.dm_tree.proofs.Adds.{dir_child, leaf_child, at_name}
@@ -39,10 +39,10 @@ put-requires g t c κs within =
     let view : dir_child c.child-2.inside.name c.in-Children.inner.items ≡ c.index_mut-child.result.now = rw c.in-Children.is at c.child-2.view_is in
     let o = opened name _ ks _ c.in-Ok.i c.index_mut-child.result.now c.child-2.inside.name c.in-Children.inner.items c.as_slice.ensures c.deref.ensures.value c.in-Ok.ensures.found c.index_mut-child.ensures.value view in
     let there = subst IsSome (look_dir name ks c.in-Ok.i c.child-2.inside.name c.in-Children.inner.items c.args.path.now c.in-Some.rest.now c.requires.rising o c.in-Some.ensures.cases.0) c.requires.there in
-    let good : IsRising c.in-Children.inner.items = subst IsGood c.in-Children.is c.child-2.invariant in
+    let valid : IsRising c.in-Children.inner.items = subst IsValid c.in-Children.is c.child-2.invariant in
     let some = some_rest c.in-Some.rest.now (sym c.is_empty.ensures ∙ c.if-is_empty.false) in
     let less : length c.in-Some.rest.now < length c.args.path.now = omega (arith, c.in-Some.ensures.cases.1) in
-    (omega (arith, less, c.decreases), (within.0, (within.1, (some, (good, (there, c.requires.good))))))
+    (omega (arith, less, c.decreases), (within.0, (within.1, (some, (valid, (there, c.requires.valid))))))
 
 pub unreachable-requires-in-Text : goal.unreachable-requires-in-Text
 unreachable-requires-in-Text g t c =

@@ -3,15 +3,15 @@ use Rattle.std.proofs.lemmas.List.{length-map}
 use Rattle.dm_mirror.proofs.PlanLemmas.{as_many_starts, positive}
 use Rattle.dm_mirror.proofs.plan.Plan.build.Goals as goal
 
-pub plan_of-requires-clause-repos : goal.plan_of-requires-clause-repos
-plan_of-requires-clause-repos c =
+pub of_repos-requires-clause-repos : goal.of_repos-requires-clause-repos
+of_repos-requires-clause-repos c =
     let many = as_many_starts _ _ c.in_ok-repos.ensures.ok in
     let repos = length-map c.in_ok-repos.repos.items (λ repo. repo.patches) in
     let bases = length-map c.args.bases.now (λ base. base.now) in
     (omega (arith, many, repos, bases, positive c.args.bases.now c.if-is_empty-2.ensures), omega (arith, many, repos, bases, c.if-bases-gt-MOST_MIRRORS.false))
 
-pub plan_of-requires-clause-as_many : goal.plan_of-requires-clause-as_many
-plan_of-requires-clause-as_many c =
+pub of_repos-requires-clause-as_many : goal.of_repos-requires-clause-as_many
+of_repos-requires-clause-as_many c =
     let many = as_many_starts _ _ c.in_ok-repos.ensures.ok in
     let repos = length-map c.in_ok-repos.repos.items (λ repo. repo.patches) in
     let bases = length-map c.args.bases.now (λ base. base.now) in

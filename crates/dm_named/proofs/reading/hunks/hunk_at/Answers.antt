@@ -1,5 +1,5 @@
 use Rattle.std.proofs.Common.{drop, refl}
-use Rattle.dm_named.proofs.GoodParts.{some_lines, none_left}
+use Rattle.dm_named.proofs.ValidParts.{some_lines, none_left}
 use Rattle.dm_named.proofs.GroupLemmas.{no_change}
 use Rattle.dm_named.proofs.reading.hunks.hunk_at.Goals as goal
 

@@ -1,5 +1,5 @@
 use Rattle.std.proofs.Common.{drop, ◌+◌, arith}
-use Rattle.dm_named.proofs.GoodParts.{plain_line}
+use Rattle.dm_named.proofs.ValidParts.{plain_line}
 use Rattle.dm_named.proofs.GroupLemmas.{lines_more}
 use Rattle.dm_named.proofs.reading.hunks.lines_at.Goals as goal
 

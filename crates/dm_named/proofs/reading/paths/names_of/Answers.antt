@@ -2,7 +2,7 @@ use Rattle.std.proofs.Common.{◌≡◌, ◌∷◌, ◌++◌, [], List, ℕ, map
 use Rattle.std.proofs.lemmas.Bool.{eqb-true, eq-eqb, false≢true}
 use Rattle.std.proofs.lemmas.List.{map_push, length-map}
 use Rattle.std.proofs.lemmas.Result.{err_from_is_err_and}
-use Rattle.dm_tree.proofs.ValidityLemmas.{good_parts}
+use Rattle.dm_tree.proofs.ValidityLemmas.{valid_parts}
 use Rattle.dm_named.specs.Paths.{SlashName}
 use Rattle.dm_named.proofs.ManyLemmas.{many_more}
 use Rattle.dm_named.proofs.PathLemmas.{more_names, no_names, names_done}
@@ -11,12 +11,12 @@ use Rattle.dm_named.proofs.reading.paths.names_of.Goals as goal
 pub returns-in_err-name-clause-none : goal.returns-in_err-name-clause-none
 returns-in_err-name-clause-none g c =
     let p = err_from_is_err_and c.from_residual.result c.from_residual.ensures.1 in
-    rw (p.1, p.2) (λ is ms s good. no_names c.args.text.now (map (λ v. v.items) c.loop-rest.names.items) c.loop-rest.rest.now c.loop-rest.invariant (λ none. false≢true (c.loop-rest-test.ensures ∙ eq-eqb _ 0 none)) (c.in_err-name.ensures.none is) ms s good)
+    rw (p.1, p.2) (λ is ms s valid. no_names c.args.text.now (map (λ v. v.items) c.loop-rest.names.items) c.loop-rest.rest.now c.loop-rest.invariant (λ none. false≢true (c.loop-rest-test.ensures ∙ eq-eqb _ 0 none)) (c.in_err-name.ensures.none is) ms s valid)
 
 pub returns-then-len-ge32-clause-none : goal.returns-then-len-ge32-clause-none
-returns-then-len-ge32-clause-none g c = λ is ms s good.
+returns-then-len-ge32-clause-none g c = λ is ms s valid.
     let more = more_names c.args.text.now (map (λ v. v.items) c.loop-rest.names.items) c.loop-rest.rest.now c.loop-rest.invariant (λ none. false≢true (c.loop-rest-test.ensures ∙ eq-eqb _ 0 none)) ms s in
-    let few = (good_parts ms good).not_deep in
+    let few = (valid_parts ms valid).not_deep in
     omega (arith, few, more, length-map c.loop-rest.names.items (λ v. v.items), c.if-len-ge32.true, c.len.ensures, c.loop-rest.names.ok)
 
 pub loop-rest-preserved : goal.loop-rest-preserved

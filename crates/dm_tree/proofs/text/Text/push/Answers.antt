@@ -1,6 +1,6 @@
 use Rattle.std.proofs.Common.{◌++◌, ◌∷◌, [], ◌∙◌, ap}
 use Rattle.dm_tree.specs.Texts.{Holds}
-use Rattle.dm_tree.proofs.Texts.{held, good_of, view_of, holds_push}
+use Rattle.dm_tree.proofs.Texts.{held, valid_of, view_of, holds_push}
 use Rattle.dm_tree.proofs.text.Text.push.Goals as goal
 
 pushed : (g : _) (c : goal.In-Ok g) → Holds c.extend_from_slice.new.self.items c.push.new.self.items (c.args.self.now ++ c.args.line.now ∷ [])
@@ -9,7 +9,7 @@ pushed g c =
     (c.in-Ok.ensures.items ∙ ap (λ e. e ++ c.len.result ∷ []) c.reserve.ensures.items) (c.len.ensures ∙ c.extend_from_slice.new.self.ok.0)
 
 pub invariant_of-self-2 : goal.invariant_of-self-2
-invariant_of-self-2 g c = good_of _ _ _ (pushed g c)
+invariant_of-self-2 g c = valid_of _ _ _ (pushed g c)
 
 pub returns-clause-ok : goal.returns-clause-ok
 returns-clause-ok g c = view_of _ _ _ (pushed g c)

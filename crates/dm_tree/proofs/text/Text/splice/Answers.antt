@@ -1,7 +1,7 @@
 use Rattle.std.proofs.Common.{ℕ, ◌+◌, ◌-◌, ◌<◌, ◌≤◌, ◌^◌, ◌∙◌, List, length, drop, ap, subst, arith, sym}
 use Rattle.std.specs.List.{All, splice}
 use Rattle.dm_tree.specs.Texts.{Holds}
-use Rattle.dm_tree.proofs.Texts.{held, length-held, good_of, view_of, begin_of-mono, begin_of-fits}
+use Rattle.dm_tree.proofs.Texts.{held, length-held, valid_of, view_of, begin_of-mono, begin_of-fits}
 use Rattle.dm_tree.proofs.Splices.{added_fits, fresh_fits, behind_fits, holds_splice}
 use Rattle.dm_tree.proofs.text.Text.splice.Goals as goal
 
@@ -54,7 +54,7 @@ spliced g c =
     holds_splice _ _ _ _ _ _ h f c.args.start c.args.end _ _ _ c.begin-from.ensures c.begin-to.ensures size c.replace_bytes.new.bytes.items run c.replace_ends.new.ends.items ends
 
 pub invariant_of-self-2 : goal.invariant_of-self-2
-invariant_of-self-2 g c = good_of _ _ _ (spliced g c)
+invariant_of-self-2 g c = valid_of _ _ _ (spliced g c)
 
 pub returns-clause-ok : goal.returns-clause-ok
 returns-clause-ok g c = view_of _ _ _ (spliced g c)

@@ -1,6 +1,6 @@
 use Rattle.std.proofs.Common.{◌-◌, ◌≤◌, ◌∙◌, take, drop, length, arith}
 use Rattle.dm_tree.specs.Texts.{HoldsFrom}
-use Rattle.dm_tree.proofs.Borrowed.{held_from, length-held_from, begin-within, holds_within, good_from, view_from, clamped}
+use Rattle.dm_tree.proofs.Borrowed.{held_from, length-held_from, begin-within, holds_within, valid_from, view_from, clamped}
 use Rattle.dm_tree.proofs.text_ref.TextRef.within.Goals as goal
 
 bounds : (c : goal.After-result-1) → (c.self.inside.begin ≤ c.begin_at-from.result) × (c.begin_at-from.result ≤ c.begin_at-to.result) × (c.begin_at-to.result - c.self.inside.begin ≤ length c.self.inside.bytes.now)
@@ -26,7 +26,7 @@ pub slice_bounds-result-end : goal.slice_bounds-result-end
 slice_bounds-result-end c = let b = bounds c in omega (arith, b.0, b.1, b.2)
 
 pub invariant_of-result : goal.invariant_of-result
-invariant_of-result c = good_from _ _ _ _ (cut_out c)
+invariant_of-result c = valid_from _ _ _ _ (cut_out c)
 
 pub returns : goal.returns
 returns c =

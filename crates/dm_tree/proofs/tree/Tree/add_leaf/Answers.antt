@@ -6,7 +6,7 @@ use Rattle.dm_tree.specs.Children.{look}
 use Rattle.dm_tree.specs.Walks.{SetsAt, leaf_entry}
 use Rattle.dm_tree.proofs.Renames.{adds_refused, refuses_add_of}
 use Rattle.dm_tree.proofs.Steps.{err_memory}
-use Rattle.dm_tree.proofs.Trees.{added, leaf_good, sets_tree, get-tree_of}
+use Rattle.dm_tree.proofs.Trees.{added, leaf_valid, sets_tree, get-tree_of}
 use Rattle.dm_tree.proofs.tree.Tree.add_leaf.Goals as goal
 
 pub add-requires-clause-parent : goal.add-requires-clause-parent
@@ -41,7 +41,7 @@ invariant_of-self-2 g c =
     let e = leaf_entry c.args.leaf in
     let may = refuses_add_of (look ks) ks _ p _ None refl c.deref.ensures.value c.names.ensures.value c.in_default.ensures in
     let sets : SetsAt (look ks) (look new) p (Some e) = subst (λ x. SetsAt (look ks) (look new) x (Some e)) c.names-2.ensures.value c.in_ok-add.ensures.ok in
-    added ks new p e c.self.invariant c.names.ensures.good (leaf_good c.args.leaf) may.0 may.1 c.add.ensures.rising sets
+    added ks new p e c.self.invariant c.names.ensures.valid (leaf_valid c.args.leaf) may.0 may.1 c.add.ensures.rising sets
 
 pub returns-clause-fault : goal.returns-clause-fault
 returns-clause-fault g c =

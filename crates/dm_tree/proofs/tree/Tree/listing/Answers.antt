@@ -3,15 +3,15 @@ use Rattle.std.specs.FinMap.{entries}
 use Rattle.dm_tree.specs.Paths.{Path}
 use Rattle.dm_tree.specs.Listings.{listed_entry}
 use Rattle.dm_tree.specs.Children.{PathEntries, flatten}
-use Rattle.dm_tree.specs.Walks.{AreGood, InOrder, listed}
-use Rattle.dm_tree.proofs.Listings.{good_tree, listed_root, entries_tree}
+use Rattle.dm_tree.specs.Walks.{AreValid, InOrder, listed}
+use Rattle.dm_tree.proofs.Listings.{valid_tree, listed_root, entries_tree}
 use Rattle.dm_tree.proofs.tree.Tree.listing.Goals as goal
 
-pub list_children-requires-clause-good : goal.list_children-requires-clause-good
-list_children-requires-clause-good g c =
+pub list_children-requires-clause-valid : goal.list_children-requires-clause-valid
+list_children-requires-clause-valid g c =
     let ks = c.self.inside.children.items in
-    subst (λ (p : Path). AreGood p (flatten c.deref.result.now)) (sym (c.deref-2.ensures.value ∙ c.new-root.ensures.items))
-    (subst (λ l. AreGood [] (flatten l)) (sym c.deref.ensures.value) (good_tree ks c.self.invariant))
+    subst (λ (p : Path). AreValid p (flatten c.deref.result.now)) (sym (c.deref-2.ensures.value ∙ c.new-root.ensures.items))
+    (subst (λ l. AreValid [] (flatten l)) (sym c.deref.ensures.value) (valid_tree ks c.self.invariant))
 
 pub returns : goal.returns
 returns g c =

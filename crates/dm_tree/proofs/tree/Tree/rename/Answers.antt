@@ -37,7 +37,7 @@ invariant_of-self-2 g c =
     let b = c.args.to.now in
     let may = renames_of (look ks) ks _ a _ b _ (Ok tt) refl c.deref.ensures.value c.names.ensures.value c.names-2.ensures.value c.in_default.ensures in
     let ren : Renamed a b (look ks) (look new) = subst (λ y. Renamed a y (look ks) (look new)) c.names-4.ensures.value (subst (λ x. Renamed x c.names-4.result.now (look ks) (look new)) c.names-3.ensures.value c.in_ok-move_node.ensures.ok) in
-    moved_tree ks new a b c.self.invariant c.move_node.ensures.rising may.0 c.names-2.ensures.good may.1 ren
+    moved_tree ks new a b c.self.invariant c.move_node.ensures.rising may.0 c.names-2.ensures.valid may.1 ren
 
 pub returns-clause-fault : goal.returns-clause-fault
 returns-clause-fault g c =

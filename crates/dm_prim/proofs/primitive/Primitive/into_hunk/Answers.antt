@@ -1,0 +1,20 @@
+use Rattle.std.proofs.Common.{refl}
+use Rattle.dm_prim.proofs.primitive.Primitive.into_hunk.Goals as goal
+
+pub returns-in-AddFile : goal.returns-in-AddFile
+returns-in-AddFile g c = rw c.in-AddFile.is (λ h. h)
+
+pub returns-in-RmFile : goal.returns-in-RmFile
+returns-in-RmFile g c = rw c.in-RmFile.is (λ h. h)
+
+pub returns-in-AddDir : goal.returns-in-AddDir
+returns-in-AddDir g c = rw c.in-AddDir.is (λ h. h)
+
+pub returns-in-RmDir : goal.returns-in-RmDir
+returns-in-RmDir g c = rw c.in-RmDir.is (λ h. h)
+
+pub returns-in-Move : goal.returns-in-Move
+returns-in-Move g c = rw c.in-Move.is (λ h. h)
+
+pub returns : goal.returns
+returns g c = rw c.in-Hunk.is refl

@@ -1,0 +1,20 @@
+use Rattle.std.proofs.Common.{refl}
+use Rattle.dm_prim.proofs.primitive.Primitive.path.Goals as goal
+
+pub returns-in-AddFile : goal.returns-in-AddFile
+returns-in-AddFile g c = rw c.in-AddFile.is refl
+
+pub returns-in-RmFile : goal.returns-in-RmFile
+returns-in-RmFile g c = rw c.in-RmFile.is refl
+
+pub returns-in-AddDir : goal.returns-in-AddDir
+returns-in-AddDir g c = rw c.in-AddDir.is refl
+
+pub returns-in-RmDir : goal.returns-in-RmDir
+returns-in-RmDir g c = rw c.in-RmDir.is refl
+
+pub returns-in-Move : goal.returns-in-Move
+returns-in-Move g c = rw c.in-Move.is refl
+
+pub returns-in-Hunk : goal.returns-in-Hunk
+returns-in-Hunk g c = rw c.in-Hunk.is c.path.ensures.value

@@ -1,7 +1,0 @@
-use Rattle.std.proofs.Common.{take, All}
-use Rattle.dm_prim.specs.Prims.{prims_of}
-use Rattle.dm_prim.specs.Touch.{NamesAmong}
-use Rattle.dm_prim.proofs.touched.all_name_among.Given as goal
-
-abbrev pub invariant-loop-prim : goal.invariant-loop-prim
-invariant-loop-prim g l = All (NamesAmong l.fn.paths) (take l.prim-index (prims_of l.prims))
