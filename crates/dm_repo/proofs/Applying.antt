@@ -1,17 +1,22 @@
 -- One more patch, or one more primitive, of a list that is applied in turn.
-use Rattle.std.proofs.Common.{◌≡◌, ◌≢◌, ℕ, ◌+◌, ◌<◌, Bool, false, List, ◌∷◌, length, map, take, drop, get_or, inl, inr, Result, Ok, Err, MatchBool, ap, refl, ◌∙◌}
+use Rattle.std.proofs.Common.{◌≡◌, ◌≢◌, ℕ, ◌+◌, ◌<◌, Bool, false, List, ◌∷◌, length, map, take, drop, get_or, option_map, inl, inr, Result, Ok, Err, MatchBool, ap, refl, sym, subst, ◌∙◌}
 use Rattle.std.specs.Prelude.{IfOk}
-use Rattle.std.proofs.lemmas.List.{take_more, map_push, map-append}
+use Rattle.std.proofs.lemmas.List.{take_more, take-map, map_push}
+use Rattle.std.proofs.lemmas.Option.{slice_get-map, slice_get_read, slice_get_within, get_or_from_slice_get}
+use Rattle.std.specs.FinMap as finmap
+use Rattle.dm_tree.specs.Trees.{Tree}
 use Rattle.dm_tree.specs.declared.fault.TreeFault.{TreeFault}
 use Rattle.dm_tree.specs.declared.fault.TreeFault.TheVariants.{NoParent, Occupied, Missing, NotFile, NotDir, NotEmpty, IntoItself, LineRange, OldDiffers, NoLines, TooDeep, NoMemory}
 use Rattle.dm_prim.specs.Primitives.{Prim, LawfulMap}
-use Rattle.dm_prim.specs.Applying.{AdmitsFault}
+use Rattle.dm_prim.specs.Applying.{AdmitsFault, Applied, FaultsAs}
 use Rattle.dm_prim.specs.InTurn.{InTurn, done, step}
 use Rattle.dm_prim.proofs.Single.{applies_one, same_map}
 use Rattle.dm_named.specs.Patches.{Patch}
 use Rattle.dm_repo.specs.Folds.{LeadsShallowly, PatchLeadsShallowly, IsStopped, PatchStops}
 use Rattle.dm_repo.specs.Squares.{Placed, patches}
 use Rattle.dm_repo.specs.Weighing.{FitStops}
+use Rattle.dm_repo.specs.Misfits.{FaultsAt}
+use Rattle.dm_repo.specs.Repositories.{IsMapOf}
 use Rattle.dm_repo.proofs.Staircases.{runs_on, runs_part}
 use Rattle.dm_repo.proofs.Trees.{runs_one, goes_one}
 use Rattle.dm_repo.proofs.RowSteps.{around}
@@ -31,10 +36,22 @@ stopped p s LineRange n r = inl r
 stopped p s OldDiffers n r = inl r
 stopped p s NoLines n r = inl r
 
-pub refused_stops : {E : Type 0} (G : Type 0) (p : Prim) (s : LawfulMap) (e : TreeFault) (r : Result Bool E) → AdmitsFault p s.map e → IfOk r (λ leads. (leads ≡ false) × (e ≢ NoMemory)) →
-    IfOk r (λ leads. MatchBool leads G (IsStopped p s))
-refused_stops G p s e (Ok leads) a (f, n) = rw f (stopped p s e n a)
-refused_stops G p s e (Err x) a h = tt
+-- and the patch that it is of
+pub fault_stops : {x : Patch} {s : LawfulMap} {k : ℕ} {t : Tree} {e : TreeFault} → e ≢ NoMemory → FaultsAt x s k t e → PatchStops IsStopped x s
+fault_stops {x} {k} {e} n f = record {
+  before = take k x.prims;
+  prim = f.prim;
+  after = drop (k + 1) x.prims;
+  tree = f.reached;
+  at = around x.prims k f.prim (slice_get_within x.prims k f.prim f.prim_at) (sym (get_or_from_slice_get x.prims k f.prim f.prim f.prim_at));
+  leads = f.leads;
+  stops = stopped f.prim f.reached e n (rw f.is_map f.admits);
+}
+
+pub refused_stops : {E : Type 0} (G : Type 0) {x : Patch} {s : LawfulMap} {k : ℕ} {t : Tree} (e : TreeFault) (r : Result Bool E) → FaultsAt x s k t e → IfOk r (λ leads. (leads ≡ false) × (e ≢ NoMemory)) →
+    IfOk r (λ leads. MatchBool leads G (PatchStops IsStopped x s))
+refused_stops G e (Ok leads) a (f, n) = rw f (fault_stops n a)
+refused_stops G e (Err x) a h = tt
 
 -- what is stopped leads nowhere
 stopped_leads : (p : Prim) (s t : LawfulMap) → IsStopped p s → LeadsShallowly p s t → ⊥
@@ -51,18 +68,20 @@ patch_stops_all {s} {t} q r = go (runs_part q.before (rw q.at at r))
 pub run_step : {X P : Type 0} (m : X → P) (Step : P → LawfulMap → LawfulMap → Type 0) (xs : List X) (k : ℕ) (x : X) {s t u : LawfulMap} → k < length xs → x ≡ get_or xs k x → InTurn Step (map m (take k xs)) s t → Step (m x) t u → InTurn Step (map m (take (k + 1) xs)) s u
 run_step m Step xs k x l e r h = rw (take_more xs k x l, map_push m (take k xs) (get_or xs k x), ← e) (runs_on r (step h done))
 
--- the primitives up to a place lead shallowly, and the one there is stopped
-pub patch_stops : {X : Type 0} (m : X → Prim) (y : Patch) (xs : List X) (k : ℕ) (x : X) {s t : LawfulMap} → y.prims ≡ map m xs → k < length xs → x ≡ get_or xs k x → InTurn LeadsShallowly (map m (take k xs)) s t → IsStopped (m x) t →
-    PatchStops IsStopped y s
-patch_stops m y xs k x {t = t} is l e r h = record {
-  before = map m (take k xs);
-  prim = m x;
-  after = map m (drop (k + 1) xs);
-  tree = t;
-  at = is ∙ ap (map m) (around xs k x l e) ∙ map-append m (take k xs) (x ∷ drop (k + 1) xs);
-  leads = r;
-  stops = h;
-}
+-- the primitives up to a place lead shallowly, and the one there has a fault
+pub faults_there : {X : Type 0} (m : X → Prim) (y : Patch) (xs : List X) (k : ℕ) (x : X) (e : TreeFault) (r : Result (Unit {0}) TreeFault) (u v : Tree) {s t : LawfulMap} → y.prims ≡ map m xs → k < length xs → x ≡ get_or xs k x →
+    IsMapOf u t → InTurn LeadsShallowly (map m (take k xs)) s t → r ≡ Err e → Applied (m x) u v r → FaultsAs (m x) (finmap.get u) r → FaultsAt y s k v e
+faults_there m y xs k x e r u v {t = t} is l at is_map leads err change fault =
+    let b = rw err at change in
+    record {
+      prim = m x;
+      prim_at = rw is (slice_get-map m xs k ∙ ap (option_map m) (slice_get_read xs (length xs) k x refl l at));
+      reached = t;
+      is_map = is_map ∙ ap finmap.get (sym b.0);
+      leads = rw (is, take-map m k xs) leads;
+      admits = rw b.0 b.1;
+      answers = subst (λ z. FaultsAs {T = Unit {0}} (m x) (finmap.get z) (Err e)) (sym b.0) (subst (λ z. FaultsAs {T = Unit {0}} (m x) (finmap.get u) z) err fault);
+    }
 
 -- the patches up to a place lead shallowly, and the one there is stopped
 pub fit_stops : (xs : List Placed) (k : ℕ) (x : Placed) {s t : LawfulMap} → k < length xs → x ≡ get_or xs k x → InTurn PatchLeadsShallowly (patches (take k xs)) s t → PatchStops IsStopped x.1 t →

@@ -21,6 +21,7 @@ pub mod AskedRows
 pub mod SiftLemmas
 pub mod SiftedNames
 pub mod FoldLemmas
+pub mod MisfitLemmas
 pub mod Depths
 pub mod Following
 pub mod OneAnswer

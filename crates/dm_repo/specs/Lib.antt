@@ -10,6 +10,7 @@ pub mod CommonSets
 pub mod Marking
 pub mod Weighing
 pub mod Weighed
+pub mod Misfits
 pub mod Splitting
 pub mod Orders
 pub mod Words

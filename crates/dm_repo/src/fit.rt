@@ -1,27 +1,27 @@
 //! Applying patches to a tree, up to the first that leads nowhere, or to a path that is too deep.
 ghost use Rattle.std.specs.Prelude.{◌≡◌, ◌≢◌, ◌++◌, false, List, IfOk, MatchBool, MatchResult};
 ghost use Rattle.dm_prim.specs.Primitives.{LawfulMap};
-ghost use Rattle.dm_prim.specs.Prims.{prim_of};
 ghost use Rattle.dm_prim.specs.InTurn.{InTurn};
 ghost use Rattle.dm_named.specs.Patches.{Patch};
 ghost use Rattle.dm_bundle.specs.Bundles.{Contents};
 ghost use Rattle.dm_repo.specs.declared.policy.Policy.{Policy};
-ghost use Rattle.dm_repo.specs.Folds.{IsStopped, LeadsShallowly, PatchLeadsShallowly, PatchStops};
+ghost use Rattle.dm_repo.specs.Folds.{IsStopped, PatchLeadsShallowly, PatchStops};
 ghost use Rattle.dm_repo.specs.Squares.{Placed, patches, placed};
-ghost use Rattle.dm_repo.specs.Repositories.{IsMapOf, IsRepo};
+ghost use Rattle.dm_repo.specs.Repositories.{IsMapOf, IsRepo, IsTreeOf};
 ghost use Rattle.dm_repo.specs.Weighing.{FitStops, Fits, IsBundleSplit, RefusesBundle};
 ghost use Rattle.dm_repo.specs.Stops.{StopsAt};
+ghost use Rattle.dm_repo.specs.Misfits.{FaultsAt};
 
 use crate::refusal::Refusal;
 use crate::stop::Stop;
 use dm_named::{Named, Passing};
-use dm_prim::{Prim, apply};
+use dm_prim::apply;
 use dm_tree::laws::tree_is_lawful;
 use dm_tree::{Tree, TreeFault};
 use std::alloc::{AllocError, Allocator};
 
 /// A fault of a primitive says that it leads nowhere shallowly; out of memory says nothing, and is handed on.
-fn refused(fault: TreeFault) -> Result<bool, AllocError>
+pub(crate) fn refused(fault: TreeFault) -> Result<bool, AllocError>
     ensures { IfOk result (λ leads. (leads ≡ false) × (fault ≢ TreeFault.NoMemory)) }
 {
     match fault {
@@ -30,21 +30,24 @@ fn refused(fault: TreeFault) -> Result<bool, AllocError>
     }
 }
 
-/// Applies a primitive, and returns whether it leads shallowly: else it doesn't apply, or makes a path that is too deep.
-fn apply_prim<A: Allocator, B: Allocator + Copy>(
-    prim: &Prim<A>,
+/// Applies the primitives of a patch in turn. Where one doesn't apply, or makes a path that is too deep, its place and the
+/// tree's fault are returned; the tree is then the one that it was applied to.
+pub(crate) fn apply_prims<A: Allocator, B: Allocator + Copy>(
+    patch: &Named<A>,
     tree: &mut Tree<B>,
-) -> Result<bool, AllocError>
-    ensures { (s : LawfulMap) → IsMapOf tree.old s → IfOk result (λ leads. MatchBool leads
-        ((t : LawfulMap) × IsMapOf tree.new t × LeadsShallowly (prim_of prim.now) s t)
-        (IsStopped (prim_of prim.now) s)) }
+) -> Result<(), (usize, TreeFault)>
+    ensures { (s : LawfulMap) → IsMapOf tree.old s → MatchResult result
+        (λ _. (t : LawfulMap) × IsMapOf tree.new t × PatchLeadsShallowly patch.now s t)
+        (λ at. FaultsAt patch.now s at.0 tree.new at.1) }
 {
-    let answer = apply(prim, tree);
-    tree_is_lawful(tree);
-    match answer {
-        Ok(()) => Ok(true),
-        Err(fault) => refused(fault),
+    let prims = patch.prims();
+    for k in 0..prims.len() {
+        if let Err(fault) = apply(&prims[k], tree) {
+            return Err((k, fault));
+        }
+        tree_is_lawful(tree);
     }
+    Ok(())
 }
 
 /// Applies the primitives of a patch in turn, and returns whether all lead shallowly.
@@ -56,12 +59,10 @@ fn apply_patch<A: Allocator, B: Allocator + Copy>(
         ((t : LawfulMap) × IsMapOf tree.new t × PatchLeadsShallowly patch.now s t)
         (PatchStops IsStopped patch.now s)) }
 {
-    for prim in patch.prims() {
-        if !apply_prim(prim, tree)? {
-            return Ok(false);
-        }
+    match apply_prims(patch, tree) {
+        Ok(()) => Ok(true),
+        Err((_, fault)) => refused(fault),
     }
-    Ok(true)
 }
 
 /// Applies patches in turn, or stops at the first that leads nowhere shallowly.
@@ -112,6 +113,24 @@ fn fit_front<A: Allocator, B: Allocator + Copy>(
     fit(copied, tree)
 }
 
+/// The tree that the front makes. Its first patches stayed where they are.
+pub(crate) fn front_tree<A: Allocator, B: Allocator + Copy>(
+    alloc: B,
+    kept: &[Named<A>],
+    copied: &[(usize, Passing<B>)],
+) -> Result<Tree<B>, Refusal>
+    ensures { (repo : List Patch) (b : Contents) (rest new : List Placed) → IsRepo repo → IsBundleSplit repo b (placed kept.now ++ copied.now) rest new → MatchResult result
+        (λ tree. IsTreeOf (patches (placed kept.now ++ copied.now)) tree)
+        (λ why. (policy : Policy) → RefusesBundle repo b policy why) }
+{
+    let mut tree = Tree::new(alloc);
+    tree_is_lawful(&tree);
+    match fit_front(kept, copied, &mut tree) {
+        Ok(()) => Ok(tree),
+        Err(stop) => Err(stop.full()),
+    }
+}
+
 /// Applies the front, and the patches to merge after it. The first patches of the front stayed where they are.
 pub(crate) fn check_fit<A: Allocator, B: Allocator + Copy>(
     alloc: B,
@@ -123,12 +142,7 @@ pub(crate) fn check_fit<A: Allocator, B: Allocator + Copy>(
         (λ _. Fits repo b rest new.now)
         (λ why. RefusesBundle repo b policy why) }
 {
-    let mut tree = Tree::new(alloc);
-    tree_is_lawful(&tree);
-    match fit_front(kept, copied, &mut tree) {
-        Ok(()) => {}
-        Err(stop) => return Err(stop.full()),
-    }
+    let mut tree = front_tree(alloc, kept, copied)?;
     match fit(new, &mut tree) {
         Ok(()) => Ok(()),
         Err(stop) => Err(stop.does_not_fit()),

@@ -4,6 +4,7 @@
 //! looks up what a bundle rests on, splits the repository into that and the rest as [`split`] does, applies the new patches
 //! after the first part and merges them with the second; [`weigh_owned`] does so with a bundle that is given up. What they
 //! answer is copied by [`Repo::prepare`], which makes all room, and appended by [`Repo::commit`], which can't fail.
+//! [`find_misfit`] tells people where a new patch doesn't fit, and why.
 //!
 //! The crate stands on dm_bundle's bundles, on dm_named's patches and when they commute, and on dm_prim's laws of commutation.
 //! Its theorem is the contract of [`weigh`]: it returns the merged patches and the tree after them, or the first refusal in
@@ -12,12 +13,14 @@
 //! orders: where they share no patch and rest on the whole repository, both end at the same tree.
 #![tactic(auto)]
 
+mod basis;
 mod dependencies;
 mod fit;
 pub mod laws;
 mod lookup;
 mod marks;
 mod merge;
+mod misfit;
 mod names;
 mod orders;
 mod parted;
@@ -29,6 +32,7 @@ mod sifting;
 mod stop;
 mod weighed;
 
+pub use misfit::{Misfit, find_misfit};
 pub use orders::law_both_orders;
 pub use parted::{Parted, split};
 pub use policy::Policy;

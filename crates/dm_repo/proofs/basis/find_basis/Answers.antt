@@ -1,0 +1,20 @@
+use Rattle.std.proofs.Common.{sym, ◌∙◌}
+use Rattle.std.proofs.lemmas.Result.{err_from_is_err_and}
+use Rattle.dm_repo.proofs.basis.find_basis.Goals as goal
+
+pub returns-in_err-marks : goal.returns-in_err-marks
+returns-in_err-marks g c = let p = err_from_is_err_and c.from_residual.result c.from_residual.ensures.1 in rw (p.1, p.2) c.in_err-marks.ensures
+
+pub returns-in_default : goal.returns-in_default
+returns-in_default g c = rw c.in_default.is at c.in_ok-marks.ensures
+
+pub returns-in_err-new : goal.returns-in_err-new
+returns-in_err-new g c = let p = err_from_is_err_and c.from_residual-in_err-new.result c.from_residual-in_err-new.ensures.1 in rw (p.1, p.2) (λ policy. tt)
+
+pub returns-in_err-basis : goal.returns-in_err-basis
+returns-in_err-basis g c =
+    let p = err_from_is_err_and c.from_residual-in_err-basis.result c.from_residual-in_err-basis.ensures.1 in
+    rw (p.1, p.2) (c.in_err-basis.ensures c.args.bundle.now (sym (c.in_ok-new.ensures ∙ c.new_patches.ensures.value)) (rw c.in-Some.is at c.in_ok-marks.ensures))
+
+pub returns : goal.returns
+returns g c = c.in_ok-basis.ensures c.args.bundle.now (sym (c.in_ok-new.ensures ∙ c.new_patches.ensures.value)) (rw c.in-Some.is at c.in_ok-marks.ensures)
