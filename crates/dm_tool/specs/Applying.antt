@@ -12,6 +12,7 @@ use Rattle.dm_scratch.specs.declared.verdict.Verdict.{Verdict}
 use Rattle.dm_scratch.specs.declared.verdict.Verdict.TheVariants.{Refused}
 use Rattle.dm_scratch.specs.Taking.{Takes, IsAccepted}
 use Rattle.dm_scratch.specs.Words.{verdict_text}
+use Rattle.dm_tool.specs.declared.apply.Applied.{Applied}
 use Rattle.dm_tool.specs.declared.fault.ToolFault.{ToolFault}
 use Rattle.dm_tool.specs.declared.fault.ToolFault.TheVariants.{NoMemory, BadBase}
 use Rattle.dm_scratch.specs.Printing.{line_of, listing_text}
@@ -60,3 +61,11 @@ pub record AnswersInput (base : Option (Bor (List ℕ))) (as_bundle : Bool) (pol
   pub is_start : IsStart base start
   pub gives : Gives before after text
   pub answers : Answers start as_bundle policy text out status
+
+-- what is told of it: the text that the reader gave was taken into the repository that this base makes, with this verdict, and left this repository
+pub record IsApplied (base : Option (Bor (List ℕ))) (policy : Policy) (before after : Option (List ℕ)) (applied : Applied) : Type 0 where
+  pub start : List Patch
+  pub is_start : IsStart base start
+  pub gives : Gives before after applied.text.items
+  pub takes : Takes start applied.text.items policy applied.verdict applied.repo.patches
+  pub exit : applied.status ≡ status_of applied.verdict

@@ -1,5 +1,6 @@
 -- What is answered to a text that is checked.
-use Rattle.std.specs.Prelude.{◌≡◌, ℕ, List, Option}
+use Rattle.std.specs.Prelude.{◌≡◌, ◌≢◌, ℕ, List, Option, MatchOption}
+use Rattle.dm_named.specs.declared.fault.FaultKind.TheVariants as kind
 use Rattle.dm_named.specs.declared.fault.ReadFault.{ReadFault}
 use Rattle.dm_bundle.specs.Bundles.{Contents}
 use Rattle.dm_bundle.specs.Canonical.{bundle_text}
@@ -10,6 +11,8 @@ use Rattle.dm_scratch.specs.Taking.{Reads}
 use Rattle.dm_scratch.specs.Words.{verdict_text}
 use Rattle.dm_scratch.specs.Printing.{line_of}
 use Rattle.dm_tool.specs.Streams.{Gives}
+use Rattle.dm_tool.specs.declared.check.Checked.{Checked}
+use Rattle.dm_tool.specs.declared.check.Unread.{Unread}
 
 -- these bytes and this exit status: the canonical text of the bundle that the text stands for, the line of the text's fault, or the line that memory ran out
 pub data Checks (text printed : List ℕ) (status : ℕ) : Type 0 where
@@ -22,3 +25,18 @@ pub record ChecksInput (before after : Option (List ℕ)) (out : List ℕ) (stat
   pub text : List ℕ
   pub gives : Gives before after text
   pub checks : Checks text out status
+
+-- the fault is one of this text, or memory ran out
+pub record IsUnreadText (text : List ℕ) (unread : Unread) : Type 0 where
+  pub same : unread.text.items ≡ text
+  pub fault : unread.fault.kind ≢ kind.NoMemory → FaultAt text unread.fault.kind unread.fault.at
+
+-- what is told of a text: that it stands for a bundle, or its fault
+abbrev pub IsTold : List ℕ → Checked → Type 0
+IsTold text checked = MatchOption checked.unread ((b : Contents) × Reads text b) (IsUnreadText text)
+
+-- so is the text that the reader gave
+pub record TellsInput (before after : Option (List ℕ)) (checked : Checked) : Type 0 where
+  pub text : List ℕ
+  pub gives : Gives before after text
+  pub told : IsTold text checked

@@ -9,6 +9,7 @@ use Rattle.dm_mirror.specs.declared.outcome.Outcome.{Outcome}
 use Rattle.dm_mirror.specs.Plans.{AreStarts, IsPlannable}
 use Rattle.dm_mirror.specs.Runs.{AllAccepted, IsRunOf}
 use Rattle.dm_mirror.specs.Report.{IsReport}
+use Rattle.dm_tool.specs.declared.running.Ran.{Ran}
 
 -- the bytes of texts that are borrowed
 abbrev pub bytes_of : List (Bor (List ℕ)) → List (List ℕ)
@@ -51,3 +52,10 @@ pub record RunsTo (names : List (List ℕ)) (texts : List (List (List ℕ))) (ba
   pub is_report : IsReport outcome report
   pub bytes : out ≡ posters_text 0 names ++ report
   pub exit : IsStatusOf outcome status
+
+-- what is told of it: a run of posters that send these texts, to mirrors of these bases and policies, left this outcome
+pub record IsRan (texts : List (List (List ℕ))) (bases : List (List ℕ)) (policies : List Policy) (ran : Ran) : Type 0 where
+  pub starts : List (List Patch)
+  pub are_starts : AreStarts bases starts
+  pub is_run : IsRunOf texts starts policies ran.outcome
+  pub exit : IsStatusOf ran.outcome ran.status

@@ -4,7 +4,7 @@ ghost use Rattle.std.specs.Io.KnownBytes.{Keeps};
 ghost use Rattle.dm_named.specs.Patches.{Patch};
 ghost use Rattle.dm_scratch.specs.declared.verdict.Verdict.{Verdict};
 ghost use Rattle.dm_tool.specs.Streams.{Writes, WritesPrefix};
-ghost use Rattle.dm_tool.specs.Applying.{AnswersInput, IsStart, RefusesBase};
+ghost use Rattle.dm_tool.specs.Applying.{AnswersInput, IsApplied, IsStart, RefusesBase};
 
 use crate::fault::ToolFault;
 use crate::print::answer_text;
@@ -12,7 +12,7 @@ use crate::status::status_of;
 use crate::streams::{read_text, write_text};
 use bumpalo::Bump;
 use dm_repo::{Policy, Repo};
-use dm_scratch::take;
+use dm_scratch::{Verdict, take};
 use std::alloc::Global;
 use std::io::{Read, Write};
 
@@ -32,9 +32,22 @@ fn repo_of(alloc: Global, arena: &mut Bump, base: Option<&[u8]>) -> Result<Repo<
     Err(ToolFault::of_base(verdict))
 }
 
+/// What `dm apply` answered.
+#[derive(Drop)]
+pub struct Applied {
+    /// The exit status.
+    pub status: u8,
+    /// The verdict on the text.
+    pub verdict: Verdict,
+    /// The text that was read.
+    pub text: Vec<u8>,
+    /// The repository after it.
+    pub repo: Repo<Global>,
+}
+
 /// Reads a bundle, takes it under a policy into the repository that a base's text makes, or into an empty one, and writes the
 /// verdict's line with the listing of the repository's tree, or `as_bundle` with the canonical bundle of all its patches.
-/// Returns the exit status: 0 where all of the bundle was taken or it brought nothing new, else 1.
+/// Returns the exit status, 0 where all of the bundle was taken or it brought nothing new, else 1, with what it tells.
 ///
 /// Errors: [`ToolFault::BadBase`] where the base isn't taken, before anything is read; [`ToolFault::Read`];
 /// [`ToolFault::NoMemory`] where the base was refused for memory, or where the text or the output could not be kept;
@@ -46,9 +59,10 @@ pub fn apply_over<R: Read, W: Write>(
     policy: Policy,
     reader: &mut R,
     writer: &mut W,
-) -> Result<u8, ToolFault>
-    ensures ok { IfOk result (Writes (AnswersInput base.entry as_bundle policy (R.remaining reader.old) (R.remaining reader.new))
-        (W.contents writer.old) (W.contents writer.new)) }
+) -> Result<Applied, ToolFault>
+    ensures ok { IfOk result (λ applied. Writes (AnswersInput base.entry as_bundle policy (R.remaining reader.old) (R.remaining reader.new))
+        (W.contents writer.old) (W.contents writer.new) applied.status) }
+    ensures told { IfOk result (IsApplied base.entry policy (R.remaining reader.old) (R.remaining reader.new)) }
     ensures base_first { IfErr result (λ e. ((e ≢ ToolFault.Read) × (R.remaining reader.new ≡ R.remaining reader.old)) ⊎
         ((start : List Patch) × IsStart base.entry start)) }
     ensures bad_base { IfErr result (λ e. (v : Verdict) → (e ≡ ToolFault.BadBase v) → MatchOption base.entry ⊥ (λ b. RefusesBase b.now e)) }
@@ -60,9 +74,14 @@ pub fn apply_over<R: Read, W: Write>(
 {
     let mut arena = Bump::new(alloc);
     let mut repo = repo_of(alloc, &mut arena, base)?;
-    let bundle = read_text(alloc, reader)?;
-    let verdict = take(&mut repo, &mut arena, &bundle, policy);
-    let text = answer_text(alloc, verdict, &repo, as_bundle)?;
-    write_text(&text, writer)?;
-    Ok(status_of(verdict))
+    let text = read_text(alloc, reader)?;
+    let verdict = take(&mut repo, &mut arena, &text, policy);
+    let answer = answer_text(alloc, verdict, &repo, as_bundle)?;
+    write_text(&answer, writer)?;
+    Ok(Applied {
+        status: status_of(verdict),
+        verdict,
+        text,
+        repo,
+    })
 }

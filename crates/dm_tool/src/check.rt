@@ -2,37 +2,72 @@
 ghost use Rattle.std.specs.Prelude.{◌≡◌, ◌≢◌, IfOk, IfErr};
 ghost use Rattle.std.specs.Io.KnownBytes.{Keeps};
 ghost use Rattle.dm_tool.specs.Streams.{Writes, WritesPrefix};
-ghost use Rattle.dm_tool.specs.Checking.{Checks, ChecksInput};
+ghost use Rattle.dm_tool.specs.Checking.{Checks, ChecksInput, IsTold, TellsInput};
 
 use crate::fault::ToolFault;
 use crate::status::status_of;
 use crate::streams::{read_text, write_text};
 use dm_bundle::{read_bundle, write_bundle};
+use dm_named::ReadFault;
 use dm_scratch::{Verdict, push_verdict};
 use std::alloc::{AllocError, Global};
 use std::io::{Read, Write};
 
-/// What is printed of a text, and the exit status. The text is given up once it has been read: it
-/// and what is printed may be large.
-fn check_text(alloc: Global, text: Vec<u8>) -> Result<(Vec<u8>, u8), AllocError>
-    ensures { IfOk result (λ x. Checks text.items x.0.items x.1) }
+/// What `dm check` answered, and why where the text is no bundle.
+#[derive(Drop)]
+pub struct Checked {
+    /// The exit status.
+    pub status: u8,
+    /// The text and its fault; `None` where it is a bundle.
+    pub unread: Option<Unread>,
+}
+
+/// A text that is no bundle, or for which memory ran out.
+#[derive(Drop)]
+pub struct Unread {
+    /// The text.
+    pub text: Vec<u8>,
+    /// What is wrong with it, and where.
+    pub fault: ReadFault,
+}
+
+/// What is printed of a text, and the exit status. The text of a bundle is given up once it has been read: it and what is
+/// printed may be large.
+fn check_text(alloc: Global, text: Vec<u8>) -> Result<(Vec<u8>, Checked), AllocError>
+    ensures checks { IfOk result (λ x. Checks text.items x.0.items x.1.status) }
+    ensures told { IfOk result (λ x. IsTold text.items x.1) }
 {
-    let read = read_bundle(alloc, &text);
-    drop(text);
-    match read {
-        Ok(bundle) => Ok((write_bundle(alloc, &bundle)?, 0)),
+    match read_bundle(alloc, &text) {
+        Ok(bundle) => {
+            drop(text);
+            let out = write_bundle(alloc, &bundle)?;
+            Ok((
+                out,
+                Checked {
+                    status: 0,
+                    unread: None,
+                },
+            ))
+        }
         Err(fault) => {
             let verdict = Verdict::unread(fault);
             let mut line = Vec::new(alloc);
             push_verdict(verdict, &mut line)?;
-            Ok((line, status_of(verdict)))
+            let unread = Some(Unread { text, fault });
+            Ok((
+                line,
+                Checked {
+                    status: status_of(verdict),
+                    unread,
+                },
+            ))
         }
     }
 }
 
 /// Reads a bundle and writes its canonical text, or the line of the verdict: that the text is
 /// malformed, or that memory ran out as it was read. Returns the exit status, 0 with a
-/// canonical text and 1 with a verdict.
+/// canonical text and 1 with a verdict, and why there is no bundle.
 ///
 /// Errors: [`ToolFault::Read`], [`ToolFault::NoMemory`] where the text or the output could not be
 /// kept, [`ToolFault::Write`]. Only after the last has anything been written, which is a prefix of
@@ -41,15 +76,16 @@ pub fn check_over<R: Read, W: Write>(
     alloc: Global,
     reader: &mut R,
     writer: &mut W,
-) -> Result<u8, ToolFault>
-    ensures ok { IfOk result (Writes (ChecksInput (R.remaining reader.old) (R.remaining reader.new)) (W.contents writer.old) (W.contents writer.new)) }
+) -> Result<Checked, ToolFault>
+    ensures ok { IfOk result (λ checked. Writes (ChecksInput (R.remaining reader.old) (R.remaining reader.new)) (W.contents writer.old) (W.contents writer.new) checked.status) }
+    ensures told { IfOk result (TellsInput (R.remaining reader.old) (R.remaining reader.new)) }
     ensures silent { IfErr result (λ e. (e ≢ ToolFault.Write) → Keeps (W.contents writer.old) (W.contents writer.new)) }
     ensures prefix { IfErr result (λ e. (e ≡ ToolFault.Write) →
         WritesPrefix (ChecksInput (R.remaining reader.old) (R.remaining reader.new)) (W.contents writer.old) (W.contents writer.new)) }
     ensures no_base { IfErr result (λ e. (v : Verdict) → e ≢ ToolFault.BadBase v) }
 {
     let text = read_text(alloc, reader)?;
-    let (out, status) = check_text(alloc, text)?;
+    let (out, checked) = check_text(alloc, text)?;
     write_text(&out, writer)?;
-    Ok(status)
+    Ok(checked)
 }

@@ -1,6 +1,7 @@
 //! The words of the command line, and what they start.
 use crate::apply::apply_over;
 use crate::check::check_over;
+use crate::explaining::{explain_unread, explain_verdict};
 use crate::fault::ToolFault;
 use crate::files::{WordFault, read_file};
 use crate::plan_words::{policy_of, run_plan};
@@ -42,6 +43,16 @@ fn skip<'a>(alloc: Global) -> Arg<'a> {
         .help("Skip patches that conflict, and take the others")
 }
 
+/// The word that asks for an explanation.
+fn explain<'a>(alloc: Global) -> Arg<'a> {
+    Arg::new(alloc, "explain")
+        .long("explain")
+        .action(ArgAction::SetTrue)
+        .help(
+            "Say on standard error which patches the verdict is about, and what is wrong with a text",
+        )
+}
+
 /// A word that takes a number, which has to be there.
 fn number<'a>(alloc: Global, name: &'a str, value: &'a str, help: &'a str) -> Arg<'a> {
     Arg::new(alloc, name)
@@ -70,14 +81,17 @@ fn apply_words<'a>(alloc: Global) -> Result<Command<'a>, AllocError> {
         )
         .arg(base(alloc, "Take the bundle of FILE first"))?
         .arg(bundle(alloc))?
+        .arg(explain(alloc))?
         .arg(skip(alloc))
 }
 
 /// The words of `dm check`.
-fn check_words<'a>(alloc: Global) -> Command<'a> {
-    Command::new(alloc, "check").about(
-        "Read the patch bundle on standard input; print its canonical text, or what is wrong with it",
-    )
+fn check_words<'a>(alloc: Global) -> Result<Command<'a>, AllocError> {
+    Command::new(alloc, "check")
+        .about(
+            "Read the patch bundle on standard input; print its canonical text, or what is wrong with it",
+        )
+        .arg(explain(alloc))
 }
 
 /// The words of `dm run`.
@@ -96,6 +110,7 @@ fn run_words<'a>(alloc: Global) -> Result<Command<'a>, AllocError> {
         ))?
         .arg(number(alloc, "bound", "B", waiting))?
         .arg(base(alloc, start))?
+        .arg(explain(alloc))?
         .arg(skip(alloc))?
         .arg(posters(alloc))
 }
@@ -109,7 +124,7 @@ fn program<'a>(alloc: Global) -> Result<Command<'a>, AllocError> {
         .subcommand_required(true)
         .arg_required_else_help(true)
         .subcommand(apply_words(alloc)?)?
-        .subcommand(check_words(alloc))?
+        .subcommand(check_words(alloc)?)?
         .subcommand(run_words(alloc)?)
 }
 
@@ -128,10 +143,19 @@ fn exit_status<R: Runtime + AllocGlobal>(rt: &R, answer: Result<u8, WordFault<'_
 }
 
 /// `dm check`.
-fn check<'a, R: Runtime + AllocGlobal>(rt: &R) -> Result<u8, WordFault<'a>> {
+fn check<'a, R: Runtime + AllocGlobal>(
+    rt: &R,
+    words: &ArgMatches<'a>,
+) -> Result<u8, WordFault<'a>> {
     let mut reader = rt.reader();
     let mut writer = io::writer(rt);
-    Ok(check_over(rt.alloc(), &mut reader, &mut writer)?)
+    let checked = check_over(rt.alloc(), &mut reader, &mut writer)?;
+    if words.get_flag("explain") {
+        if let Some(unread) = &checked.unread {
+            explain_unread(rt, unread);
+        }
+    }
+    Ok(checked.status)
 }
 
 /// `dm apply`: the base is read before standard input.
@@ -146,7 +170,7 @@ fn apply<'a, R: Runtime + AllocGlobal>(
     let as_bundle = words.get_flag("bundle");
     let mut reader = rt.reader();
     let mut writer = io::writer(rt);
-    let status = apply_over(
+    let applied = apply_over(
         rt.alloc(),
         base.as_deref(),
         as_bundle,
@@ -154,7 +178,10 @@ fn apply<'a, R: Runtime + AllocGlobal>(
         &mut reader,
         &mut writer,
     )?;
-    Ok(status)
+    if words.get_flag("explain") {
+        explain_verdict(rt, &applied.repo, &applied.text, applied.verdict);
+    }
+    Ok(applied.status)
 }
 
 /// Out of memory, where that is why the words could not be read.
@@ -166,7 +193,7 @@ fn out_of_memory(kind: ErrorKind) -> Option<ToolFault> {
 }
 
 /// Prints why the words start no command, or the help that they ask for, and returns the exit status.
-fn explain<R: Runtime + AllocGlobal>(rt: &R, error: &Error) -> u8 {
+fn say_why<R: Runtime + AllocGlobal>(rt: &R, error: &Error) -> u8 {
     if let Some(fault) = out_of_memory(error.kind()) {
         return tell(rt, WordFault::Tool(fault));
     }
@@ -183,7 +210,7 @@ fn start<'a, R: Runtime + AllocGlobal + Threads + Wait + Sync>(
 ) -> u8 {
     match matches.subcommand() {
         Some(("apply", words)) => exit_status(rt, apply(rt, words)),
-        Some(("check", _)) => exit_status(rt, check(rt)),
+        Some(("check", words)) => exit_status(rt, check(rt, words)),
         Some(("run", words)) => exit_status(rt, run_plan(rt, words)),
         _ => NO_ANSWER,
     }
@@ -197,7 +224,7 @@ fn run_command<R: Runtime + AllocGlobal + Threads + Wait + Sync>(rt: &R, words: 
     };
     match program.try_get_matches_from(words) {
         Ok(matches) => start(rt, &matches),
-        Err(error) => explain(rt, &error),
+        Err(error) => say_why(rt, &error),
     }
 }
 

@@ -17,6 +17,7 @@
 mod apply;
 mod check;
 mod commands;
+mod explaining;
 mod fault;
 mod files;
 mod plan_words;

@@ -1,7 +1,8 @@
 //! The words of `dm run`, and what they start.
+use crate::explaining::explain_run;
 use crate::fault::ToolFault;
 use crate::files::{WordFault, read_file};
-use crate::running::run_over;
+use crate::running::{Ran, run_over};
 use clap::ArgMatches;
 use dm_repo::Policy;
 use indexmap::IndexMap;
@@ -124,7 +125,7 @@ fn run_texts<'a, R: Runtime + AllocGlobal + Threads + Wait + Sync>(
     policy: Policy,
     mirrors: u32,
     bound: u32,
-) -> Result<u8, ToolFault> {
+) -> Result<Ran, ToolFault> {
     let alloc = rt.alloc();
     let lists = lists_of(alloc, posters)?;
     let named = named_lists(alloc, &lists)?;
@@ -164,5 +165,10 @@ pub fn run_plan<'a, R: Runtime + AllocGlobal + Threads + Wait + Sync>(
     let posters = read_posters(rt, &files)?;
     let mirrors = words.get_one::<u32>("mirrors").unwrap_or(0);
     let bound = words.get_one::<u32>("bound").unwrap_or(0);
-    Ok(run_texts(rt, &posters, &base, policy_of(words), mirrors, bound)?)
+    let policy = policy_of(words);
+    let ran = run_texts(rt, &posters, &base, policy, mirrors, bound)?;
+    if words.get_flag("explain") {
+        explain_run(rt, &ran.outcome, &base, policy);
+    }
+    Ok(ran.status)
 }

@@ -6,7 +6,7 @@ ghost use Rattle.dm_mirror.specs.declared.plan.PlanFault.{PlanFault};
 ghost use Rattle.dm_mirror.specs.Plans.{IsFirstFault};
 ghost use Rattle.dm_mirror.specs.Report.{IsReport};
 ghost use Rattle.dm_tool.specs.Streams.{Writes, WritesPrefix};
-ghost use Rattle.dm_tool.specs.Running.{IsStatusOf, RunsTo, bytes_of, names_in, poster_line, posters_text, texts_in};
+ghost use Rattle.dm_tool.specs.Running.{IsRan, IsStatusOf, RunsTo, bytes_of, names_in, poster_line, posters_text, texts_in};
 
 use crate::fault::ToolFault;
 use crate::streams::write_text;
@@ -72,7 +72,16 @@ fn status_of_run(outcome: &Outcome) -> u8
     if outcome.all_accepted() { 0 } else { 1 }
 }
 
-/// What a run prints, and its exit status.
+/// What `dm run` answered.
+#[derive(Drop)]
+pub struct Ran {
+    /// The exit status.
+    pub status: u8,
+    /// What the run left.
+    pub outcome: Outcome,
+}
+
+/// What a run prints, and what it left.
 fn answer_of<R: Threads + Wait + Sync>(
     rt: &R,
     alloc: Global,
@@ -80,8 +89,9 @@ fn answer_of<R: Threads + Wait + Sync>(
     bases: &[&[u8]],
     policies: &[Policy],
     bound: usize,
-) -> Result<(Vec<u8>, u8), ToolFault>
-    ensures ok { IfOk result (λ x. RunsTo (names_in posters.now) (texts_in posters.now) (bytes_of bases.now) policies.now bound x.0.items x.1) }
+) -> Result<(Vec<u8>, Ran), ToolFault>
+    ensures ok { IfOk result (λ x. RunsTo (names_in posters.now) (texts_in posters.now) (bytes_of bases.now) policies.now bound x.0.items x.1.status) }
+    ensures told { IfOk result (λ x. IsRan (texts_in posters.now) (bytes_of bases.now) policies.now x.1) }
     ensures bad_plan { IfErr result (λ e. (fault : PlanFault) → (e ≡ ToolFault.BadPlan fault) →
         IsFirstFault (texts_in posters.now) (bytes_of bases.now) policies.now bound fault) }
     ensures unwritten { IfErr result (λ e. e ≢ ToolFault.Write) }
@@ -92,12 +102,13 @@ fn answer_of<R: Threads + Wait + Sync>(
     let plan = Plan::build(alloc, &texts, bases, policies, bound)?;
     let outcome = run(rt, alloc, plan, &Open)?;
     let text = run_text(alloc, posters, &outcome)?;
-    Ok((text, status_of_run(&outcome)))
+    let status = status_of_run(&outcome);
+    Ok((text, Ran { status, outcome }))
 }
 
 /// Runs a plan of posters, each with its name and the texts of its bundles, and of mirrors, each with the text of its base,
 /// where an empty text is an empty repository, and with its policy. Writes a line for each poster and then the report. Returns
-/// the exit status: 0 where each mirror took all of every bundle or had its patches already, else 1.
+/// the exit status, 0 where each mirror took all of every bundle or had its patches already, else 1, with what the run left.
 ///
 /// Errors: [`ToolFault::BadPlan`] where there is no such plan; [`ToolFault::NoThread`]; [`ToolFault::NoMemory`];
 /// [`ToolFault::Write`]. Only after the last has anything been written, which is a prefix of the output.
@@ -109,9 +120,10 @@ pub fn run_over<R: Threads + Wait + Sync, W: Write>(
     policies: &[Policy],
     bound: usize,
     writer: &mut W,
-) -> Result<u8, ToolFault>
-    ensures ok { IfOk result (Writes (RunsTo (names_in posters.now) (texts_in posters.now) (bytes_of bases.now) policies.now bound)
-        (W.contents writer.old) (W.contents writer.new)) }
+) -> Result<Ran, ToolFault>
+    ensures ok { IfOk result (λ ran. Writes (RunsTo (names_in posters.now) (texts_in posters.now) (bytes_of bases.now) policies.now bound)
+        (W.contents writer.old) (W.contents writer.new) ran.status) }
+    ensures told { IfOk result (IsRan (texts_in posters.now) (bytes_of bases.now) policies.now) }
     ensures bad_plan { IfErr result (λ e. (fault : PlanFault) → (e ≡ ToolFault.BadPlan fault) →
         IsFirstFault (texts_in posters.now) (bytes_of bases.now) policies.now bound fault) }
     ensures silent { IfErr result (λ e. (e ≢ ToolFault.Write) → Keeps (W.contents writer.old) (W.contents writer.new)) }
@@ -121,7 +133,7 @@ pub fn run_over<R: Threads + Wait + Sync, W: Write>(
     ensures unread { IfErr result (λ e. e ≢ ToolFault.Read) }
     ensures no_base { IfErr result (λ e. (v : Verdict) → e ≢ ToolFault.BadBase v) }
 {
-    let (out, status) = answer_of(rt, alloc, posters, bases, policies, bound)?;
+    let (out, ran) = answer_of(rt, alloc, posters, bases, policies, bound)?;
     write_text(&out, writer)?;
-    Ok(status)
+    Ok(ran)
 }

@@ -11,14 +11,14 @@ returns-in_err-repo-clause-base_first g c =
     let q = err_from_is_err_and c.from_residual.result c.from_residual.ensures.1 in
     rw (q.1, q.2) (inl (base_is_not_read c.args.base (λ b. b.now) _ c.in_err-repo.ensures.err, refl))
 
-pub returns-in_err-bundle-clause-base_first : goal.returns-in_err-bundle-clause-base_first
-returns-in_err-bundle-clause-base_first g c =
-    let q = err_from_is_err_and c.from_residual-in_err-bundle.result c.from_residual-in_err-bundle.ensures.1 in
-    rw (q.1, q.2) (inr (c.in_ok-repo.repo.patches, c.in_ok-repo.ensures.ok))
-
 pub returns-in_err-text-clause-base_first : goal.returns-in_err-text-clause-base_first
 returns-in_err-text-clause-base_first g c =
     let q = err_from_is_err_and c.from_residual-in_err-text.result c.from_residual-in_err-text.ensures.1 in
+    rw (q.1, q.2) (inr (c.in_ok-repo.repo.patches, c.in_ok-repo.ensures.ok))
+
+pub returns-in_err-answer-clause-base_first : goal.returns-in_err-answer-clause-base_first
+returns-in_err-answer-clause-base_first g c =
+    let q = err_from_is_err_and c.from_residual-in_err-answer.result c.from_residual-in_err-answer.ensures.1 in
     rw (q.1, q.2) (inr (c.in_ok-repo.repo.patches, c.in_ok-repo.ensures.ok))
 
 pub returns-in_err-write_text-clause-base_first : goal.returns-in_err-write_text-clause-base_first
@@ -31,19 +31,19 @@ returns-in_err-write_text-clause-prefix g c =
     let q = err_from_is_err_and c.from_residual-in_err-write_text.result c.from_residual-in_err-write_text.ensures.1 in
     let cut = c.in_err-write_text.ensures.prefix in
     rw (q.1, q.2) (λ is. record {
-      out = c.in_ok-text.text.items;
+      out = c.in_ok-answer.answer.items;
       status = status_of c.take-verdict.result;
       count = cut.0;
       answers = record {
         start = c.in_ok-repo.repo.patches;
-        text = c.in_ok-bundle.bundle.items;
+        text = c.in_ok-text.text.items;
         is_start = c.in_ok-repo.ensures.ok;
-        gives = c.in_ok-bundle.ensures.text;
+        gives = c.in_ok-text.ensures.text;
         answers = record {
           verdict = c.take-verdict.result;
           after = c.take-verdict.new.repo.patches;
           takes = subst (λ (t : List ℕ). Takes c.in_ok-repo.repo.patches t c.args.policy c.take-verdict.result c.take-verdict.new.repo.patches) c.deref.ensures.value c.take-verdict.ensures;
-          prints = c.in_ok-text.ensures;
+          prints = c.in_ok-answer.ensures;
           exit = refl;
         };
       };
@@ -52,19 +52,28 @@ returns-in_err-write_text-clause-prefix g c =
 
 pub returns-clause-ok : goal.returns-clause-ok
 returns-clause-ok g c = record {
-  out = c.in_ok-text.text.items;
+  out = c.in_ok-answer.answer.items;
   answers = record {
     start = c.in_ok-repo.repo.patches;
-    text = c.in_ok-bundle.bundle.items;
+    text = c.in_ok-text.text.items;
     is_start = c.in_ok-repo.ensures.ok;
-    gives = c.in_ok-bundle.ensures.text;
+    gives = c.in_ok-text.ensures.text;
     answers = record {
       verdict = c.take-verdict.result;
       after = c.take-verdict.new.repo.patches;
       takes = subst (λ (t : List ℕ). Takes c.in_ok-repo.repo.patches t c.args.policy c.take-verdict.result c.take-verdict.new.repo.patches) c.deref.ensures.value c.take-verdict.ensures;
-      prints = c.in_ok-text.ensures;
+      prints = c.in_ok-answer.ensures;
       exit = c.status_of.ensures;
     };
   };
   written = subst (Appends (g.W.Write.contents c.args.writer.now) (g.W.Write.contents c.write_text.new.writer)) c.deref-2.ensures.value c.in_ok-write_text.ensures.ok;
+}
+
+pub returns-clause-told : goal.returns-clause-told
+returns-clause-told g c = record {
+  start = c.in_ok-repo.repo.patches;
+  is_start = c.in_ok-repo.ensures.ok;
+  gives = c.in_ok-text.ensures.text;
+  takes = subst (λ (t : List ℕ). Takes c.in_ok-repo.repo.patches t c.args.policy c.take-verdict.result c.take-verdict.new.repo.patches) c.deref.ensures.value c.take-verdict.ensures;
+  exit = c.status_of.ensures;
 }

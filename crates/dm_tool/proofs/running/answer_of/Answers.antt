@@ -25,5 +25,16 @@ returns-clause-ok g c =
       report = c.in_ok-text.ensures.0;
       is_report = c.in_ok-text.ensures.1;
       bytes = c.in_ok-text.ensures.2;
-      exit = c.status_of_run.ensures;
+      exit = c.status_of_run-status.ensures;
+    }
+
+pub returns-clause-told : goal.returns-clause-told
+returns-clause-told g c =
+    let plan = c.in_ok-plan.plan in
+    let texts = c.in_ok-plan.ensures.texts ∙ same_lists _ _ _ _ c.deref.ensures.value c.in_ok-texts.ensures in
+    record {
+      starts = plan_starts plan;
+      are_starts = c.in_ok-plan.ensures.starts;
+      is_run = rw c.in_ok-plan.ensures.policies at (subst (λ ts. IsRunOf ts (plan_starts plan) (plan_policies plan) c.in_ok-outcome.outcome) texts c.in_ok-outcome.ensures);
+      exit = c.status_of_run-status.ensures;
     }

@@ -9,7 +9,7 @@ returns-in_err-write_text-clause-prefix g c =
     let cut = c.in_err-write_text.ensures.prefix in
     rw (q.1, q.2) (λ is. record {
       out = c.in_ok-out.out.items;
-      status = c.in_ok-out.status;
+      status = c.in_ok-out.ran.status;
       count = cut.0;
       answers = c.in_ok-out.ensures.ok;
       written = subst (λ (t : List ℕ). Appends (g.W.Write.contents c.args.writer.now) (g.W.Write.contents c.write_text.new.writer) (take cut.0 t)) c.deref.ensures.value cut.1;

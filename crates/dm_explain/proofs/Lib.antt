@@ -1,0 +1,3 @@
+pub mod ChoiceLemmas
+pub mod FateLemmas
+pub mod LineLemmas

@@ -1,0 +1,24 @@
+//! What a verdict says, for people: which patches it is about, by name, and what is wrong with a text, by line and column.
+//!
+//! A verdict names places. [`account_of`] finds what stands there in the bundle and in the repository; an [`Account`] prints
+//! itself in lines for people. [`Malformed`] does so for a text that is no bundle. Both print into any writer and take no
+//! memory while they print.
+//!
+//! The crate stands on dm_scratch's verdicts, on dm_repo's repositories, on dm_bundle's bundles, and on `bstr` for what
+//! strangers wrote: what doesn't print is escaped. Its theorem is the contract of [`account_of`]: the patches that are named
+//! are those at the verdict's places, and of a bundle that was taken each new patch is in the one list that its fate says.
+#![tactic(auto)]
+
+mod account;
+mod fates;
+mod head;
+mod malformed;
+mod misfits;
+mod place;
+mod printing;
+mod seeming;
+mod shown;
+
+pub use account::{Account, account_of};
+pub use fates::{Fate, Fates};
+pub use malformed::Malformed;

@@ -1,0 +1,73 @@
+//! What a new patch wants where it doesn't apply, and what stands there.
+use crate::head::Head;
+use crate::shown::Shown;
+use dm_prim::{Hunk, Prim};
+use dm_repo::Misfit;
+use dm_tree::{Entry, FileRef, Lines};
+use std::alloc::Global;
+use std::fmt::{self, Formatter, Write};
+
+/// So many lines of a hunk are shown, and as many of a file.
+const MOST_LINES: usize = 3;
+
+/// Writes the first lines.
+fn write_lines<W: Write>(f: &mut Formatter<W>, lines: &Lines<Global>) -> fmt::Result {
+    for i in 0..lines.len().min(MOST_LINES) {
+        writeln!(
+            f,
+            "  {}",
+            Shown {
+                text: lines.line(i)
+            }
+        )?;
+    }
+    Ok(())
+}
+
+/// Writes the lines of a file from a place on, at most so many; lines count from 0.
+fn write_file<W: Write>(
+    f: &mut Formatter<W>,
+    file: FileRef<'_, Global>,
+    from: usize,
+    most: usize,
+) -> fmt::Result {
+    if file.count() <= from {
+        return writeln!(f, "  nothing, since the file has {} lines", file.count());
+    }
+    let to = file.count().min(from.saturating_add(most));
+    for i in from..to {
+        writeln!(f, "  {}", Shown { text: file.line(i) })?;
+    }
+    Ok(())
+}
+
+/// Writes what a hunk wants to remove, and what stands there.
+fn write_hunk<W: Write>(
+    f: &mut Formatter<W>,
+    hunk: &Hunk<Global>,
+    misfit: &Misfit<Global>,
+) -> fmt::Result {
+    if hunk.old().is_empty() {
+        return Ok(());
+    }
+    let Some(Entry::File(file)) = misfit.tree.entry(hunk.path()) else {
+        return Ok(());
+    };
+    f.write_str("It wants there:\n")?;
+    write_lines(f, hunk.old())?;
+    f.write_str("There stands:\n")?;
+    let from = hunk.line().saturating_sub(1) as usize;
+    write_file(f, file, from, hunk.old().len().min(MOST_LINES))
+}
+
+/// Writes which primitive of a new patch doesn't apply, and why.
+pub(crate) fn write_misfit<W: Write>(f: &mut Formatter<W>, misfit: &Misfit<Global>) -> fmt::Result {
+    let Some(prim) = misfit.patch.prims().get(misfit.prim) else {
+        return Ok(());
+    };
+    writeln!(f, "at `{}`: {}.", Head { prim }, misfit.fault)?;
+    match prim {
+        Prim::Hunk(hunk) => write_hunk(f, hunk, misfit),
+        _ => Ok(()),
+    }
+}

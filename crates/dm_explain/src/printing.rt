@@ -1,0 +1,140 @@
+//! The lines that an account prints.
+use crate::account::Account;
+use crate::fates::Fates;
+use crate::misfits::write_misfit;
+use crate::shown::Who;
+use dm_info::Info;
+use std::alloc::Global;
+use std::fmt::{self, Display, Formatter, Write};
+
+/// A repository holds at most so many patches.
+const MOST_PATCHES: usize = 100_000;
+
+/// A line for each of these patches, after a line that says what they are; nothing where there is none.
+fn write_list<W: Write>(f: &mut Formatter<W>, what: &str, names: &[&Info<Global>]) -> fmt::Result {
+    if names.is_empty() {
+        return Ok(());
+    }
+    writeln!(f, "{what}:")?;
+    for info in names {
+        writeln!(f, "  {}", Who { info })?;
+    }
+    Ok(())
+}
+
+/// A line for each of two patches.
+fn write_pair<W: Write>(
+    f: &mut Formatter<W>,
+    what: &str,
+    first: &Info<Global>,
+    by: &str,
+    second: &Info<Global>,
+) -> fmt::Result {
+    let first = Who { info: first };
+    let second = Who { info: second };
+    writeln!(f, "{what}:\n  {first}\n{by}:\n  {second}")
+}
+
+/// Which patches of the context aren't held, and what to do.
+fn write_missing<W: Write>(f: &mut Formatter<W>, missing: &[&Info<Global>]) -> fmt::Result {
+    match missing.len() {
+        1 => f.write_str("A patch that the bundle builds on isn't held:\n")?,
+        count => writeln!(f, "{count} patches that the bundle builds on aren't held:")?,
+    }
+    for info in missing {
+        writeln!(f, "  {}", Who { info })?;
+    }
+    f.write_str(
+        "Ask the sender for what is missing, or for a bundle against a context that you have.\n",
+    )
+}
+
+/// A new patch, what it names, and whether that is held.
+fn write_lacking<W: Write>(
+    f: &mut Formatter<W>,
+    patch: &Info<Global>,
+    dependency: &Info<Global>,
+    held: bool,
+) -> fmt::Result {
+    write_pair(f, "The new patch", patch, "depends on", dependency)?;
+    if held {
+        return f.write_str(
+            "which is held, but neither in the bundle nor in what its context stands for.\n",
+        );
+    }
+    f.write_str("which is neither held nor in the bundle. Ask the sender for it.\n")
+}
+
+/// Which limit a repository of so many patches would pass with so many more.
+fn write_full<W: Write>(f: &mut Formatter<W>, held: usize, more: usize) -> fmt::Result {
+    if held.saturating_add(more) > MOST_PATCHES {
+        return writeln!(
+            f,
+            "The repository has {held} patches, and the bundle {more} more; {MOST_PATCHES} can be held."
+        );
+    }
+    f.write_str("A path would have more than 32 names.\n")
+}
+
+/// What became of each new patch.
+fn write_fates<W: Write>(f: &mut Formatter<W>, fates: &Fates<'_>) -> fmt::Result {
+    write_list(f, "Taken", &fates.taken)?;
+    write_list(
+        f,
+        "Skipped, since they conflict, or can't do without one that does",
+        &fates.skipped,
+    )?;
+    write_list(f, "Held before", &fates.held)
+}
+
+impl Display for Account<'_> {
+    fn fmt<W: Write>(&self, f: &mut Formatter<W>) -> fmt::Result {
+        match self {
+            Account::Nobody => Ok(()),
+            Account::Full(held, more) => write_full(f, *held, *more),
+            Account::MissingContext(missing) => write_missing(f, missing),
+            Account::MissingDependency(patch, dependency, held) => {
+                write_lacking(f, patch, dependency, *held)
+            }
+            Account::ContextDepends(patch, needed) => {
+                write_pair(
+                    f,
+                    "The context has",
+                    patch,
+                    "but not what that builds on",
+                    needed,
+                )
+            }
+            Account::HeldDepends(patch, needed) => {
+                write_pair(
+                    f,
+                    "Held already is the new patch",
+                    patch,
+                    "but not what it builds on in the bundle",
+                    needed,
+                )
+            }
+            Account::DoesNotFit(patch, misfit) => {
+                let patch = Who { info: patch };
+                writeln!(
+                    f,
+                    "This new patch doesn't apply to what the bundle was made from:\n  {patch}"
+                )?;
+                match misfit {
+                    Some(misfit) => write_misfit(f, misfit),
+                    None => Ok(()),
+                }
+            }
+            Account::Conflicts(new, held) => {
+                write_pair(
+                    f,
+                    "The new patch",
+                    new,
+                    "conflicts with the held patch",
+                    held,
+                )
+            }
+            Account::Sorted(fates) => write_fates(f, fates),
+        }
+    }
+}

@@ -1,0 +1,85 @@
+//! How what a stranger wrote is shown.
+use bstr::BStr;
+use dm_info::Info;
+use std::alloc::Global;
+use std::fmt::{self, Display, Formatter, Write};
+use std::str;
+
+/// At most so many bytes of a name are shown.
+const MOST_SHOWN: usize = 100;
+
+/// A text of a stranger, in quotes. What doesn't print is escaped, and so is what is no UTF-8; a long text is cut.
+#[derive(Clone, Copy)]
+pub(crate) struct Shown<'a> {
+    pub(crate) text: &'a [u8],
+}
+
+/// The first bytes of a text, at most so many; a character is not cut in two.
+fn cut(text: &[u8], most: usize) -> &[u8] {
+    if text.len() <= most {
+        return text;
+    }
+    for end in (0..=most).rev() {
+        if text[end] & 0xC0 != 0x80 {
+            return &text[..end];
+        }
+    }
+    &text[..most]
+}
+
+impl Display for Shown<'_> {
+    fn fmt<W: Write>(&self, f: &mut Formatter<W>) -> fmt::Result {
+        let shown = cut(self.text, MOST_SHOWN);
+        match str::from_utf8(shown) {
+            Ok(text) => write!(f, "{text:?}")?,
+            Err(_) => write!(f, "{:?}", BStr::new(shown))?,
+        }
+        if shown.len() < self.text.len() {
+            f.write_str(" ..")?;
+        }
+        Ok(())
+    }
+}
+
+/// When a patch was recorded: fourteen digits are a date and a time in UTC, and anything else is shown as it stands.
+#[derive(Clone, Copy)]
+struct When<'a> {
+    date: &'a [u8],
+}
+
+impl Display for When<'_> {
+    fn fmt<W: Write>(&self, f: &mut Formatter<W>) -> fmt::Result {
+        let date = self.date;
+        if date.len() != 14 || !date.iter().all(|byte| byte.is_ascii_digit()) {
+            return write!(f, "{}", Shown { text: date });
+        }
+        let year = BStr::new(&date[..4]);
+        let month = BStr::new(&date[4..6]);
+        let day = BStr::new(&date[6..8]);
+        let hour = BStr::new(&date[8..10]);
+        let minute = BStr::new(&date[10..12]);
+        let second = BStr::new(&date[12..]);
+        write!(f, "{year}-{month}-{day} {hour}:{minute}:{second}")
+    }
+}
+
+/// A patch as people know it: what it is called, who recorded it, and when.
+#[derive(Clone, Copy)]
+pub(crate) struct Who<'a> {
+    pub(crate) info: &'a Info<Global>,
+}
+
+impl Display for Who<'_> {
+    fn fmt<W: Write>(&self, f: &mut Formatter<W>) -> fmt::Result {
+        let name = Shown {
+            text: self.info.name(),
+        };
+        let author = Shown {
+            text: self.info.author(),
+        };
+        let date = When {
+            date: self.info.date(),
+        };
+        write!(f, "{name} by {author}, {date}")
+    }
+}
