@@ -1,45 +1,15 @@
-//! What no contract says: that an answer comes where memory is ample, over the heap and over an
-//! arena, and that refused parts take no memory.
+//! What no contract says: that `Info::new` and `write_info` return an answer where memory is ample, and that refused parts take
+//! no memory.
 
 use bumpalo::Bump;
 use dm_info::{Info, InfoFault, read_info, write_info};
 use std::alloc::Global;
 use std::hash::{DefaultHasher, Hash, Hasher};
-use std::test::Fail;
-
-/// Appends the patch info at the front of a text, and returns the place after it.
-fn push_read(alloc: Global, text: &[u8], out: &mut Vec<u8>) -> Result<usize, Fail> {
-    let (info, end) = read_info(alloc, text, 0)?;
-    write_info(&info, out)?;
-    Ok(end)
-}
-
-#[test]
-fn texts_are_read_and_written(rt: HostRuntime) -> Result<(), Fail> {
-    for (text, next, written) in [
-        ("[x\np**20240101000000] ", 21, ">[x\np**20240101000000] "),
-        ("[x\np**d\n l1\n] ", 13, ">[x\np**d\n l1\n] "),
-        ("[x\np**d\n] ", 9, ">[x\np**d] "),
-    ] {
-        let mut out = Vec::from_slice(rt.alloc(), b">")?;
-        let end = push_read(rt.alloc(), text.as_bytes(), &mut out)?;
-        assert!(rt; end == next, "the place after {text}");
-        assert!(rt; out.as_slice() == written.as_bytes(), "{text}");
-    }
-    Ok(())
-}
 
 /// A patch info of parts.
 fn of_parts(alloc: Global) -> Result<Info<Global>, InfoFault> {
     let log = [b"l1".as_slice(), b"".as_slice()];
     Info::new(alloc, b"x", b"p", b"d", &log)
-}
-
-/// A copy of a patch info that was read in an arena.
-fn read_in_arena(alloc: Global) -> Result<Info<Global>, Fail> {
-    let arena = Bump::new(alloc);
-    let (info, _) = read_info(&arena, b"[x\np**d\n l1\n \n]", 0)?;
-    Ok(info.copy_into(alloc)?)
 }
 
 fn hash_of(info: &Info<Global>) -> u64 {
@@ -48,14 +18,34 @@ fn hash_of(info: &Info<Global>) -> u64 {
     hasher.finish()
 }
 
+/// Whether the text of these parts is read as what they make.
+fn is_read(alloc: Global, made: &Info<Global>) -> bool {
+    match read_info(alloc, b"[x\np**d\n l1\n \n]", 0) {
+        Ok((read, _)) => made.same(&read) && *made == read && hash_of(made) == hash_of(&read),
+        Err(_) => false,
+    }
+}
+
+/// Whether the text of these parts is written behind what stands there.
+fn is_written(alloc: Global, made: &Info<Global>) -> bool {
+    match Vec::from_slice(alloc, b">") {
+        Ok(mut out) => {
+            write_info(made, &mut out).is_ok()
+                && out.as_slice() == b">[x\np**d\n l1\n \n] ".as_slice()
+        }
+        Err(_) => false,
+    }
+}
+
 #[test]
-fn parts_make_what_is_read_in_an_arena(rt: HostRuntime) -> Result<(), Fail> {
-    let made = of_parts(rt.alloc())?;
-    let read = read_in_arena(rt.alloc())?;
-    assert!(rt; made.same(&read), "parts and their text");
-    assert!(rt; read == made, "both equal");
-    assert!(rt; hash_of(&read) == hash_of(&made), "hashes");
-    Ok(())
+fn parts_make_what_is_read_and_written(rt: HostRuntime) {
+    match of_parts(rt.alloc()) {
+        Ok(made) => {
+            assert!(rt; is_read(rt.alloc(), &made), "read");
+            assert!(rt; is_written(rt.alloc(), &made), "written");
+        }
+        Err(_) => assert!(rt; false, "a patch info"),
+    }
 }
 
 /// Why there is no patch info of these parts.

@@ -14,4 +14,6 @@ mod named;
 #[cfg(test)]
 mod primitives;
 #[cfg(test)]
+mod rows;
+#[cfg(test)]
 mod trees;

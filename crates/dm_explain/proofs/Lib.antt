@@ -1,3 +1,4 @@
 pub mod ChoiceLemmas
 pub mod FateLemmas
+pub mod SkipLemmas
 pub mod LineLemmas

@@ -1,6 +1,9 @@
 -- Which patches a verdict is about: those that stand at its places.
-use Rattle.std.specs.Prelude.{◌≡◌, ◌⊎◌, ◌↔◌, ℕ, ◌-◌, List, length, slice_get, Option, Some, None, IsTrue, IfSome}
+use Rattle.std.specs.Prelude.{◌≡◌, ◌⊎◌, ◌↔◌, ℕ, ◌-◌, ◌<◌, List, length, slice_get, Option, Some, None, IsTrue, IfSome}
 use Rattle.dm_info.specs.PatchInfo.{PatchInfo}
+use Rattle.dm_tree.specs.Paths.{Path, forward}
+use Rattle.dm_prim.specs.Prims.{prim_of}
+use Rattle.dm_prim.specs.Primitives.{Move}
 use Rattle.dm_named.specs.Patches.{Patch}
 use Rattle.dm_bundle.specs.Patches.{infos_of}
 use Rattle.dm_bundle.specs.Bundles.{Contents}
@@ -8,10 +11,18 @@ use Rattle.dm_repo.specs.Repositories.{Holds}
 use Rattle.dm_repo.specs.declared.refusal.Refusal.{Refusal}
 use Rattle.dm_repo.specs.declared.refusal.Refusal.TheVariants as refusals
 use Rattle.dm_repo.specs.declared.misfit.Misfit.{Misfit}
+use Rattle.dm_repo.specs.declared.clash.Clash.{Clash}
+use Rattle.dm_repo.specs.Clashes.{IsClash}
+use Rattle.dm_repo.specs.declared.overflow.Overflow.{Overflow}
+use Rattle.dm_repo.specs.declared.overflow.Overflow.TheVariants.{Front, Merged}
+use Rattle.dm_repo.specs.declared.policy.Policy.{Policy}
 use Rattle.dm_repo.specs.Misfits.{IsMisfit}
+use Rattle.dm_repo.specs.Overflows.{IsOverflow}
 use Rattle.dm_scratch.specs.declared.verdict.Verdict.{Verdict}
 use Rattle.dm_scratch.specs.declared.verdict.Verdict.TheVariants as verdicts
+use Rattle.dm_explain.specs.declared.account.Clashing.{Clashing}
 use Rattle.dm_explain.specs.declared.account.Account.{Account}
+use Rattle.dm_explain.specs.declared.depth.Depth.{Depth}
 use Rattle.dm_explain.specs.declared.account.Account.TheVariants.{Nobody, Full, MissingContext, MissingDependency, ContextDepends, HeldDepends, DoesNotFit, Conflicts, Sorted}
 use Rattle.dm_explain.specs.Fates.{AreChosen, AreFates, lent}
 
@@ -38,27 +49,64 @@ NamesNone b n d = (name : PatchInfo) (dependency : PatchInfo) → NamesAt b n d 
 abbrev pub IsMisfitAt : {Z : Type 0} → List Patch → Contents → ℕ → Misfit Z → Type 0
 IsMisfitAt repo b n misfit = IsMisfit repo b misfit × (misfit.place ≡ n)
 
+-- these two primitives are what stands at the places of the clash, in the new patch of place n and in the held patch of place h
+pub record AreClashing (repo : List Patch) (b : Contents) (n h : ℕ) (pair : Clashing) : Type 0 where
+  pub clash : Clash
+  pub is_clash : IsClash repo b clash
+  pub is_new : clash.place ≡ n
+  pub is_held : clash.held ≡ h
+  pub new : Patch
+  pub new_patch_at : slice_get b.patches n ≡ Some new
+  pub new_prim_at : slice_get new.prims clash.prim ≡ Some (prim_of pair.new.now)
+  pub held : Patch
+  pub held_patch_at : slice_get repo h ≡ Some held
+  pub held_prim_at : slice_get held.prims clash.held_prim ≡ Some (prim_of pair.held.now)
+
 -- so many new patches aren't held
 abbrev pub AreMissing : List Patch → Contents → ℕ → Type 0
 AreMissing repo b count = (names : List PatchInfo) × AreChosen (λ i. Holds repo i → ⊥) (infos_of b.patches) names × (count ≡ length names)
 
+-- the name of the patch that makes a path too deep: a held one of the front, or a new one that was merged
+abbrev pub overflowing : {Z : Type 0} → List Patch → Contents → Overflow Z → Option PatchInfo
+overflowing repo b (Front m) = held_at repo m.place
+overflowing repo b (Merged m) = new_at b m.place
+
+-- the primitive that is told is a move, by which this path gets more than 32 names
+pub record IsMovedTooDeep {Z : Type 0} (m : Misfit Z) (path : Path) : Type 0 where
+  pub from : Path
+  pub to : Path
+  pub is_move : slice_get m.patch.prims m.prim ≡ Some (Move from to)
+  pub is_too_deep : 32 < length (forward from to path)
+
+-- so it is of the patch that makes a path too deep
+abbrev pub IsTooDeepIn : {Z : Type 0} → Overflow Z → Path → Type 0
+IsTooDeepIn (Front m) path = IsMovedTooDeep m path
+IsTooDeepIn (Merged m) path = IsMovedTooDeep m path
+
+-- where a path would get more than 32 names: the patch, its name, and the path
+pub record IsDepth (repo : List Patch) (b : Contents) (policy : Policy) (depth : Depth) : Type 0 where
+  pub told : IsOverflow repo b policy depth.overflow
+  pub named : overflowing repo b depth.overflow ≡ Some depth.name.now
+  pub moved : IfSome depth.path (IsTooDeepIn depth.overflow)
+
 -- whom a refusal of a bundle is about; nobody is only where no patch stands at a place of it, or it has no place
-abbrev pub IsAccountOfRefusal : List Patch → Contents → Refusal → Account → Type 0
-IsAccountOfRefusal repo b (refusals.MissingContext c) (MissingContext missing) = AreChosen (λ i. Holds repo i → ⊥) b.context (lent missing.items)
-IsAccountOfRefusal repo b (refusals.MissingDependency n d) (MissingDependency name dependency held) =
+abbrev pub IsAccountOfRefusal : List Patch → Contents → Policy → Refusal → Account → Type 0
+IsAccountOfRefusal repo b policy (refusals.MissingContext c) (MissingContext missing) = AreChosen (λ i. Holds repo i → ⊥) b.context (lent missing.items)
+IsAccountOfRefusal repo b policy (refusals.MissingDependency n d) (MissingDependency name dependency held) =
     NamesAt b n d name.now dependency.now × (IsTrue held ↔ Holds repo dependency.now)
-IsAccountOfRefusal repo b (refusals.MissingDependency n d) Nobody = NamesNone b n d
-IsAccountOfRefusal repo b (refusals.ContextDepends h r) (ContextDepends name needed) = (held_at repo h ≡ Some name.now) × (held_at repo r ≡ Some needed.now)
-IsAccountOfRefusal repo b (refusals.ContextDepends h r) Nobody = (held_at repo h ≡ None) ⊎ (held_at repo r ≡ None)
-IsAccountOfRefusal repo b (refusals.HeldDepends h n) (HeldDepends name needed) = (new_at b h ≡ Some name.now) × (new_at b n ≡ Some needed.now)
-IsAccountOfRefusal repo b (refusals.HeldDepends h n) Nobody = (new_at b h ≡ None) ⊎ (new_at b n ≡ None)
-IsAccountOfRefusal repo b (refusals.DoesNotFit n) (DoesNotFit name misfit) = (new_at b n ≡ Some name.now) × IfSome misfit (IsMisfitAt repo b n)
-IsAccountOfRefusal repo b (refusals.DoesNotFit n) Nobody = new_at b n ≡ None
-IsAccountOfRefusal repo b (refusals.Conflicts n h) (Conflicts name held) = (new_at b n ≡ Some name.now) × (held_at repo h ≡ Some held.now)
-IsAccountOfRefusal repo b (refusals.Conflicts n h) Nobody = (new_at b n ≡ None) ⊎ (held_at repo h ≡ None)
-IsAccountOfRefusal repo b refusals.Full (Full held more) = (held ≡ length repo) × AreMissing repo b more
-IsAccountOfRefusal repo b refusals.NoMemory Nobody = Unit {0}
-IsAccountOfRefusal repo b refusal account = ⊥
+IsAccountOfRefusal repo b policy (refusals.MissingDependency n d) Nobody = NamesNone b n d
+IsAccountOfRefusal repo b policy (refusals.ContextDepends h r) (ContextDepends name needed) = (held_at repo h ≡ Some name.now) × (held_at repo r ≡ Some needed.now)
+IsAccountOfRefusal repo b policy (refusals.ContextDepends h r) Nobody = (held_at repo h ≡ None) ⊎ (held_at repo r ≡ None)
+IsAccountOfRefusal repo b policy (refusals.HeldDepends h n) (HeldDepends name needed) = (new_at b h ≡ Some name.now) × (new_at b n ≡ Some needed.now)
+IsAccountOfRefusal repo b policy (refusals.HeldDepends h n) Nobody = (new_at b h ≡ None) ⊎ (new_at b n ≡ None)
+IsAccountOfRefusal repo b policy (refusals.DoesNotFit n) (DoesNotFit name misfit) = (new_at b n ≡ Some name.now) × IfSome misfit (IsMisfitAt repo b n)
+IsAccountOfRefusal repo b policy (refusals.DoesNotFit n) Nobody = new_at b n ≡ None
+IsAccountOfRefusal repo b policy (refusals.Conflicts n h) (Conflicts name held pair) =
+    (new_at b n ≡ Some name.now) × (held_at repo h ≡ Some held.now) × IfSome pair (AreClashing repo b n h)
+IsAccountOfRefusal repo b policy (refusals.Conflicts n h) Nobody = (new_at b n ≡ None) ⊎ (held_at repo h ≡ None)
+IsAccountOfRefusal repo b policy refusals.Full (Full held more depth) = (held ≡ length repo) × AreMissing repo b more × IfSome depth (IsDepth repo b policy)
+IsAccountOfRefusal repo b policy refusals.NoMemory Nobody = Unit {0}
+IsAccountOfRefusal repo b policy refusal account = ⊥
 
 -- what became of each new patch, where the last patches of the repository, so many, were taken
 abbrev pub IsSorted : List Patch → ℕ → Contents → Account → Type 0
@@ -66,9 +114,9 @@ IsSorted repo count b (Sorted fates) = AreFates repo (length repo - count) b fat
 IsSorted repo count b account = ⊥
 
 -- whom a verdict on a bundle is about, in the repository that taking it left
-abbrev pub IsAccount : List Patch → Contents → Verdict → Account → Type 0
-IsAccount repo b (verdicts.Taken count) account = IsSorted repo count b account
-IsAccount repo b (verdicts.TakenSome count skipped) account = IsSorted repo count b account
-IsAccount repo b verdicts.NothingNew account = IsSorted repo 0 b account
-IsAccount repo b (verdicts.Malformed fault) account = account ≡ Nobody
-IsAccount repo b (verdicts.Refused refusal) account = IsAccountOfRefusal repo b refusal account
+abbrev pub IsAccount : List Patch → Contents → Policy → Verdict → Account → Type 0
+IsAccount repo b policy (verdicts.Taken count) account = IsSorted repo count b account
+IsAccount repo b policy (verdicts.TakenSome count skipped) account = IsSorted repo count b account
+IsAccount repo b policy verdicts.NothingNew account = IsSorted repo 0 b account
+IsAccount repo b policy (verdicts.Malformed fault) account = account ≡ Nobody
+IsAccount repo b policy (verdicts.Refused refusal) account = IsAccountOfRefusal repo b policy refusal account

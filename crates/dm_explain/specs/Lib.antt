@@ -1,3 +1,4 @@
 pub mod Fates
 pub mod Accounts
+pub mod Skips
 pub mod Places

@@ -1,22 +1,34 @@
 //! Which patches a verdict is about.
 ghost use Rattle.std.specs.Prelude.{◌≡◌, ◌↔◌, IsTrue, List, None, Some, slice_get, IfOk, IfSome, MatchOption};
 ghost use Rattle.dm_named.specs.Patches.{Patch};
+ghost use Rattle.dm_prim.specs.Prims.{prim_of};
 ghost use Rattle.dm_bundle.specs.Bundles.{Contents};
 ghost use Rattle.dm_bundle.specs.Patches.{infos_of};
 ghost use Rattle.dm_repo.specs.Repositories.{Holds};
 ghost use Rattle.dm_explain.specs.Fates.{AreChosen, lent};
-ghost use Rattle.dm_explain.specs.Accounts.{IsAccount, IsAccountOfRefusal, IsMisfitAt, IsSorted};
+ghost use Rattle.dm_explain.specs.Accounts.{AreClashing, IsAccount, IsAccountOfRefusal, IsMisfitAt, IsSorted};
 
+use crate::depth::{Depth, depth_of};
 use crate::fates::{Fates, fates_of};
 use dm_bundle::Bundle;
 use dm_info::Info;
 use dm_named::Named;
-use dm_repo::{Misfit, Refusal, Repo, find_misfit};
+use dm_prim::Prim;
+use dm_repo::{Misfit, Policy, Refusal, Repo, find_clash, find_misfit};
 use dm_scratch::Verdict;
 use std::alloc::{AllocError, Global};
 
 /// The name of a patch, lent by the bundle or by the repository that it stands in.
 type Name<'a> = &'a Info<Global>;
+
+/// The first primitives of a new patch and of a held one that can't pass each other, lent by the bundle and by the repository.
+#[derive(Clone, Copy)]
+pub struct Clashing<'a> {
+    /// The primitive of the new patch.
+    pub new: &'a Prim<Global>,
+    /// The primitive of the held patch.
+    pub held: &'a Prim<Global>,
+}
 
 /// Which patches a verdict is about, by name. It prints itself in lines for people.
 #[derive(Drop)]
@@ -24,8 +36,8 @@ pub enum Account<'a> {
     /// No patch, or a place where none stands.
     Nobody,
     /// How many patches the repository has, and how many of the bundle it hasn't: they are too many together, or a path would have
-    /// too many names.
-    Full(usize, usize),
+    /// too many names. Where that is, unless memory ran out.
+    Full(usize, usize, Option<Depth<'a>>),
     /// The patches of the context that aren't held, in its order.
     MissingContext(Vec<Name<'a>>),
     /// A new patch; a dependency of it that isn't there; and whether a patch of that name is held all the same.
@@ -36,8 +48,8 @@ pub enum Account<'a> {
     HeldDepends(Name<'a>, Name<'a>),
     /// The new patch that doesn't apply, and where it doesn't, unless memory ran out.
     DoesNotFit(Name<'a>, Option<Misfit<Global>>),
-    /// A new patch, and the held patch that it conflicts with.
-    Conflicts(Name<'a>, Name<'a>),
+    /// A new patch, the held patch that it conflicts with, and their primitives that do, unless memory ran out.
+    Conflicts(Name<'a>, Name<'a>, Option<Clashing<'a>>),
     /// What became of each new patch.
     Sorted(Fates<'a>),
 }
@@ -61,7 +73,7 @@ fn unheld<'a>(
 }
 
 /// The name of the new patch at a place.
-fn new_name<'a>(bundle: &'a Bundle<Global>, n: usize) -> Option<Name<'a>>
+pub(crate) fn new_name<'a>(bundle: &'a Bundle<Global>, n: usize) -> Option<Name<'a>>
     ensures { MatchOption result (slice_get (infos_of bundle.now.patches) n ≡ None) (λ name. slice_get (infos_of bundle.now.patches) n ≡ Some name.now) }
 {
     match bundle.new_patches().get(n) {
@@ -71,7 +83,7 @@ fn new_name<'a>(bundle: &'a Bundle<Global>, n: usize) -> Option<Name<'a>>
 }
 
 /// The name of the held patch at a place.
-fn held_name<'a>(repo: &'a Repo<Global>, h: usize) -> Option<Name<'a>>
+pub(crate) fn held_name<'a>(repo: &'a Repo<Global>, h: usize) -> Option<Name<'a>>
     ensures { MatchOption result (slice_get (infos_of repo.now.patches) h ≡ None) (λ name. slice_get (infos_of repo.now.patches) h ≡ Some name.now) }
 {
     if h < repo.len() {
@@ -85,6 +97,23 @@ fn new_patch(bundle: &Bundle<Global>, n: usize) -> Option<&Named<Global>>
     ensures { MatchOption result (slice_get bundle.now.patches n ≡ None) (λ patch. slice_get bundle.now.patches n ≡ Some patch.now) }
 {
     bundle.new_patches().get(n)
+}
+
+/// The held patch at a place.
+fn held_patch(repo: &Repo<Global>, h: usize) -> Option<&Named<Global>>
+    ensures { MatchOption result (slice_get repo.now.patches h ≡ None) (λ patch. slice_get repo.now.patches h ≡ Some patch.now) }
+{
+    if h < repo.len() {
+        return Some(repo.patch(h));
+    }
+    None
+}
+
+/// The primitive at a place of a patch.
+fn prim_at(patch: &Named<Global>, place: usize) -> Option<&Prim<Global>>
+    ensures { MatchOption result (slice_get patch.now.prims place ≡ None) (λ prim. slice_get patch.now.prims place ≡ Some (prim_of prim.now)) }
+{
+    patch.prims().get(place)
 }
 
 /// The dependency that a patch names at a place of its list.
@@ -106,7 +135,7 @@ fn is_held(repo: &Repo<Global>, name: &Info<Global>) -> bool
 
 /// A new patch, and the dependency that it names at a place of its list.
 fn lacking<'a>(repo: &Repo<Global>, bundle: &'a Bundle<Global>, n: usize, d: usize) -> Account<'a>
-    ensures { IsAccountOfRefusal repo.now.patches bundle.now (Refusal.MissingDependency n d) result }
+    ensures { (policy : Policy) → IsAccountOfRefusal repo.now.patches bundle.now policy (Refusal.MissingDependency n d) result }
 {
     let Some(patch) = new_patch(bundle, n) else {
         return Account::Nobody;
@@ -119,7 +148,7 @@ fn lacking<'a>(repo: &Repo<Global>, bundle: &'a Bundle<Global>, n: usize, d: usi
 
 /// Two held patches, the first of which can't do without the second.
 fn context_depends<'a>(repo: &'a Repo<Global>, h: usize, r: usize) -> Account<'a>
-    ensures { (b : Contents) → IsAccountOfRefusal repo.now.patches b (Refusal.ContextDepends h r) result }
+    ensures { (b : Contents) (policy : Policy) → IsAccountOfRefusal repo.now.patches b policy (Refusal.ContextDepends h r) result }
 {
     let Some(patch) = held_name(repo, h) else {
         return Account::Nobody;
@@ -132,7 +161,7 @@ fn context_depends<'a>(repo: &'a Repo<Global>, h: usize, r: usize) -> Account<'a
 
 /// Two new patches, the first of which can't do without the second.
 fn held_depends<'a>(bundle: &'a Bundle<Global>, h: usize, n: usize) -> Account<'a>
-    ensures { (repo : List Patch) → IsAccountOfRefusal repo bundle.now (Refusal.HeldDepends h n) result }
+    ensures { (repo : List Patch) (policy : Policy) → IsAccountOfRefusal repo bundle.now policy (Refusal.HeldDepends h n) result }
 {
     let Some(patch) = new_name(bundle, h) else {
         return Account::Nobody;
@@ -143,14 +172,39 @@ fn held_depends<'a>(bundle: &'a Bundle<Global>, h: usize, n: usize) -> Account<'
     Account::HeldDepends(patch, needed)
 }
 
+/// The primitives of the new patch of one place and of the held patch of another that can't pass each other.
+fn clash_at<'a>(
+    alloc: Global,
+    repo: &'a Repo<Global>,
+    bundle: &'a Bundle<Global>,
+    n: usize,
+    h: usize,
+) -> Option<Clashing<'a>>
+    ensures { IfSome result (AreClashing repo.now.patches bundle.now n h) }
+{
+    let Ok(Some(clash)) = find_clash(alloc, repo, bundle) else {
+        return None;
+    };
+    if clash.place != n {
+        return None;
+    }
+    if clash.held != h {
+        return None;
+    }
+    let new = prim_at(new_patch(bundle, n)?, clash.prim)?;
+    let held = prim_at(held_patch(repo, h)?, clash.held_prim)?;
+    Some(Clashing { new, held })
+}
+
 /// A new patch, and a held one.
 fn conflicts<'a>(
+    alloc: Global,
     repo: &'a Repo<Global>,
     bundle: &'a Bundle<Global>,
     n: usize,
     h: usize,
 ) -> Account<'a>
-    ensures { IsAccountOfRefusal repo.now.patches bundle.now (Refusal.Conflicts n h) result }
+    ensures { (policy : Policy) → IsAccountOfRefusal repo.now.patches bundle.now policy (Refusal.Conflicts n h) result }
 {
     let Some(new) = new_name(bundle, n) else {
         return Account::Nobody;
@@ -158,7 +212,7 @@ fn conflicts<'a>(
     let Some(held) = held_name(repo, h) else {
         return Account::Nobody;
     };
-    Account::Conflicts(new, held)
+    Account::Conflicts(new, held, clash_at(alloc, repo, bundle, n, h))
 }
 
 /// Where the new patch of this place doesn't apply.
@@ -186,7 +240,7 @@ fn does_not_fit<'a>(
     bundle: &'a Bundle<Global>,
     n: usize,
 ) -> Account<'a>
-    ensures { IsAccountOfRefusal repo.now.patches bundle.now (Refusal.DoesNotFit n) result }
+    ensures { (policy : Policy) → IsAccountOfRefusal repo.now.patches bundle.now policy (Refusal.DoesNotFit n) result }
 {
     match new_name(bundle, n) {
         Some(patch) => Account::DoesNotFit(patch, misfit_at(alloc, repo, bundle, n)),
@@ -194,17 +248,19 @@ fn does_not_fit<'a>(
     }
 }
 
-/// How many patches are held, and how many new ones aren't.
+/// How many patches are held, how many new ones aren't, and where a path would have too many names.
 fn full<'a>(
     alloc: Global,
-    repo: &Repo<Global>,
-    bundle: &Bundle<Global>,
+    repo: &'a Repo<Global>,
+    bundle: &'a Bundle<Global>,
+    policy: Policy,
 ) -> Result<Account<'a>, AllocError>
-    ensures { IfOk result (IsAccountOfRefusal repo.now.patches bundle.now Refusal.Full) }
+    ensures { IfOk result (IsAccountOfRefusal repo.now.patches bundle.now policy Refusal.Full) }
 {
     let held = repo.len();
     let fates = fates_of(alloc, repo, held, bundle)?;
-    Ok(Account::Full(held, fates.skipped.len()))
+    let depth = depth_of(alloc, repo, bundle, policy);
+    Ok(Account::Full(held, fates.skipped.len(), depth))
 }
 
 /// What became of each new patch, where the repository's last `count` patches were taken.
@@ -225,9 +281,10 @@ fn refused<'a>(
     alloc: Global,
     repo: &'a Repo<Global>,
     bundle: &'a Bundle<Global>,
+    policy: Policy,
     refusal: Refusal,
 ) -> Result<Account<'a>, AllocError>
-    ensures { IfOk result (IsAccountOfRefusal repo.now.patches bundle.now refusal) }
+    ensures { IfOk result (IsAccountOfRefusal repo.now.patches bundle.now policy refusal) }
 {
     match refusal {
         Refusal::MissingContext(_) => {
@@ -238,30 +295,31 @@ fn refused<'a>(
         Refusal::ContextDepends(h, r) => Ok(context_depends(repo, h, r)),
         Refusal::HeldDepends(h, n) => Ok(held_depends(bundle, h, n)),
         Refusal::DoesNotFit(n) => Ok(does_not_fit(alloc, repo, bundle, n)),
-        Refusal::Conflicts(n, h) => Ok(conflicts(repo, bundle, n, h)),
-        Refusal::Full => full(alloc, repo, bundle),
+        Refusal::Conflicts(n, h) => Ok(conflicts(alloc, repo, bundle, n, h)),
+        Refusal::Full => full(alloc, repo, bundle, policy),
         Refusal::NoMemory => Ok(Account::Nobody),
     }
 }
 
 /// Which patches a verdict on a bundle is about, and where they don't go together. The repository is the one that taking the
-/// bundle left.
+/// bundle by the policy left.
 ///
-/// It allocates, and fails where memory runs out; where it runs out only as the place in a patch is looked for, that place is
+/// It allocates, and fails where memory runs out; where it runs out only as a place in a patch is looked for, that place is
 /// left out.
 pub fn account_of<'a>(
     alloc: Global,
     repo: &'a Repo<Global>,
     bundle: &'a Bundle<Global>,
+    policy: Policy,
     verdict: Verdict,
 ) -> Result<Account<'a>, AllocError>
-    ensures { IfOk result (IsAccount repo.now.patches bundle.now verdict) }
+    ensures { IfOk result (IsAccount repo.now.patches bundle.now policy verdict) }
 {
     match verdict {
         Verdict::Taken(count) => sorted(alloc, repo, count, bundle),
         Verdict::TakenSome(count, _) => sorted(alloc, repo, count, bundle),
         Verdict::NothingNew => sorted(alloc, repo, 0, bundle),
         Verdict::Malformed(_) => Ok(Account::Nobody),
-        Verdict::Refused(refusal) => refused(alloc, repo, bundle, refusal),
+        Verdict::Refused(refusal) => refused(alloc, repo, bundle, policy, refusal),
     }
 }

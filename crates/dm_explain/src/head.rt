@@ -5,6 +5,9 @@ use dm_tree::Path;
 use std::alloc::Global;
 use std::fmt::{self, Display, Formatter, Write};
 
+/// At most so many bytes of the names of a path that is too deep are shown.
+const MOST_SHOWN: usize = 1000;
+
 /// A path with a slash before each name. What doesn't print is escaped, and so is what is no UTF-8.
 #[derive(Clone, Copy)]
 struct ShownPath<'a> {
@@ -44,6 +47,46 @@ impl Display for ShownPath<'_> {
             write_name(f, self.path.part(i))?;
         }
         Ok(())
+    }
+}
+
+/// Writes the names of a path from a place on while there is room for them, and returns whether there is for all.
+fn write_names<W: Write>(
+    f: &mut Formatter<W>,
+    path: &Path<Global>,
+    first: usize,
+    room: &mut usize,
+) -> Result<bool, fmt::Error> {
+    for i in first..path.len() {
+        let name = path.part(i);
+        if *room < name.len() {
+            return Ok(false);
+        }
+        *room -= name.len();
+        f.write_str("/")?;
+        write_name(f, name)?;
+    }
+    Ok(true)
+}
+
+/// What a path becomes by a move of what is at or under one path to another. It may be too deep, and a long one is cut.
+#[derive(Clone, Copy)]
+pub(crate) struct ShownMoved<'a> {
+    pub(crate) path: &'a Path<Global>,
+    pub(crate) from: &'a Path<Global>,
+    pub(crate) to: &'a Path<Global>,
+}
+
+impl Display for ShownMoved<'_> {
+    fn fmt<W: Write>(&self, f: &mut Formatter<W>) -> fmt::Result {
+        let mut room = MOST_SHOWN;
+        f.write_str(".")?;
+        if write_names(f, self.to, 0, &mut room)?
+            && write_names(f, self.path, self.from.len(), &mut room)?
+        {
+            return Ok(());
+        }
+        f.write_str("/ ..")
     }
 }
 

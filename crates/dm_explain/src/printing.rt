@@ -1,8 +1,11 @@
 //! The lines that an account prints.
-use crate::account::Account;
+use crate::account::{Account, Clashing};
+use crate::depth::{Depth, write_depth};
 use crate::fates::Fates;
+use crate::head::Head;
 use crate::misfits::write_misfit;
 use crate::shown::Who;
+use crate::skips::{NamedSkip, Reason, Skips};
 use dm_info::Info;
 use std::alloc::Global;
 use std::fmt::{self, Display, Formatter, Write};
@@ -65,8 +68,16 @@ fn write_lacking<W: Write>(
     f.write_str("which is neither held nor in the bundle. Ask the sender for it.\n")
 }
 
-/// Which limit a repository of so many patches would pass with so many more.
-fn write_full<W: Write>(f: &mut Formatter<W>, held: usize, more: usize) -> fmt::Result {
+/// Which limit a repository of so many patches would pass with so many more, and where.
+fn write_full<W: Write>(
+    f: &mut Formatter<W>,
+    held: usize,
+    more: usize,
+    depth: &Option<Depth<'_>>,
+) -> fmt::Result {
+    if let Some(depth) = depth {
+        return write_depth(f, depth);
+    }
     if held.saturating_add(more) > MOST_PATCHES {
         return writeln!(
             f,
@@ -87,11 +98,18 @@ fn write_fates<W: Write>(f: &mut Formatter<W>, fates: &Fates<'_>) -> fmt::Result
     write_list(f, "Held before", &fates.held)
 }
 
+/// Which primitives of two patches can't pass each other.
+fn write_clashing<W: Write>(f: &mut Formatter<W>, pair: &Clashing<'_>) -> fmt::Result {
+    let new = Head { prim: pair.new };
+    let held = Head { prim: pair.held };
+    writeln!(f, "by `{new}` of the first and `{held}` of the second.")
+}
+
 impl Display for Account<'_> {
     fn fmt<W: Write>(&self, f: &mut Formatter<W>) -> fmt::Result {
         match self {
             Account::Nobody => Ok(()),
-            Account::Full(held, more) => write_full(f, *held, *more),
+            Account::Full(held, more, depth) => write_full(f, *held, *more, depth),
             Account::MissingContext(missing) => write_missing(f, missing),
             Account::MissingDependency(patch, dependency, held) => {
                 write_lacking(f, patch, dependency, *held)
@@ -125,16 +143,68 @@ impl Display for Account<'_> {
                     None => Ok(()),
                 }
             }
-            Account::Conflicts(new, held) => {
+            Account::Conflicts(new, held, clashing) => {
                 write_pair(
                     f,
                     "The new patch",
                     new,
                     "conflicts with the held patch",
                     held,
-                )
+                )?;
+                match clashing {
+                    Some(pair) => write_clashing(f, pair),
+                    None => Ok(()),
+                }
             }
             Account::Sorted(fates) => write_fates(f, fates),
+        }
+    }
+}
+
+/// Writes a skipped patch, and why it is skipped.
+fn write_skip<W: Write>(f: &mut Formatter<W>, skip: &NamedSkip<'_>) -> fmt::Result {
+    writeln!(f, "  {}", Who { info: skip.patch })?;
+    match skip.by {
+        Reason::Conflicts(info) => {
+            writeln!(f, "    conflicts with the held patch {}", Who { info })
+        }
+        Reason::Needs(info) => {
+            writeln!(f, "    can't do without the skipped patch {}", Who { info })
+        }
+    }
+}
+
+impl Display for Skips<'_> {
+    fn fmt<W: Write>(&self, f: &mut Formatter<W>) -> fmt::Result {
+        if self.list.is_empty() {
+            return Ok(());
+        }
+        f.write_str("Skipped:\n")?;
+        for skip in &self.list {
+            write_skip(f, skip)?;
+        }
+        Ok(())
+    }
+}
+
+/// An account of a bundle of which patches were skipped, with why they were. It prints itself in lines for people.
+#[derive(Clone, Copy)]
+pub struct AccountWithSkips<'a> {
+    /// The account.
+    pub account: &'a Account<'a>,
+    /// Why patches were skipped.
+    pub skips: &'a Skips<'a>,
+}
+
+impl Display for AccountWithSkips<'_> {
+    fn fmt<W: Write>(&self, f: &mut Formatter<W>) -> fmt::Result {
+        match self.account {
+            Account::Sorted(fates) => {
+                write_list(f, "Taken", &fates.taken)?;
+                write!(f, "{}", self.skips)?;
+                write_list(f, "Held before", &fates.held)
+            }
+            account => write!(f, "{account}"),
         }
     }
 }

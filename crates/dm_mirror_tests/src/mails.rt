@@ -1,10 +1,9 @@
-//! Mails of one poster and of two: that they come, and what becomes of them once an end is gone. What comes in which order is
-//! in contracts.
+//! Mails of one poster and of two: that they come, and what becomes of them once an end is gone. Which mail comes, and why one
+//! isn't sent, is in contracts.
 
-use dm_mail::{Body, Inlet, MOST_BUNDLES, MailFault, Outlet, Text, Why, open};
+use dm_mail::{Inlet, MOST_BUNDLES, MailFault, Outlet, Text, Why, open};
 use std::alloc::{AllocError, Global};
 use std::sync::Wait;
-use std::test::Fail;
 
 /// The text of a bundle that is sent.
 fn text_of(alloc: Global, bytes: &[u8]) -> Result<Text, AllocError> {
@@ -22,120 +21,99 @@ fn open_one<R: Wait>(
 }
 
 /// Whether a bundle is sent.
-fn sends<R: Wait>(
-    rt: &R,
-    alloc: Global,
-    outlet: &mut Outlet,
-    bytes: &[u8],
-) -> Result<bool, AllocError> {
-    let text = text_of(alloc, bytes)?;
-    Ok(outlet.send(rt, text).is_ok())
-}
-
-/// Why a bundle isn't sent, if it comes back as it was.
-fn refusal<R: Wait>(
-    rt: &R,
-    alloc: Global,
-    outlet: &mut Outlet,
-    bytes: &[u8],
-) -> Result<Option<Why>, AllocError> {
-    let text = text_of(alloc, bytes)?;
-    match outlet.send(rt, text) {
-        Ok(()) => Ok(None),
-        Err(unsent) => {
-            if unsent.text.as_bytes() == bytes {
-                return Ok(Some(unsent.why));
-            }
-            Ok(None)
-        }
+fn sends<R: Wait>(rt: &R, alloc: Global, outlet: &mut Outlet) -> bool {
+    match text_of(alloc, b"x") {
+        Ok(text) => outlet.send(rt, text).is_ok(),
+        Err(_) => false,
     }
 }
 
-/// Whether the next mail is this one: a bundle of this text, or a mark.
-fn takes<R: Wait>(
-    rt: &R,
-    inlet: &mut Inlet,
-    poster: usize,
-    number: usize,
-    text: Option<&[u8]>,
-) -> bool {
-    let Ok(mail) = inlet.take(rt) else {
+/// Whether a bundle comes back, since the inlet is gone.
+fn is_sent_back<R: Wait>(rt: &R, alloc: Global, outlet: &mut Outlet) -> bool {
+    let Ok(text) = text_of(alloc, b"x") else {
         return false;
     };
-    let is_body = match (&mail.body, text) {
-        (Body::Bundle(bundle), Some(text)) => bundle.as_bytes() == text,
-        (Body::Close, None) => true,
-        _ => false,
-    };
-    mail.poster == poster && mail.number == number && is_body
+    match outlet.send(rt, text) {
+        Ok(()) => false,
+        Err(unsent) => unsent.why == Why::Gone,
+    }
 }
 
 /// Whether as many bundles as may be come, each taken at once, and not one more is sent.
-fn send_all<R: Wait>(
-    rt: &R,
-    alloc: Global,
-    outlet: &mut Outlet,
-    inlet: &mut Inlet,
-) -> Result<bool, AllocError> {
-    for number in 0..MOST_BUNDLES {
-        if !sends(rt, alloc, outlet, b"x")? {
-            return Ok(false);
-        }
-        if !takes(rt, inlet, 0, number, Some(b"x")) {
-            return Ok(false);
+fn sends_all<R: Wait>(rt: &R, alloc: Global, outlet: &mut Outlet, inlet: &mut Inlet) -> bool {
+    for _ in 0..MOST_BUNDLES {
+        if !sends(rt, alloc, outlet) || inlet.take(rt).is_err() {
+            return false;
         }
     }
-    Ok(refusal(rt, alloc, outlet, b"y")? == Some(Why::Limit))
+    !sends(rt, alloc, outlet)
 }
 
-/// Whether a poster sends all that it may within this bound, and then its mark, after which no mail comes.
-fn sends_all_within<R: Wait>(rt: &R, alloc: Global, bound: usize) -> Result<bool, Fail> {
-    let (outlet, mut inlet) = open_one(rt, alloc, bound)?;
-    let Some(mut outlet) = outlet else {
-        return Ok(false);
+/// Whether all bundles come, then the mark, and then no mail, although what was sent isn't settled.
+fn ends_with_its_mark<R: Wait>(rt: &R, alloc: Global, outlet: Outlet, inlet: &mut Inlet) -> bool {
+    let mut outlet = outlet;
+    let are_taken = sends_all(rt, alloc, &mut outlet, inlet);
+    match outlet.close(rt) {
+        Ok(_sent) => are_taken && inlet.take(rt).is_ok() && inlet.take(rt).is_err(),
+        Err(_) => false,
+    }
+}
+
+/// Whether a poster sends all that it may within this bound, and then its mark.
+fn sends_all_within<R: Wait>(rt: &R, alloc: Global, bound: usize) -> bool {
+    let Ok((outlet, mut inlet)) = open_one(rt, alloc, bound) else {
+        return false;
     };
-    let are_sent = send_all(rt, alloc, &mut outlet, &mut inlet)?;
-    let is_closed = outlet.close(rt).is_ok();
-    let is_taken = takes(rt, &mut inlet, 0, MOST_BUNDLES, None);
-    Ok(are_sent && is_closed && is_taken && inlet.take(rt).is_err())
+    match outlet {
+        Some(outlet) => ends_with_its_mark(rt, alloc, outlet, &mut inlet),
+        None => false,
+    }
 }
 
 #[test]
-fn a_poster_sends_a_thousand_bundles(rt: HostRuntime) -> Result<(), Fail> {
-    assert!(rt; sends_all_within(&rt, rt.alloc(), 1)?, "one mail waits");
-    assert!(rt; sends_all_within(&rt, rt.alloc(), 64)?, "64 mails may wait");
-    Ok(())
+fn a_poster_sends_a_thousand_bundles(rt: HostRuntime) {
+    assert!(rt; sends_all_within(&rt, rt.alloc(), 1), "one mail waits");
+    assert!(rt; sends_all_within(&rt, rt.alloc(), 64), "64 mails may wait");
+}
+
+/// Whether a bundle and the mark come back.
+fn is_refused<R: Wait>(rt: &R, alloc: Global, outlet: Outlet) -> bool {
+    let mut outlet = outlet;
+    is_sent_back(rt, alloc, &mut outlet) && outlet.close(rt).is_err()
 }
 
 #[test]
-fn an_inlet_that_is_gone_takes_nothing(rt: HostRuntime) -> Result<(), Fail> {
-    let (outlet, inlet) = open_one(&rt, rt.alloc(), 1)?;
-    let mut outlet = outlet.ok_or("an outlet")?;
+fn an_inlet_that_is_gone_takes_nothing(rt: HostRuntime) {
+    let Ok((outlet, inlet)) = open_one(&rt, rt.alloc(), 1) else {
+        return assert!(rt; false, "an outlet and an inlet");
+    };
     drop(inlet);
-    let why = refusal(&rt, rt.alloc(), &mut outlet, b"x")?;
-    assert!(rt; why == Some(Why::Gone), "a bundle comes back");
-    assert!(rt; outlet.close(&rt).is_err(), "a mark comes back");
-    Ok(())
+    let is_back = match outlet {
+        Some(outlet) => is_refused(&rt, rt.alloc(), outlet),
+        None => false,
+    };
+    assert!(rt; is_back, "a bundle and a mark come back");
 }
 
-/// Whether what one of two posters sent comes once it is gone, and then no mail comes once both are.
-fn is_cut_after_both<R: Wait>(rt: &R, alloc: Global) -> Result<bool, Fail> {
-    let (mut outlets, mut inlet) = open(rt, alloc, 2, 4)?;
-    let Some(mut second) = outlets.pop() else {
-        return Ok(false);
-    };
-    drop(outlets);
-    let is_sent = sends(rt, alloc, &mut second, b"x")?;
-    let is_taken = takes(rt, &mut inlet, 1, 0, Some(b"x"));
-    let is_last_sent = sends(rt, alloc, &mut second, b"y")?;
-    drop(second.leave());
-    let is_last_taken = takes(rt, &mut inlet, 1, 1, Some(b"y"));
-    let is_cut = inlet.take(rt).is_err();
-    Ok(is_sent && is_taken && is_last_sent && is_last_taken && is_cut)
+/// Whether what one poster sends comes, also once the poster is gone, and then no mail.
+fn is_cut_after<R: Wait>(rt: &R, alloc: Global, outlet: Outlet, inlet: &mut Inlet) -> bool {
+    let mut outlet = outlet;
+    let is_taken = sends(rt, alloc, &mut outlet) && inlet.take(rt).is_ok();
+    let is_sent = sends(rt, alloc, &mut outlet);
+    drop(outlet.leave());
+    is_taken && is_sent && inlet.take(rt).is_ok() && inlet.take(rt).is_err()
 }
 
 #[test]
-fn outlets_that_are_all_gone_cut_the_mail(rt: HostRuntime) -> Result<(), Fail> {
-    assert!(rt; is_cut_after_both(&rt, rt.alloc())?);
-    Ok(())
+fn outlets_that_are_all_gone_cut_the_mail(rt: HostRuntime) {
+    let Ok((mut outlets, mut inlet)) = open(&rt, rt.alloc(), 2, 4) else {
+        return assert!(rt; false, "two outlets and an inlet");
+    };
+    let second = outlets.pop();
+    drop(outlets);
+    let is_cut = match second {
+        Some(outlet) => is_cut_after(&rt, rt.alloc(), outlet, &mut inlet),
+        None => false,
+    };
+    assert!(rt; is_cut, "what the second sends, and then no mail");
 }

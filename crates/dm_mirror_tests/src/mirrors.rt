@@ -2,9 +2,11 @@
 
 use dm_mirror::{Gate, Plan, WriteFault, run, write_report};
 use dm_repo::Policy;
+use std::alloc::Global;
 use std::io::{ErrorKind, Write};
+use std::sync::Wait;
 use std::sync::atomic::{AtomicUsize, Ordering};
-use std::test::Fail;
+use std::thread::Threads;
 use std::{io, thread};
 
 /// Adds the directory `./d`.
@@ -51,8 +53,16 @@ impl Gate for Meeting {
     }
 }
 
+/// How many mirrors took, in a run whose gate this is.
+fn took<R: Threads + Wait + Sync>(rt: &R, alloc: Global, plan: Plan, gate: &Meeting) -> usize {
+    match run(rt, alloc, plan, gate) {
+        Ok(outcome) => outcome.mirrors(),
+        Err(_) => 0,
+    }
+}
+
 #[test]
-fn mirrors_take_side_by_side(rt: HostRuntime) -> Result<(), Fail> {
+fn mirrors_take_side_by_side(rt: HostRuntime) {
     let gate = Meeting {
         raised: [AtomicUsize::new(0), AtomicUsize::new(0)],
         missed: AtomicUsize::new(0),
@@ -60,11 +70,12 @@ fn mirrors_take_side_by_side(rt: HostRuntime) -> Result<(), Fail> {
     let texts = [ADDS_D];
     let lists: [&[&[u8]]; 2] = [&texts, &[]];
     let bases: [&[u8]; 2] = [b"", b""];
-    let plan = Plan::build(rt.alloc(), &lists, &bases, &[Policy::Refuse; 2], 1)?;
-    let outcome = run(&rt, rt.alloc(), plan, &gate)?;
+    let count = match Plan::build(rt.alloc(), &lists, &bases, &[Policy::Refuse; 2], 1) {
+        Ok(plan) => took(&rt, rt.alloc(), plan, &gate),
+        Err(_) => 0,
+    };
+    assert!(rt; count == 2, "both took");
     assert!(rt; gate.missed.load(Ordering::SeqCst) == 0, "both mirrors met");
-    assert!(rt; outcome.mirrors() == 2, "both took");
-    Ok(())
 }
 
 /// Takes one byte at a time, and its flush fails.

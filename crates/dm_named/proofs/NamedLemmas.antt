@@ -1,5 +1,5 @@
 -- Lists of which elements are compared or copied one after the other.
-use Rattle.std.proofs.Common.{Option, Some, None, ◌≡◌, ◌<◌, ◌+◌, ℕ, List, [], ◌∷◌, ◌++◌, length, get_or, take, map, refl, sym, ap, ◌∙◌}
+use Rattle.std.proofs.Common.{Option, Some, None, ◌≡◌, ◌<◌, ◌+◌, ℕ, List, [], ◌∷◌, ◌++◌, length, get_or, take, map, refl, sym, ap, ◌∙◌, append_assoc}
 use Rattle.std.proofs.lemmas.List.{take_more, map_push}
 use Rattle.std.specs.List.{AllByRecursion}
 use Rattle.dm_prim.specs.Primitives.{Prim, inv_all}
@@ -51,3 +51,7 @@ all_more_of P f xs i x lt is here all =
 pub known_undone : (ps qs : List Prim) (t : Option TouchedPaths) → qs ≡ inv_all ps → IsTouchKnown ps t → IsTouchKnown qs t
 known_undone ps qs None e h = tt
 known_undone ps qs (Some t) e h = rw e (inverses_touch_the_same ps t h)
+
+-- three texts are appended, one after the other
+pub three_more : (a b c d e f h : List ℕ) → e ≡ a ++ b → f ≡ e ++ c → h ≡ f ++ d → h ≡ a ++ (b ++ (c ++ d))
+three_more a b c d e f h x y z = rw (z, y, x) (simp append_assoc refl)

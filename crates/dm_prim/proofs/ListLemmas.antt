@@ -1,6 +1,6 @@
 -- Lists that are gone through one by one.
 use Rattle.std.proofs.Common.{◌≡◌, ℕ, ◌+◌, ◌<◌, ◌≤◌, List, [], ◌∷◌, ◌++◌, take, drop, length, reverse, map, get_or, sym, ap, ap₂, ◌∙◌, refl, arith, append_assoc, append-nil, length-append, take-append-drop}
-use Rattle.std.proofs.lemmas.List.{take_more, map_push, get_or-map, length-map, same_from_push}
+use Rattle.std.proofs.lemmas.List.{take_all, take_more, map_push, get_or-map, length-map, same_from_push}
 use Rattle.std.proofs.lemmas.Grind.{reverse_onto}
 use Rattle.dm_prim.specs.Rectangles.{CellRow, none, next, empty, row}
 use Rattle.dm_prim.specs.Primitives.{Prim, Move, inv, inv_all}
@@ -34,6 +34,9 @@ pub copied_more : {Y Z : Type 0} (ps : List (code.Primitive Y)) (qs qs' : List (
     prims_of qs ≡ take i (prims_of ps) → prims_of qs' ≡ take (i + 1) (prims_of ps)
 copied_more ps qs qs' i p q l e same new h =
     ap (λ z. prims_of z) new ∙ map_push (λ x. prim_of x) qs q ∙ ap₂ (λ a b. a ++ b ∷ []) h same ∙ sym (prims_more ps i p l e)
+
+pub copied_all : {Y Z : Type 0} (ps : List (code.Primitive Y)) (qs : List (code.Primitive Z)) (i : ℕ) → length ps ≤ i → prims_of qs ≡ take i (prims_of ps) → prims_of qs ≡ prims_of ps
+copied_all ps qs i l h = h ∙ take_all i (prims_of ps) (rw (count_of ps) l)
 
 empty_of : (xs : List Prim) → length xs ≤ 0 → xs ≡ []
 empty_of [] l = refl

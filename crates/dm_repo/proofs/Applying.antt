@@ -36,17 +36,23 @@ stopped p s LineRange n r = inl r
 stopped p s OldDiffers n r = inl r
 stopped p s NoLines n r = inl r
 
--- and the patch that it is of
-pub fault_stops : {x : Patch} {s : LawfulMap} {k : ℕ} {t : Tree} {e : TreeFault} → e ≢ NoMemory → FaultsAt x s k t e → PatchStops IsStopped x s
-fault_stops {x} {k} {e} n f = record {
+-- the primitives up to the one with a fault lead shallowly, and the fault may come there
+pub fault_there : {x : Patch} {s : LawfulMap} {k : ℕ} {t : Tree} {e : TreeFault} → FaultsAt x s k t e → PatchStops (λ p m. AdmitsFault p m.map e) x s
+fault_there {x} {k} f = record {
   before = take k x.prims;
   prim = f.prim;
   after = drop (k + 1) x.prims;
   tree = f.reached;
   at = around x.prims k f.prim (slice_get_within x.prims k f.prim f.prim_at) (sym (get_or_from_slice_get x.prims k f.prim f.prim f.prim_at));
   leads = f.leads;
-  stops = stopped f.prim f.reached e n (rw f.is_map f.admits);
+  stops = rw f.is_map f.admits;
 }
+
+-- and it stops the patch
+pub fault_stops : {x : Patch} {s : LawfulMap} {k : ℕ} {t : Tree} {e : TreeFault} → e ≢ NoMemory → FaultsAt x s k t e → PatchStops IsStopped x s
+fault_stops {e} n f =
+    let q = fault_there f in
+    record { before = q.before; prim = q.prim; after = q.after; tree = q.tree; at = q.at; leads = q.leads; stops = stopped q.prim q.tree e n q.stops }
 
 pub refused_stops : {E : Type 0} (G : Type 0) {x : Patch} {s : LawfulMap} {k : ℕ} {t : Tree} (e : TreeFault) (r : Result Bool E) → FaultsAt x s k t e → IfOk r (λ leads. (leads ≡ false) × (e ≢ NoMemory)) →
     IfOk r (λ leads. MatchBool leads G (PatchStops IsStopped x s))

@@ -34,12 +34,15 @@ goes_too_deep {s} {t} {xs} x f r = go (runs_part (patches f.before) (rw (ap patc
         (x, record { before = f.before; after = f.after; tree = f.tree; at = f.at; leads = f.leads; stops = patch_only_deep f.stops h })
 
 -- the front of a repository leads on from the root alone
-pub front_is_full : (repo : List Patch) (b : Contents) {front rest new : List Placed} {s : LawfulMap} (x : Placed) → IsRepo repo → IsBundleSplit repo b front rest new → IsRoot s → FitStops IsStopped s front x → FrontIsFull repo b
-front_is_full repo b {front} {rest} {new} {s} x ok p r f =
+pub front_leads : (repo : List Patch) (b : Contents) {front rest new : List Placed} {s : LawfulMap} → IsRepo repo → IsBundleSplit repo b front rest new → IsRoot s → (t : LawfulMap) × InTurn PatchLeads (patches front) s t
+front_leads repo b {front} {rest} {s} ok p r =
     let a = (split_folds repo b front rest p.repo_split.split ok.tree).0 (grows_fold repo ok.tree ok.folds) in
     let e : a.start ≡ s = root_one a.start s a.is_root r in
     let q = runs_part (patches front) (rw e at a.runs) in
-    (front, rest, new, p, (s, r, goes_too_deep x f q.1))
+    (q.0, q.1)
+
+pub front_is_full : (repo : List Patch) (b : Contents) {front rest new : List Placed} {s : LawfulMap} (x : Placed) → IsRepo repo → IsBundleSplit repo b front rest new → IsRoot s → FitStops IsStopped s front x → FrontIsFull repo b
+front_is_full repo b {front} {rest} {new} {s} x ok p r f = (front, rest, new, p, (s, r, goes_too_deep x f (front_leads repo b ok p r).1))
 
 -- and what is merged leads on from its tree
 pub merge_is_full : (repo : List Patch) (b : Contents) (policy : Policy) {rest new merged : List Placed} (skipped : ℕ) {s : LawfulMap} (x : Placed) →

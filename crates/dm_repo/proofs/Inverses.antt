@@ -13,7 +13,7 @@ inv-inv : (p : Prim) → inv (inv p) ≡ p
 inv-inv (At p w) = ap (λ v. At p v) (inv_work-inv_work w)
 inv-inv (Move a b) = refl
 
-inv_all-append : (xs ys : List Prim) → inv_all (xs ++ ys) ≡ inv_all ys ++ inv_all xs
+pub inv_all-append : (xs ys : List Prim) → inv_all (xs ++ ys) ≡ inv_all ys ++ inv_all xs
 inv_all-append [] ys = sym (append-nil (inv_all ys))
 inv_all-append (x ∷ xs) ys = rw (inv_all-append xs ys) (append_assoc (inv_all ys) (inv_all xs) (inv x ∷ []))
 

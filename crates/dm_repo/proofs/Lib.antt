@@ -19,10 +19,13 @@ pub mod Making
 pub mod Firsts
 pub mod AskedRows
 pub mod SiftLemmas
+pub mod SkipLemmas
 pub mod SiftedNames
 pub mod FoldLemmas
 pub mod MisfitLemmas
+pub mod ClashLemmas
 pub mod Depths
+pub mod OverflowLemmas
 pub mod Following
 pub mod OneAnswer
 pub mod Turning

@@ -14,7 +14,7 @@ use Rattle.dm_repo.proofs.Staircases.{join_more, merge_along}
 
 module _ {X : Type 0} where
   -- from k on the two are alike
-  same_at : (xs ys : List X) (k : ℕ) (x : X) → k < length xs → length ys ≡ length xs → drop k ys ≡ drop k xs →
+  pub same_at : (xs ys : List X) (k : ℕ) (x : X) → k < length xs → length ys ≡ length xs → drop k ys ≡ drop k xs →
       (get_or ys k x ≡ get_or xs k x) × (drop (k + 1) ys ≡ drop (k + 1) xs)
   same_at xs ys k x l n e =
       let a : drop k xs ≡ get_or xs k x ∷ drop (k + 1) xs = drop_more xs k x l in

@@ -174,7 +174,7 @@ rect_length : {rest new new' rest' : List Placed} → MergeRectangle PlacedMerge
 rect_length bare = refl
 rect_length (over t g) = rect_length g ∙ strip_length t
 
-pass_length : {xs xs' : List Placed} {h h' : Placed} → Passes PlacedCommutes xs h h' xs' → length xs' ≡ length xs
+pub pass_length : {xs xs' : List Placed} {h h' : Placed} → Passes PlacedCommutes xs h h' xs' → length xs' ≡ length xs
 pass_length empty = refl
 pass_length (row g (next c none)) = ap suc (pass_length g)
 
@@ -209,20 +209,3 @@ sift_whole (n ∷ new) = merges (over_none bare) (sift_whole new)
 pub whole_under : (policy : Policy) {new : List Placed} → new ≢ [] → MergesUnder policy [] new new 0
 whole_under Refuse some = (([], bare), refl)
 whole_under Skip {new} some = (some, ([], sift_whole new, refl))
-
--- the steps of a loop: what comes of the patches that are left completes what was merged of those before them
-module _ (rest0 new0 : List Placed) where
-  abbrev pub Completes : List Placed → List Placed → List Placed → List Placed → Type 0
-  Completes skipped rest new merged = (more left : List Placed) → Sifts skipped rest new more left → Sifts [] rest0 new0 (merged ++ more) left
-
-  pub completes_merged : (merged : List Placed) {skipped rest new skipped' rest' merged' : List Placed} {n n' : Placed} → Completes skipped rest (n ∷ new) merged →
-      MergesOver skipped rest n n' skipped' rest' → merged' ≡ merged ++ n' ∷ [] → Completes skipped' rest' new merged'
-  completes_merged merged {n'} f o e more left g = rw (e, append_assoc merged (n' ∷ []) more) (f (n' ∷ more) left (merges o g))
-
-  pub completes_skipped : (merged : List Placed) {skipped skipped1 rest rest1 new skipped' : List Placed} {n : Placed} → Completes skipped rest (n ∷ new) merged →
-      MergesNowhere skipped rest n → skipped1 ≡ skipped → rest1 ≡ rest → skipped' ≡ skipped1 ++ n ∷ [] → Completes skipped' rest1 new merged
-  completes_skipped merged {n} f stuck s r e more left g = f more left (skips stuck (rw (e ∙ ap (λ l. l ++ n ∷ []) s, r) at g))
-
-  pub none_left : (skipped rest new merged : List Placed) → Completes skipped rest new merged → length new ≡ 0 → Sifts [] rest0 new0 merged skipped
-  none_left skipped rest [] merged f e = rw (append-nil merged) at (f [] skipped ends)
-  none_left skipped rest (x ∷ new) merged f e = absurd (cc)

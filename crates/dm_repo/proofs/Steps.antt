@@ -1,5 +1,6 @@
 -- From marks, stops and blocks to what weighing answers.
 use Rattle.std.proofs.Common.{◌≡◌, ◌↔◌, ℕ, zero, suc, ◌+◌, ◌<◌, Bool, true, false, List, [], ◌∷◌, ◌++◌, length, map, slice_get, Some, Result, Ok, Err, MatchResult, refl, sym, ap, ap₂, subst, arith, add-zero}
+use Rattle.std.specs.Prelude.{IfErr, IfOk}
 use Rattle.std.specs.List.{All, Contains}
 use Rattle.dm_info.specs.PatchInfo.{PatchInfo}
 use Rattle.dm_named.specs.Patches.{Patch}
@@ -31,6 +32,11 @@ use Rattle.dm_repo.proofs.Alike.{Alike, no_more, and, split_alike}
 pub match_map : {X E : Type 0} {P P' : X → Type 0} {Q Q' : E → Type 0} (r : Result X E) → MatchResult r P Q → ((x : X) → P x → P' x) → ((e : E) → Q e → Q' e) → MatchResult r P' Q'
 match_map (Ok x) h f g = f x h
 match_map (Err e) h f g = g e h
+
+-- an answer of two facts, told clause by clause
+pub clauses : {X E : Type 0} (P P' : X → Type 0) (Q : E → Type 0) (r : Result X E) → MatchResult r (λ x. P x × P' x) Q → IfOk r P × IfErr r Q × IfOk r P'
+clauses P P' Q (Ok x) h = (h.0, tt, h.1)
+clauses P P' Q (Err e) h = (tt, h, tt)
 
 -- a missing context, as splitting and as weighing tell it
 pub context_to_split : (repo : List Patch) (b : Contents) (why : Refusal) → RefusesContext repo b why → RefusesToSplit repo b why

@@ -10,7 +10,10 @@ pub mod CommonSets
 pub mod Marking
 pub mod Weighing
 pub mod Weighed
+pub mod Skips
 pub mod Misfits
+pub mod Clashes
+pub mod Overflows
 pub mod Splitting
 pub mod Orders
 pub mod Words

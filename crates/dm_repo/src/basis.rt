@@ -1,20 +1,23 @@
 //! What the new patches of a bundle are applied to and merged with.
-ghost use Rattle.std.specs.Prelude.{◌≡◌, length, MatchOption, MatchResult};
+ghost use Rattle.std.specs.Prelude.{◌≡◌, ◌≤◌, List, ◌++◌, length, take, MatchOption, MatchResult};
 ghost use Rattle.dm_bundle.specs.Bundles.{Contents};
 ghost use Rattle.dm_repo.specs.declared.policy.Policy.{Policy};
-ghost use Rattle.dm_repo.specs.Weighing.{IsNothingNew, RefusesBundle};
+ghost use Rattle.dm_repo.specs.Squares.{Placed, patches, placed};
+ghost use Rattle.dm_repo.specs.Repositories.{IsTreeOf};
+ghost use Rattle.dm_repo.specs.Weighing.{Fits, IsBundleSplit, IsNothingNew, RefusesBundle};
 ghost use Rattle.dm_repo.specs.Weighed.{IsLookedUp};
 ghost use Rattle.dm_repo.specs.Misfits.{IsBasis};
 
-use crate::fit::front_tree;
+use crate::fit::{fit, fit_front};
 use crate::lookup::look_up;
-use crate::marks::{Marks, are_set};
-use crate::parted::{kept_in_place, split_held, split_repo};
+use crate::marks::Marks;
+use crate::parted::{Halves, kept_in_place, split_held, split_repo};
 use crate::refusal::Refusal;
 use crate::repo::{Repo, copy_patches};
 use dm_bundle::Bundle;
 use dm_named::{Named, Passing};
 use dm_tree::Tree;
+use dm_tree::laws::tree_is_lawful;
 use std::alloc::Allocator;
 
 /// The tree of what a bundle was made from, the rest of the repository, and the patches to merge.
@@ -25,8 +28,33 @@ pub(crate) struct Basis<A: Allocator> {
     pub(crate) new: Vec<(usize, Passing<A>), A>,
 }
 
+/// The tree that the front makes. Its first patches stayed where they are, and where all did it is the repository's.
+fn front_tree<A: Allocator, B: Allocator + Copy>(
+    alloc: B,
+    repo: &Repo<A>,
+    kept: usize,
+    parted: &Halves<B>,
+) -> Result<Tree<B>, Refusal>
+    requires { kept ≤ length repo.now.patches }
+    ensures { (b : Contents) (new : List Placed) →
+        IsBundleSplit repo.now.patches b (placed (take kept repo.now.patches) ++ parted.now.front.items) parted.now.rest.items new → MatchResult result
+        (λ tree. IsTreeOf (patches (placed (take kept repo.now.patches) ++ parted.now.front.items)) tree)
+        (λ why. (policy : Policy) → RefusesBundle repo.now.patches b policy why) }
+{
+    if parted.rest.is_empty() {
+        let tree = repo.tree_copy(alloc)?;
+        return Ok(tree);
+    }
+    let mut tree = Tree::new(alloc);
+    tree_is_lawful(&tree);
+    match fit_front(&repo.patches()[..kept], &parted.front, &mut tree) {
+        Ok(()) => Ok(tree),
+        Err(stop) => Err(stop.full()),
+    }
+}
+
 /// Splits the repository and new patches whose names were looked up, and applies the front.
-fn split_both<A: Allocator, B: Allocator + Copy>(
+pub(crate) fn split_both<A: Allocator, B: Allocator + Copy>(
     alloc: B,
     repo: &Repo<A>,
     new: Vec<Named<B>, B>,
@@ -39,17 +67,10 @@ fn split_both<A: Allocator, B: Allocator + Copy>(
         (λ basis. IsBasis repo.now.patches b basis.tree basis.rest.items basis.new.items)
         (λ why. (policy : Policy) → RefusesBundle repo.now.patches b policy why) }
 {
-    repo.lawful();
-    if are_set(&marks.common) {
-        let new = split_held(alloc, new, marks)?;
-        let tree = repo.tree_copy(alloc)?;
-        let rest = Vec::new(alloc);
-        return Ok(Basis { tree, rest, new });
-    }
     let kept = kept_in_place(&marks.common);
     let parted = split_repo(alloc, repo, marks, kept)?;
     let new = split_held(alloc, new, marks)?;
-    let tree = front_tree(alloc, &repo.patches()[..kept], &parted.front)?;
+    let tree = front_tree(alloc, repo, kept, &parted)?;
     Ok(Basis {
         tree,
         rest: parted.rest,
@@ -75,4 +96,25 @@ pub(crate) fn find_basis<A: Allocator + Copy, B: Allocator + Copy>(
     let new = copy_patches(alloc, bundle.new_patches())?;
     let basis = split_both(alloc, repo, new, &marks)?;
     Ok(Some(basis))
+}
+
+/// What a bundle's new patches are applied to and merged with, where they apply to it: none where nothing is new.
+pub(crate) fn find_fitted<A: Allocator + Copy, B: Allocator + Copy>(
+    alloc: B,
+    repo: &Repo<A>,
+    bundle: &Bundle<B>,
+) -> Result<Option<Basis<B>>, Refusal>
+    ensures { MatchResult result
+        (λ found. MatchOption found
+        (IsNothingNew repo.now.patches bundle.now)
+        (λ basis. Fits repo.now.patches bundle.now basis.rest.items basis.new.items))
+        (λ why. (policy : Policy) → RefusesBundle repo.now.patches bundle.now policy why) }
+{
+    let Some(mut basis) = find_basis(alloc, repo, bundle)? else {
+        return Ok(None);
+    };
+    match fit(&basis.new, &mut basis.tree) {
+        Ok(()) => Ok(Some(basis)),
+        Err(stop) => Err(stop.does_not_fit()),
+    }
 }

@@ -7,10 +7,10 @@ ghost use Rattle.dm_bundle.specs.Bundles.{Contents};
 ghost use Rattle.dm_repo.specs.declared.policy.Policy.{Policy};
 ghost use Rattle.dm_repo.specs.Folds.{IsStopped, PatchLeadsShallowly, PatchStops};
 ghost use Rattle.dm_repo.specs.Squares.{Placed, patches, placed};
-ghost use Rattle.dm_repo.specs.Repositories.{IsMapOf, IsRepo, IsTreeOf};
-ghost use Rattle.dm_repo.specs.Weighing.{FitStops, Fits, IsBundleSplit, RefusesBundle};
+ghost use Rattle.dm_repo.specs.Repositories.{IsMapOf};
+ghost use Rattle.dm_repo.specs.Weighing.{FitStops, RefusesBundle};
 ghost use Rattle.dm_repo.specs.Stops.{StopsAt};
-ghost use Rattle.dm_repo.specs.Misfits.{FaultsAt};
+ghost use Rattle.dm_repo.specs.Misfits.{FaultsAt, IsBasis, IsFitted};
 
 use crate::refusal::Refusal;
 use crate::stop::Stop;
@@ -100,7 +100,7 @@ fn fit_first<A: Allocator, B: Allocator + Copy>(
 }
 
 /// Applies the front from the root alone: first the patches that stayed where they are, then those that were copied.
-fn fit_front<A: Allocator, B: Allocator + Copy>(
+pub(crate) fn fit_front<A: Allocator, B: Allocator + Copy>(
     kept: &[Named<A>],
     copied: &[(usize, Passing<B>)],
     tree: &mut Tree<B>,
@@ -113,38 +113,18 @@ fn fit_front<A: Allocator, B: Allocator + Copy>(
     fit(copied, tree)
 }
 
-/// The tree that the front makes. Its first patches stayed where they are.
-pub(crate) fn front_tree<A: Allocator, B: Allocator + Copy>(
-    alloc: B,
-    kept: &[Named<A>],
-    copied: &[(usize, Passing<B>)],
-) -> Result<Tree<B>, Refusal>
-    ensures { (repo : List Patch) (b : Contents) (rest new : List Placed) → IsRepo repo → IsBundleSplit repo b (placed kept.now ++ copied.now) rest new → MatchResult result
-        (λ tree. IsTreeOf (patches (placed kept.now ++ copied.now)) tree)
+/// Applies the patches to merge to the tree of what the bundle was made from.
+pub(crate) fn fit_new<A: Allocator + Copy>(
+    tree: Tree<A>,
+    new: &[(usize, Passing<A>)],
+) -> Result<Tree<A>, Refusal>
+    ensures { (repo : List Patch) (b : Contents) (rest : List Placed) → IsBasis repo b tree rest new.now → MatchResult result
+        (λ fitted. IsFitted repo b rest new.now fitted)
         (λ why. (policy : Policy) → RefusesBundle repo b policy why) }
 {
-    let mut tree = Tree::new(alloc);
-    tree_is_lawful(&tree);
-    match fit_front(kept, copied, &mut tree) {
-        Ok(()) => Ok(tree),
-        Err(stop) => Err(stop.full()),
-    }
-}
-
-/// Applies the front, and the patches to merge after it. The first patches of the front stayed where they are.
-pub(crate) fn check_fit<A: Allocator, B: Allocator + Copy>(
-    alloc: B,
-    kept: &[Named<A>],
-    copied: &[(usize, Passing<B>)],
-    new: &[(usize, Passing<B>)],
-) -> Result<(), Refusal>
-    ensures { (repo : List Patch) (b : Contents) (policy : Policy) (rest : List Placed) → IsRepo repo → IsBundleSplit repo b (placed kept.now ++ copied.now) rest new.now → MatchResult result
-        (λ _. Fits repo b rest new.now)
-        (λ why. RefusesBundle repo b policy why) }
-{
-    let mut tree = front_tree(alloc, kept, copied)?;
+    let mut tree = tree;
     match fit(new, &mut tree) {
-        Ok(()) => Ok(()),
+        Ok(()) => Ok(tree),
         Err(stop) => Err(stop.does_not_fit()),
     }
 }

@@ -4,7 +4,9 @@
 //! looks up what a bundle rests on, splits the repository into that and the rest as [`split`] does, applies the new patches
 //! after the first part and merges them with the second; [`weigh_owned`] does so with a bundle that is given up. What they
 //! answer is copied by [`Repo::prepare`], which makes all room, and appended by [`Repo::commit`], which can't fail.
-//! [`find_misfit`] tells people where a new patch doesn't fit, and why.
+//! For people [`find_misfit`] tells where a new patch doesn't fit, and why; [`find_overflow`] where a path gets too many names;
+//! [`find_clash`] which primitives of a new patch and of a held one can't pass each other; [`find_skips`] which patches are
+//! skipped where conflicts are, and what stops each of them.
 //!
 //! The crate stands on dm_bundle's bundles, on dm_named's patches and when they commute, and on dm_prim's laws of commutation.
 //! Its theorem is the contract of [`weigh`]: it returns the merged patches and the tree after them, or the first refusal in
@@ -14,6 +16,7 @@
 #![tactic(auto)]
 
 mod basis;
+mod clash;
 mod dependencies;
 mod fit;
 pub mod laws;
@@ -23,19 +26,26 @@ mod merge;
 mod misfit;
 mod names;
 mod orders;
+mod overflow;
 mod parted;
 mod passing;
 mod policy;
 mod refusal;
 mod repo;
 mod sifting;
+mod skip;
+mod skips;
 mod stop;
 mod weighed;
 
+pub use clash::{Clash, find_clash};
 pub use misfit::{Misfit, find_misfit};
 pub use orders::law_both_orders;
+pub use overflow::{Overflow, find_overflow};
 pub use parted::{Parted, split};
 pub use policy::Policy;
 pub use refusal::Refusal;
 pub use repo::{Ready, Repo};
+pub use skip::{Skip, Stopper};
+pub use skips::find_skips;
 pub use weighed::{Merged, Weighed, weigh, weigh_owned};

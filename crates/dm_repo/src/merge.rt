@@ -1,16 +1,18 @@
 //! Merging patches that start where the rest of a repository does.
 ghost use Rattle.std.specs.Prelude.{◌≡◌, ◌↔◌, ◌+◌, ◌<◌, List, ◌++◌, [], length, map, IfOk, IsTrue, MatchResult};
+ghost use Rattle.dm_named.specs.Patches.{Patch};
 ghost use Rattle.dm_bundle.specs.Bundles.{Contents};
 ghost use Rattle.dm_repo.specs.Merging.{MergeRectangle, MergeStops};
 ghost use Rattle.dm_repo.specs.Sifting.{MergesUnder};
 ghost use Rattle.dm_repo.specs.declared.policy.Policy.{Policy};
 ghost use Rattle.dm_repo.specs.declared.policy.Policy.TheVariants.{Refuse, Skip};
-ghost use Rattle.dm_repo.specs.Squares.{Placed, PlacedMerges, patches, placed, undone};
+ghost use Rattle.dm_repo.specs.Squares.{Placed, PlacedMerges, patches, undone};
 ghost use Rattle.dm_repo.specs.Repositories.{IsTreeOf};
-ghost use Rattle.dm_repo.specs.Weighing.{Fits, IsBundleSplit, IsMergeOf, RefusesBundle, most_patches};
+ghost use Rattle.dm_repo.specs.Weighing.{Fits, IsMergeOf, RefusesBundle, most_patches};
+ghost use Rattle.dm_repo.specs.Misfits.{IsBasis};
 ghost use Rattle.dm_repo.specs.Stops.{AtPlaces, BlockedBy};
 
-use crate::fit::fit;
+use crate::fit::{fit, fit_new};
 use crate::passing::merge_past;
 use crate::policy::Policy;
 use crate::refusal::Refusal;
@@ -19,13 +21,21 @@ use crate::sifting::{first_conflict, is_all_skipped, sift};
 use crate::stop::Blocked;
 use crate::weighed::Merged;
 use dm_named::{Named, Passing};
+use dm_tree::Tree;
 use std::alloc::{AllocError, Allocator};
 
 /// A repository holds at most so many patches.
 const MOST_PATCHES: usize = 100_000;
 
+/// Patches as they are once they are merged with the rest of a repository, and how many others are skipped.
+#[derive(Drop)]
+pub(crate) struct Merging<A: Allocator> {
+    pub(crate) merged: Vec<(usize, Passing<A>), A>,
+    pub(crate) skipped: usize,
+}
+
 /// Each patch gets the inverse of its primitives.
-fn undo_all<A: Allocator + Copy>(alloc: A, patches: &mut [(usize, Passing<A>)])
+pub(crate) fn undo_all<A: Allocator + Copy>(alloc: A, patches: &mut [(usize, Passing<A>)])
     ensures { patches.new ≡ map undone patches.old }
 {
     for k in 0..patches.len() {
@@ -108,35 +118,33 @@ fn append<A: Allocator, B: Allocator + Copy>(
 }
 
 /// Merges the patches that fit with the rest of the repository: all of them, or none.
-fn merge_whole<A: Allocator, B: Allocator + Copy>(
-    alloc: B,
-    repo: &Repo<A>,
-    rest: Vec<(usize, Passing<B>), B>,
-    new: Vec<(usize, Passing<B>), B>,
-) -> Result<Merged<B>, Refusal>
-    ensures { (b : Contents) → Fits repo.now.patches b rest.items new.items → MatchResult result
-        (λ m. IsMergeOf repo.now.patches b Refuse m.patches.items m.skipped × IsTreeOf (repo.now.patches ++ m.patches.items) m.tree)
-        (λ why. RefusesBundle repo.now.patches b Refuse why) }
+fn merge_whole<A: Allocator + Copy>(
+    alloc: A,
+    rest: Vec<(usize, Passing<A>), A>,
+    new: Vec<(usize, Passing<A>), A>,
+) -> Result<Merging<A>, Refusal>
+    ensures { (repo : List Patch) (b : Contents) → Fits repo b rest.items new.items → MatchResult result
+        (λ m. MergesUnder Refuse rest.items new.items m.merged.items m.skipped)
+        (λ why. RefusesBundle repo b Refuse why) }
 {
     let mut rest = rest;
-    let mut new = new;
+    let mut merged = new;
     undo_all(alloc, rest.as_mut_slice());
-    match merge_all(alloc, rest.as_mut_slice(), new.as_mut_slice()) {
-        Ok(()) => append(alloc, repo, new, 0),
+    match merge_all(alloc, rest.as_mut_slice(), merged.as_mut_slice()) {
+        Ok(()) => Ok(Merging { merged, skipped: 0 }),
         Err(blocked) => Err(blocked.conflicts()),
     }
 }
 
 /// Merges those of the patches that fit with the rest of the repository that can be, and skips the others.
-fn merge_some<A: Allocator, B: Allocator + Copy>(
-    alloc: B,
-    repo: &Repo<A>,
-    rest: Vec<(usize, Passing<B>), B>,
-    new: Vec<(usize, Passing<B>), B>,
-) -> Result<Merged<B>, Refusal>
-    ensures { (b : Contents) → Fits repo.now.patches b rest.items new.items → MatchResult result
-        (λ m. IsMergeOf repo.now.patches b Skip m.patches.items m.skipped × IsTreeOf (repo.now.patches ++ m.patches.items) m.tree)
-        (λ why. RefusesBundle repo.now.patches b Skip why) }
+fn merge_some<A: Allocator + Copy>(
+    alloc: A,
+    rest: Vec<(usize, Passing<A>), A>,
+    new: Vec<(usize, Passing<A>), A>,
+) -> Result<Merging<A>, Refusal>
+    ensures { (repo : List Patch) (b : Contents) → Fits repo b rest.items new.items → MatchResult result
+        (λ m. MergesUnder Skip rest.items new.items m.merged.items m.skipped)
+        (λ why. RefusesBundle repo b Skip why) }
 {
     let mut rest = rest;
     undo_all(alloc, rest.as_mut_slice());
@@ -149,10 +157,31 @@ fn merge_some<A: Allocator, B: Allocator + Copy>(
         );
         return Err(blocked.conflicts());
     }
-    append(alloc, repo, sifted.merged, sifted.skipped.len())
+    let skipped = sifted.skipped.len();
+    Ok(Merging {
+        merged: sifted.merged,
+        skipped,
+    })
 }
 
 /// Merges the patches that fit with the rest of the repository, as the policy says.
+pub(crate) fn merge_with<A: Allocator + Copy>(
+    alloc: A,
+    rest: Vec<(usize, Passing<A>), A>,
+    new: Vec<(usize, Passing<A>), A>,
+    policy: Policy,
+) -> Result<Merging<A>, Refusal>
+    ensures { (repo : List Patch) (b : Contents) → Fits repo b rest.items new.items → MatchResult result
+        (λ m. MergesUnder policy rest.items new.items m.merged.items m.skipped)
+        (λ why. RefusesBundle repo b policy why) }
+{
+    match policy {
+        Policy::Refuse => merge_whole(alloc, rest, new),
+        Policy::Skip => merge_some(alloc, rest, new),
+    }
+}
+
+/// Merges the patches that fit with the rest of the repository, and applies what comes of them to its tree.
 pub(crate) fn merge<A: Allocator, B: Allocator + Copy>(
     alloc: B,
     repo: &Repo<A>,
@@ -164,27 +193,22 @@ pub(crate) fn merge<A: Allocator, B: Allocator + Copy>(
         (λ m. IsMergeOf repo.now.patches b policy m.patches.items m.skipped × IsTreeOf (repo.now.patches ++ m.patches.items) m.tree)
         (λ why. RefusesBundle repo.now.patches b policy why) }
 {
-    match policy {
-        Policy::Refuse => merge_whole(alloc, repo, rest, new),
-        Policy::Skip => merge_some(alloc, repo, rest, new),
-    }
+    let merging = merge_with(alloc, rest, new, policy)?;
+    append(alloc, repo, merging.merged, merging.skipped)
 }
 
 /// Applies the patches to merge to the tree of a repository that is common as a whole: nothing stands in their way.
 pub(crate) fn append_to_whole<A: Allocator, B: Allocator + Copy>(
     alloc: B,
     repo: &Repo<A>,
+    tree: Tree<B>,
     new: Vec<(usize, Passing<B>), B>,
 ) -> Result<Merged<B>, Refusal>
-    ensures { (b : Contents) (policy : Policy) → IsBundleSplit repo.now.patches b (placed repo.now.patches) [] new.items → MatchResult result
+    ensures { (b : Contents) (policy : Policy) → IsBasis repo.now.patches b tree [] new.items → MatchResult result
         (λ m. IsMergeOf repo.now.patches b policy m.patches.items m.skipped × IsTreeOf (repo.now.patches ++ m.patches.items) m.tree)
         (λ why. RefusesBundle repo.now.patches b policy why) }
 {
-    let mut tree = repo.tree_copy(alloc)?;
-    match fit(&new, &mut tree) {
-        Ok(()) => {}
-        Err(stop) => return Err(stop.does_not_fit()),
-    }
+    let tree = fit_new(tree, &new)?;
     if is_too_many(repo.len(), new.len()) {
         return Err(Refusal::Full);
     }

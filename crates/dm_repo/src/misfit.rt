@@ -35,7 +35,7 @@ pub struct Misfit<A: Allocator> {
 }
 
 /// Applies patches in turn, up to the first that leads nowhere shallowly.
-fn first_misfit<A: Allocator + Copy>(
+pub(crate) fn first_misfit<A: Allocator + Copy>(
     tree: Tree<A>,
     new: Vec<(usize, Passing<A>), A>,
 ) -> Result<Option<Misfit<A>>, AllocError>

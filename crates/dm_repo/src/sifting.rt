@@ -1,22 +1,26 @@
 //! Merging patches one after the other, where those that can't be merged are skipped.
-ghost use Rattle.std.specs.Prelude.{◌≡◌, ◌≢◌, ◌↔◌, List, [], map, IfOk, IsTrue, MatchBool, MatchOption};
-ghost use Rattle.dm_repo.specs.declared.policy.Policy.TheVariants.{Skip};
+ghost use Rattle.std.specs.Prelude.{◌≡◌, ◌≢◌, ◌↔◌, List, [], map, IfOk, IsTrue, MatchBool, MatchOption, MatchResult};
+ghost use Rattle.dm_repo.specs.declared.policy.Policy.TheVariants as policies;
 ghost use Rattle.dm_repo.specs.Merging.{MergesPast, MergePastStops};
-ghost use Rattle.dm_repo.specs.Sifting.{ConflictsUnder, MergesNowhere, MergesOver, Sifts};
+ghost use Rattle.dm_repo.specs.Sifting.{ConflictsUnder, MergesOver, Sifts};
+ghost use Rattle.dm_repo.specs.Skips.{IsStoppedBy, SiftsFor};
 ghost use Rattle.dm_repo.specs.Squares.{Placed, PlacedCommutes, PlacedMerges, undone};
 ghost use Rattle.dm_repo.specs.Staircases.{Passes, PassStops};
 ghost use Rattle.dm_repo.specs.Stops.{AtPlaces, BlockedBy};
 
 use crate::passing::{merge_past, pass};
+use crate::skip::{Skip, Stopper};
 use crate::stop::{Blocked, Stop};
 use dm_named::{Passing, are_apart, commute_named_in_place, commute_prims_in_place};
 use std::alloc::{AllocError, Allocator};
 
-/// What becomes of patches to merge, and of the rest of the repository, each of which is undone.
+/// What becomes of patches to merge, and of the rest of the repository, each of which is undone; and why each of the skipped
+/// ones is skipped.
 #[derive(Drop)]
 pub(crate) struct Sifted<A: Allocator> {
     pub(crate) merged: Vec<(usize, Passing<A>), A>,
     pub(crate) skipped: Vec<(usize, Passing<A>), A>,
+    pub(crate) skips: Vec<Skip, A>,
     pub(crate) rest: Vec<(usize, Passing<A>), A>,
 }
 
@@ -71,7 +75,7 @@ fn passes_unchanged<A: Allocator + Copy>(
 }
 
 /// Whether `patch` is merged with `next`, which is undone, and neither is changed by it: they touch nothing in common.
-fn merge_unchanged<A: Allocator + Copy>(
+pub(crate) fn merge_unchanged<A: Allocator + Copy>(
     alloc: A,
     next: &mut (usize, Passing<A>),
     patch: &mut (usize, Passing<A>),
@@ -123,24 +127,25 @@ fn would_pass<A: Allocator + Copy>(
     Ok(passes)
 }
 
-/// Whether `patch` passes all of `rest`, the nearest first, which is the last; `rest` stays as it is.
+/// Passes `patch` over all of `rest`, the nearest first, which is the last, and answers the place of the one that stops it;
+/// `rest` stays as it is.
 fn would_pass_all<A: Allocator + Copy>(
     alloc: A,
     rest: &mut [(usize, Passing<A>)],
     patch: &mut (usize, Passing<A>),
-) -> Result<bool, AllocError>
+) -> Result<Option<usize>, AllocError>
     ensures same { rest.new ≡ rest.old }
-    ensures row { IfOk result (λ passes. MatchBool passes
+    ensures row { IfOk result (λ stopper. MatchOption stopper
         ((left : List Placed) × Passes PlacedCommutes rest.old patch.old patch.new left)
-        ((r : Placed) × PassStops PlacedCommutes rest.old patch.old r)) }
+        (λ k. (r : Placed) × (k ≡ r.0) × PassStops PlacedCommutes rest.old patch.old r)) }
 {
     for k in (0..rest.len()).rev() {
         let nearest = &mut rest[k];
         if !would_pass(alloc, nearest, patch)? {
-            return Ok(false);
+            return Ok(Some(nearest.0));
         }
     }
-    Ok(true)
+    Ok(None)
 }
 
 /// Whether `patch` is merged with `next`, which is undone and stays as it is.
@@ -162,24 +167,25 @@ fn would_merge<A: Allocator + Copy>(
     Ok(merges)
 }
 
-/// Whether `patch` is merged with all of `rest`, the first of them first; each of `rest` is undone, and stays as it is.
+/// Merges `patch` with all of `rest`, the first of them first, and answers the place of the one that stops it; each of `rest` is
+/// undone, and stays as it is.
 fn would_merge_all<A: Allocator + Copy>(
     alloc: A,
     rest: &mut [(usize, Passing<A>)],
     patch: &mut (usize, Passing<A>),
-) -> Result<bool, AllocError>
+) -> Result<Option<usize>, AllocError>
     ensures same { rest.new ≡ rest.old }
-    ensures row { IfOk result (λ merges. MatchBool merges
+    ensures row { IfOk result (λ stopper. MatchOption stopper
         ((left : List Placed) × MergesPast PlacedMerges (map undone rest.old) patch.old patch.new left)
-        ((r : Placed) × MergePastStops PlacedMerges (map undone rest.old) patch.old r)) }
+        (λ k. (r : Placed) × (k ≡ r.0) × MergePastStops PlacedMerges (map undone rest.old) patch.old r)) }
 {
     for k in 0..rest.len() {
         let next = &mut rest[k];
         if !would_merge(alloc, next, patch)? {
-            return Ok(false);
+            return Ok(Some(next.0));
         }
     }
-    Ok(true)
+    Ok(None)
 }
 
 /// The same as `merge_over`, of a patch that may change others or be changed by them. It is asked first, since a patch that
@@ -189,17 +195,17 @@ fn merge_meeting<A: Allocator + Copy>(
     skipped: &mut [(usize, Passing<A>)],
     rest: &mut [(usize, Passing<A>)],
     patch: &(usize, Passing<A>),
-) -> Result<Option<(usize, Passing<A>)>, AllocError>
-    ensures { IfOk result (λ answer. MatchOption answer
-        ((skipped.new ≡ skipped.old) × (rest.new ≡ rest.old) × MergesNowhere skipped.old (map undone rest.old) patch.now)
-        (λ n. MergesOver skipped.old (map undone rest.old) patch.now n skipped.new (map undone rest.new))) }
+) -> Result<Result<(usize, Passing<A>), Stopper>, AllocError>
+    ensures { IfOk result (λ answer. MatchResult answer
+        (λ n. MergesOver skipped.old (map undone rest.old) patch.now n skipped.new (map undone rest.new))
+        (λ by. (skipped.new ≡ skipped.old) × (rest.new ≡ rest.old) × IsStoppedBy skipped.old (map undone rest.old) patch.now by)) }
 {
     let mut asked = copy_of(alloc, patch)?;
-    if !would_pass_all(alloc, skipped, &mut asked)? {
-        return Ok(None);
+    if let Some(place) = would_pass_all(alloc, skipped, &mut asked)? {
+        return Ok(Err(Stopper::Skipped(place)));
     }
-    if !would_merge_all(alloc, rest, &mut asked)? {
-        return Ok(None);
+    if let Some(place) = would_merge_all(alloc, rest, &mut asked)? {
+        return Ok(Err(Stopper::Held(place)));
     }
     let mut over = copy_of(alloc, patch)?;
     match pass(alloc, skipped, &mut over) {
@@ -212,20 +218,19 @@ fn merge_meeting<A: Allocator + Copy>(
         Err(Stop::At(_)) => unreachable!(),
         Err(stop) => return Err(stop.refused()),
     }
-    Ok(Some(over))
+    Ok(Ok(over))
 }
 
-/// The patch as it is once it has passed the skipped ones and is merged with the rest, or `None` where it can't be: then
-/// neither is changed.
+/// The patch as it is once it has passed the skipped ones and is merged with the rest, or what stops it: then neither is changed.
 fn merge_over<A: Allocator + Copy>(
     alloc: A,
     skipped: &mut [(usize, Passing<A>)],
     rest: &mut [(usize, Passing<A>)],
     patch: &(usize, Passing<A>),
-) -> Result<Option<(usize, Passing<A>)>, AllocError>
-    ensures { IfOk result (λ answer. MatchOption answer
-        ((skipped.new ≡ skipped.old) × (rest.new ≡ rest.old) × MergesNowhere skipped.old (map undone rest.old) patch.now)
-        (λ n. MergesOver skipped.old (map undone rest.old) patch.now n skipped.new (map undone rest.new))) }
+) -> Result<Result<(usize, Passing<A>), Stopper>, AllocError>
+    ensures { IfOk result (λ answer. MatchResult answer
+        (λ n. MergesOver skipped.old (map undone rest.old) patch.now n skipped.new (map undone rest.new))
+        (λ by. (skipped.new ≡ skipped.old) × (rest.new ≡ rest.old) × IsStoppedBy skipped.old (map undone rest.old) patch.now by)) }
 {
     let mut copy = copy_of(alloc, patch)?;
     if !passes_unchanged(alloc, skipped, &mut copy)? {
@@ -234,31 +239,37 @@ fn merge_over<A: Allocator + Copy>(
     if !merges_unchanged(alloc, rest, &mut copy)? {
         return merge_meeting(alloc, skipped, rest, patch);
     }
-    Ok(Some(copy))
+    Ok(Ok(copy))
 }
 
 /// Each of `new`, from left to right, passes those that were skipped and is merged with all of `rest`, each of which is
-/// undone; what can't is skipped.
+/// undone; what can't is skipped, and what stops it is kept.
 pub(crate) fn sift<A: Allocator + Copy>(
     alloc: A,
     rest: Vec<(usize, Passing<A>), A>,
     new: Vec<(usize, Passing<A>), A>,
 ) -> Result<Sifted<A>, AllocError>
-    ensures sifts { IfOk result (λ s. Sifts [] (map undone rest.items) new.items s.merged.items s.skipped.items) }
+    ensures sifts { IfOk result (λ s. SiftsFor [] (map undone rest.items) new.items s.merged.items s.skipped.items s.skips.items) }
     ensures same_rest { IfOk result (λ s. s.merged.items ≡ [] → s.rest.items ≡ rest.items) }
 {
     let mut rest = rest;
     let mut merged = Vec::new(alloc);
     let mut skipped = Vec::new(alloc);
+    let mut skips = Vec::new(alloc);
     for patch in new {
         match merge_over(alloc, skipped.as_mut_slice(), rest.as_mut_slice(), &patch)? {
-            Some(over) => merged.push(over)?,
-            None => skipped.push(patch)?,
+            Ok(over) => merged.push(over)?,
+            Err(by) => {
+                let place = patch.0;
+                skips.push(Skip { place, by })?;
+                skipped.push(patch)?;
+            }
         }
     }
     Ok(Sifted {
         merged,
         skipped,
+        skips,
         rest,
     })
 }
@@ -281,7 +292,7 @@ pub(crate) fn first_conflict<A: Allocator + Copy>(
 ) -> Blocked
     requires some { new.old ≢ [] }
     requires none_merged { (left : List Placed) × Sifts [] (map undone rest.old) new.old [] left }
-    ensures { BlockedBy result (AtPlaces (ConflictsUnder Skip (map undone rest.old) new.old)) }
+    ensures { BlockedBy result (AtPlaces (ConflictsUnder policies.Skip (map undone rest.old) new.old)) }
 {
     let first = &mut new[0];
     let place = first.0;

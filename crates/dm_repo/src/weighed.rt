@@ -6,11 +6,11 @@ ghost use Rattle.dm_repo.specs.Repositories.{IsTreeOf};
 ghost use Rattle.dm_repo.specs.Weighing.{IsMergeOf, RefusesBundle};
 ghost use Rattle.dm_repo.specs.Weighed.{IsLookedUp, LeavesRepo, Weighs};
 
-use crate::fit::check_fit;
+use crate::basis::split_both;
+use crate::fit::fit_new;
 use crate::lookup::look_up;
-use crate::marks::{Marks, are_set};
+use crate::marks::Marks;
 use crate::merge::{append_to_whole, merge};
-use crate::parted::{kept_in_place, split_held, split_repo};
 use crate::policy::Policy;
 use crate::refusal::Refusal;
 use crate::repo::{Repo, copy_patches};
@@ -54,16 +54,32 @@ fn weigh_new<A: Allocator, B: Allocator + Copy>(
         (λ m. IsMergeOf repo.now.patches b policy m.patches.items m.skipped × IsTreeOf (repo.now.patches ++ m.patches.items) m.tree)
         (λ why. RefusesBundle repo.now.patches b policy why) }
 {
-    repo.lawful();
-    if are_set(&marks.common) {
-        let chosen = split_held(alloc, new, marks)?;
-        return append_to_whole(alloc, repo, chosen);
+    let basis = split_both(alloc, repo, new, marks)?;
+    if basis.rest.is_empty() {
+        return append_to_whole(alloc, repo, basis.tree, basis.new);
     }
-    let kept = kept_in_place(&marks.common);
-    let parted = split_repo(alloc, repo, marks, kept)?;
-    let chosen = split_held(alloc, new, marks)?;
-    check_fit(alloc, &repo.patches()[..kept], &parted.front, &chosen)?;
-    merge(alloc, repo, parted.rest, chosen, policy)
+    let _ = fit_new(basis.tree, &basis.new)?;
+    merge(alloc, repo, basis.rest, basis.new, policy)
+}
+
+/// The same, told of the repository that it leaves.
+fn weigh_looked_up<A: Allocator, B: Allocator + Copy>(
+    alloc: B,
+    repo: &Repo<A>,
+    new: Vec<Named<B>, B>,
+    marks: &Marks<B>,
+    policy: Policy,
+) -> Result<Weighed<B>, Refusal>
+    requires common { length marks.now.common.items ≡ length repo.now.patches }
+    requires held { length marks.now.held.items ≡ length new.items }
+    ensures { (b : Contents) → b.patches ≡ new.items → Distinct (infos_of b.patches) →
+        IsLookedUp repo.now.patches b marks.now.common.items marks.now.held.items → MatchResult result
+        (λ weighed. Weighs repo.now.patches b policy weighed × LeavesRepo repo.now.patches weighed)
+        (λ why. RefusesBundle repo.now.patches b policy why) }
+{
+    repo.lawful();
+    let merged = weigh_new(alloc, repo, new, marks, policy)?;
+    Ok(Weighed::Merged(merged))
 }
 
 /// That the new patches of a bundle have distinct names; does nothing.
@@ -92,11 +108,9 @@ pub fn weigh<A: Allocator + Copy, B: Allocator + Copy>(
     let Some(marks) = look_up(alloc, repo, bundle)? else {
         return Ok(Weighed::NothingNew);
     };
-    repo.lawful();
     names_are_distinct(bundle);
     let new = copy_patches(alloc, bundle.new_patches())?;
-    let merged = weigh_new(alloc, repo, new, &marks, policy)?;
-    Ok(Weighed::Merged(merged))
+    weigh_looked_up(alloc, repo, new, &marks, policy)
 }
 
 /// The same as [`weigh`] of a bundle that is given up: its new patches are moved into what is merged.
@@ -113,8 +127,6 @@ pub fn weigh_owned<A: Allocator + Copy, B: Allocator + Copy>(
     let Some(marks) = look_up(alloc, repo, &bundle)? else {
         return Ok(Weighed::NothingNew);
     };
-    repo.lawful();
     names_are_distinct(&bundle);
-    let merged = weigh_new(alloc, repo, bundle.into_new_patches(), &marks, policy)?;
-    Ok(Weighed::Merged(merged))
+    weigh_looked_up(alloc, repo, bundle.into_new_patches(), &marks, policy)
 }

@@ -1,7 +1,8 @@
 //! The words of the command line, and what they start.
 use crate::apply::apply_over;
 use crate::check::check_over;
-use crate::explaining::{explain_unread, explain_verdict};
+use crate::colour::{Colour, colour_of};
+use crate::explaining::{explain_applied, explain_unread};
 use crate::fault::ToolFault;
 use crate::files::{WordFault, read_file};
 use crate::plan_words::{policy_of, run_plan};
@@ -145,6 +146,7 @@ fn exit_status<R: Runtime + AllocGlobal>(rt: &R, answer: Result<u8, WordFault<'_
 /// `dm check`.
 fn check<'a, R: Runtime + AllocGlobal>(
     rt: &R,
+    colour: Colour,
     words: &ArgMatches<'a>,
 ) -> Result<u8, WordFault<'a>> {
     let mut reader = rt.reader();
@@ -152,7 +154,7 @@ fn check<'a, R: Runtime + AllocGlobal>(
     let checked = check_over(rt.alloc(), &mut reader, &mut writer)?;
     if words.get_flag("explain") {
         if let Some(unread) = &checked.unread {
-            explain_unread(rt, unread);
+            explain_unread(rt, colour, unread);
         }
     }
     Ok(checked.status)
@@ -161,6 +163,7 @@ fn check<'a, R: Runtime + AllocGlobal>(
 /// `dm apply`: the base is read before standard input.
 fn apply<'a, R: Runtime + AllocGlobal>(
     rt: &R,
+    colour: Colour,
     words: &ArgMatches<'a>,
 ) -> Result<u8, WordFault<'a>> {
     let base = match words.get_str("base") {
@@ -168,18 +171,20 @@ fn apply<'a, R: Runtime + AllocGlobal>(
         None => None,
     };
     let as_bundle = words.get_flag("bundle");
+    let policy = policy_of(words);
     let mut reader = rt.reader();
     let mut writer = io::writer(rt);
     let applied = apply_over(
         rt.alloc(),
         base.as_deref(),
         as_bundle,
-        policy_of(words),
+        policy,
         &mut reader,
         &mut writer,
     )?;
     if words.get_flag("explain") {
-        explain_verdict(rt, &applied.repo, &applied.text, applied.verdict);
+        let base = base.as_deref().unwrap_or(&[]);
+        explain_applied(rt, colour, base, policy, &applied);
     }
     Ok(applied.status)
 }
@@ -206,30 +211,35 @@ fn say_why<R: Runtime + AllocGlobal>(rt: &R, error: &Error) -> u8 {
 /// Runs the command that was named, and returns the exit status.
 fn start<'a, R: Runtime + AllocGlobal + Threads + Wait + Sync>(
     rt: &R,
+    colour: Colour,
     matches: &ArgMatches<'a>,
 ) -> u8 {
     match matches.subcommand() {
-        Some(("apply", words)) => exit_status(rt, apply(rt, words)),
-        Some(("check", words)) => exit_status(rt, check(rt, words)),
-        Some(("run", words)) => exit_status(rt, run_plan(rt, words)),
+        Some(("apply", words)) => exit_status(rt, apply(rt, colour, words)),
+        Some(("check", words)) => exit_status(rt, check(rt, colour, words)),
+        Some(("run", words)) => exit_status(rt, run_plan(rt, colour, words)),
         _ => NO_ANSWER,
     }
 }
 
 /// Runs the command that these words name, and returns the exit status.
-fn run_command<R: Runtime + AllocGlobal + Threads + Wait + Sync>(rt: &R, words: &[String]) -> u8 {
+fn run_command<R: Runtime + AllocGlobal + Threads + Wait + Sync>(
+    rt: &R,
+    colour: Colour,
+    words: &[String],
+) -> u8 {
     let program = match program(rt.alloc()) {
         Ok(program) => program,
         Err(fault) => return tell(rt, WordFault::from(fault)),
     };
     match program.try_get_matches_from(words) {
-        Ok(matches) => start(rt, &matches),
+        Ok(matches) => start(rt, colour, &matches),
         Err(error) => say_why(rt, &error),
     }
 }
 
-/// Runs the command of the process's own words, and returns the exit status.
-pub fn run<R: Runtime + AllocGlobal + Threads + Wait + Sync>(rt: &R) -> u8 {
+/// Runs the command of the process's own words, and returns the exit status. Standard error may be a terminal.
+pub fn run<R: Runtime + AllocGlobal + Threads + Wait + Sync>(rt: &R, is_terminal: bool) -> u8 {
     let Ok(args) = env::args(rt) else {
         let _ = eprintln!(rt; "dm: cannot read the command line");
         return NO_ANSWER;
@@ -237,7 +247,7 @@ pub fn run<R: Runtime + AllocGlobal + Threads + Wait + Sync>(rt: &R) -> u8 {
     match args.collect(rt.alloc()) {
         Ok(words) => {
             let words: Vec<String> = words;
-            run_command(rt, &words)
+            run_command(rt, colour_of(rt, is_terminal), &words)
         }
         Err(fault) => tell(rt, WordFault::from(fault)),
     }

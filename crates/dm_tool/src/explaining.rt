@@ -3,52 +3,145 @@
 ghost use Rattle.std.specs.Prelude.{◌<◌};
 ghost use Rattle.dm_mirror.specs.Runs.{mirror_count};
 
+use crate::apply::Applied;
 use crate::check::Unread;
+use crate::colour::{Colour, say};
 use bumpalo::Bump;
-use dm_bundle::read_bundle;
-use dm_explain::{Malformed, account_of};
+use dm_bundle::{Bundle, read_bundle};
+use dm_explain::{Account, AccountWithSkips, Malformed, account_of, skips_of};
 use dm_mail::{Body, Mail};
 use dm_mirror::Outcome;
 use dm_named::FaultKind;
-use dm_repo::{Policy, Repo};
+use dm_repo::{Policy, Repo, Skip, find_skips};
 use dm_scratch::{Verdict, take};
 use std::alloc::Global;
 use std::rt::Runtime;
 
 /// Says why a text is no bundle.
-pub fn explain_unread<R: Runtime + AllocGlobal>(rt: &R, unread: &Unread) {
+pub fn explain_unread<R: Runtime + AllocGlobal>(rt: &R, colour: Colour, unread: &Unread) {
     if unread.fault.kind == FaultKind::NoMemory {
         return;
     }
     let malformed = Malformed::new(&unread.text, unread.fault);
-    let _ = rt.eprint(format_args!("{malformed}"));
+    say(rt, colour, &malformed);
 }
 
-/// Says whom the verdict on a text is about. The repository is the one that taking the text left.
-pub fn explain_verdict<R: Runtime + AllocGlobal>(
+/// Takes the text of a base, unless it is empty, into a repository that is empty.
+fn take_base<R: Runtime + AllocGlobal>(
     rt: &R,
-    repo: &Repo<Global>,
+    arena: &mut Bump,
+    base: &[u8],
+) -> Option<Repo<Global>> {
+    let mut repo = Repo::new(rt.alloc());
+    if base.is_empty() || take(&mut repo, arena, base, Policy::Refuse).is_accepted() {
+        return Some(repo);
+    }
+    None
+}
+
+/// Which patches of a text are skipped, and why, where some were. The repository is the one that the text wasn't taken into yet.
+fn skips_in<R: Runtime + AllocGlobal>(
+    rt: &R,
+    before: &Repo<Global>,
     text: &[u8],
     verdict: Verdict,
+) -> Option<Vec<Skip>> {
+    let Verdict::TakenSome(_, _) = verdict else {
+        return None;
+    };
+    let Ok(bundle) = read_bundle(rt.alloc(), text) else {
+        return None;
+    };
+    match find_skips(rt.alloc(), before, &bundle) {
+        Ok(skips) => Some(skips),
+        Err(_) => None,
+    }
+}
+
+/// The same after a base, which is taken once more.
+fn skips_after<R: Runtime + AllocGlobal>(
+    rt: &R,
+    base: &[u8],
+    text: &[u8],
+    verdict: Verdict,
+) -> Option<Vec<Skip>> {
+    let Verdict::TakenSome(_, _) = verdict else {
+        return None;
+    };
+    let mut arena = Bump::new(rt.alloc());
+    let before = take_base(rt, &mut arena, base)?;
+    skips_in(rt, &before, text, verdict)
+}
+
+/// Prints an account, with why patches were skipped where that is known.
+fn print_account<R: Runtime + AllocGlobal>(
+    rt: &R,
+    colour: Colour,
+    repo: &Repo<Global>,
+    bundle: &Bundle<Global>,
+    account: &Account<'_>,
+    skips: Option<Vec<Skip>>,
+) {
+    if let Some(skips) = skips {
+        if let Ok(skips) = skips_of(rt.alloc(), repo, bundle, &skips) {
+            let skips = &skips;
+            say(rt, colour, &AccountWithSkips { account, skips });
+            return;
+        }
+    }
+    say(rt, colour, account);
+}
+
+/// Says whom the verdict on a text is about, and why patches were skipped where that is known. The repository is the one that
+/// taking the text by the policy left.
+fn explain_verdict<R: Runtime + AllocGlobal>(
+    rt: &R,
+    colour: Colour,
+    repo: &Repo<Global>,
+    text: &[u8],
+    policy: Policy,
+    verdict: Verdict,
+    skips: Option<Vec<Skip>>,
 ) {
     if let Verdict::Malformed(fault) = verdict {
         let malformed = Malformed::new(text, fault);
-        let _ = rt.eprint(format_args!("{malformed}"));
+        say(rt, colour, &malformed);
         return;
     }
     let Ok(bundle) = read_bundle(rt.alloc(), text) else {
         return;
     };
-    let Ok(account) = account_of(rt.alloc(), repo, &bundle, verdict) else {
+    let Ok(account) = account_of(rt.alloc(), repo, &bundle, policy, verdict) else {
         return;
     };
-    let _ = rt.eprint(format_args!("{account}"));
+    print_account(rt, colour, repo, &bundle, &account, skips);
+}
+
+/// Says whom the verdict of `dm apply` is about, after the text of its base, or an empty one.
+pub fn explain_applied<R: Runtime + AllocGlobal>(
+    rt: &R,
+    colour: Colour,
+    base: &[u8],
+    policy: Policy,
+    applied: &Applied,
+) {
+    let skips = skips_after(rt, base, &applied.text, applied.verdict);
+    explain_verdict(
+        rt,
+        colour,
+        &applied.repo,
+        &applied.text,
+        policy,
+        applied.verdict,
+        skips,
+    );
 }
 
 /// Takes the text of a mail once more, and says whom its verdict is about. Returns whether the verdict is the one that the
 /// mirror gave: else memory ran out.
 fn explain_mail<R: Runtime + AllocGlobal>(
     rt: &R,
+    colour: Colour,
     mirror: usize,
     mail: &Mail,
     verdict: Verdict,
@@ -59,19 +152,25 @@ fn explain_mail<R: Runtime + AllocGlobal>(
     let Body::Bundle(text) = &mail.body else {
         return true;
     };
+    let skips = skips_in(rt, repo, text.as_bytes(), verdict);
     if take(repo, arena, text.as_bytes(), policy) != verdict {
         return false;
     }
     let poster = mail.poster;
     let number = mail.number;
-    let _ = rt.eprint(format_args!("mirror {mirror} bundle {poster} {number} {verdict}\n"));
-    explain_verdict(rt, repo, text.as_bytes(), verdict);
+    say(
+        rt,
+        colour,
+        &format_args!("mirror {mirror} bundle {poster} {number} {verdict}\n"),
+    );
+    explain_verdict(rt, colour, repo, text.as_bytes(), policy, verdict, skips);
     true
 }
 
 /// Says of each bundle that a mirror took whom its verdict is about: the bundles are taken once more, in the same order.
 fn explain_mirror<R: Runtime + AllocGlobal>(
     rt: &R,
+    colour: Colour,
     outcome: &Outcome,
     mirror: usize,
     base: &[u8],
@@ -80,17 +179,18 @@ fn explain_mirror<R: Runtime + AllocGlobal>(
     requires { mirror < mirror_count outcome.now }
 {
     let mut arena = Bump::new(rt.alloc());
-    let mut repo = Repo::new(rt.alloc());
-    if !base.is_empty() && !take(&mut repo, &mut arena, base, Policy::Refuse).is_accepted() {
+    let Some(mut repo) = take_base(rt, &mut arena, base) else {
         return;
-    }
+    };
     let mails = outcome.mails(mirror);
     for k in 0..mails.len() {
         let Some(verdict) = outcome.verdict(mirror, k) else {
             continue;
         };
         let mail = &mails[k];
-        if !explain_mail(rt, mirror, mail, verdict, policy, &mut arena, &mut repo) {
+        if !explain_mail(
+            rt, colour, mirror, mail, verdict, policy, &mut arena, &mut repo,
+        ) {
             return;
         }
     }
@@ -99,11 +199,12 @@ fn explain_mirror<R: Runtime + AllocGlobal>(
 /// Says of each bundle that a mirror took whom its verdict is about, for one mirror after the other. Each began with the base.
 pub fn explain_run<R: Runtime + AllocGlobal>(
     rt: &R,
+    colour: Colour,
     outcome: &Outcome,
     base: &[u8],
     policy: Policy,
 ) {
     for mirror in 0..outcome.mirrors() {
-        explain_mirror(rt, outcome, mirror, base, policy);
+        explain_mirror(rt, colour, outcome, mirror, base, policy);
     }
 }

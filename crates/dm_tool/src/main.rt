@@ -16,6 +16,7 @@
 
 mod apply;
 mod check;
+mod colour;
 mod commands;
 mod explaining;
 mod fault;
@@ -26,8 +27,10 @@ mod running;
 mod status;
 mod streams;
 
+use std::io::IsTerminal;
 use std::process::ExitCode;
 
 fn main(rt: HostRuntime) -> ExitCode {
-    ExitCode::from(commands::run(&rt))
+    let is_terminal = rt.stderr().is_terminal();
+    ExitCode::from(commands::run(&rt, is_terminal))
 }

@@ -1,4 +1,5 @@
 //! The words of `dm run`, and what they start.
+use crate::colour::Colour;
 use crate::explaining::explain_run;
 use crate::fault::ToolFault;
 use crate::files::{WordFault, read_file};
@@ -158,6 +159,7 @@ fn read_base<'a, R: Runtime + AllocGlobal>(
 /// status.
 pub fn run_plan<'a, R: Runtime + AllocGlobal + Threads + Wait + Sync>(
     rt: &R,
+    colour: Colour,
     words: &ArgMatches<'a>,
 ) -> Result<u8, WordFault<'a>> {
     let files = split_words(rt.alloc(), words.get_strs("posters").unwrap_or(&[]))?;
@@ -168,7 +170,7 @@ pub fn run_plan<'a, R: Runtime + AllocGlobal + Threads + Wait + Sync>(
     let policy = policy_of(words);
     let ran = run_texts(rt, &posters, &base, policy, mirrors, bound)?;
     if words.get_flag("explain") {
-        explain_run(rt, &ran.outcome, &base, policy);
+        explain_run(rt, colour, &ran.outcome, &base, policy);
     }
     Ok(ran.status)
 }

@@ -16,6 +16,9 @@ begins_all p q i e h = (drop (length q) p, sym (take-append-drop (length q) p) �
 pub shorter_never : (p q : Path) → length p < length q → Under p q → ⊥
 shorter_never p q l (r, e) = absurd (omega (arith, ap length e, length-append q r))
 
+pub not_longer : (p q : Path) → Under p q → length q ≤ length p
+not_longer p q (r, e) = omega (arith, ap length e, length-append q r)
+
 -- all names of a front are passed before the first is looked at
 pub begins_none : (p q : Path) → length q ≤ length p → drop (length q) (take (length q) p) ≡ drop (length q) q
 begins_none p q l = drop_all (length q) (take (length q) p) (omega (arith, length-take (length q) p)) ∙ sym (drop_all (length q) q (omega arith))

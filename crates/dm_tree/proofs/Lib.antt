@@ -3,6 +3,7 @@ mod Blank
 pub mod Borrowed
 pub mod Chained
 pub mod Children
+pub mod Copies
 pub mod Edits
 pub mod Fronts
 pub mod Listings

@@ -1,3 +1,4 @@
+use Rattle.dm_named.proofs.NamedLemmas.{three_more}
 use Rattle.dm_named.proofs.writing.push_named.Goals as goal
 
 pub returns-clause-valid : goal.returns-clause-valid
@@ -6,3 +7,7 @@ returns-clause-valid g c = record {
   deps = rw (← c.deps.ensures) c.in_ok-push_deps.ensures.valid;
   prims = rw (← c.prims.ensures) c.in_ok-push_body.ensures.valid;
 }
+
+pub returns-clause-ok : goal.returns-clause-ok
+returns-clause-ok g c = rw (← c.info.ensures, ← c.deps.ensures, ← c.prims.ensures)
+    (three_more c.args.out.now.items _ _ _ c.push_info.new.out.items c.push_deps.new.out.items c.push_body.new.out.items c.in_ok-push_info.ensures.ok c.in_ok-push_deps.ensures.text c.in_ok-push_body.ensures.text)

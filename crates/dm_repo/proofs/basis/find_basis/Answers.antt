@@ -1,4 +1,5 @@
-use Rattle.std.proofs.Common.{sym, ◌∙◌}
+use Rattle.std.proofs.Common.{ap, length, sym, ◌∙◌}
+use Rattle.std.proofs.lemmas.List.{length-map}
 use Rattle.std.proofs.lemmas.Result.{err_from_is_err_and}
 use Rattle.dm_repo.proofs.basis.find_basis.Goals as goal
 
@@ -18,3 +19,13 @@ returns-in_err-basis g c =
 
 pub returns : goal.returns
 returns g c = c.in_ok-basis.ensures c.args.bundle.now (sym (c.in_ok-new.ensures ∙ c.new_patches.ensures.value)) (rw c.in-Some.is at c.in_ok-marks.ensures)
+
+pub split_both-requires-clause-common : goal.split_both-requires-clause-common
+split_both-requires-clause-common g c =
+    let found = rw c.in-Some.is at c.in_ok-marks.ensures in
+    found.marked.common_is.length_is ∙ length-map c.args.repo.now.patches (λ p. p.info)
+
+pub split_both-requires-clause-held : goal.split_both-requires-clause-held
+split_both-requires-clause-held g c =
+    let found = rw c.in-Some.is at c.in_ok-marks.ensures in
+    found.marked.held_is.length_is ∙ length-map c.args.bundle.now.patches (λ p. p.info) ∙ ap length (sym (c.in_ok-new.ensures ∙ c.new_patches.ensures.value))

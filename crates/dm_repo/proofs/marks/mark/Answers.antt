@@ -1,8 +1,8 @@
-use Rattle.std.proofs.Common.{◌∙◌, sym}
-use Rattle.std.proofs.lemmas.List.{length-map}
+use Rattle.std.proofs.Common.{◌≡◌, ◌∙◌, length, sym, arith}
+use Rattle.std.proofs.lemmas.List.{length-map, take_all}
 use Rattle.dm_bundle.specs.Patches.{infos_of}
 use Rattle.dm_repo.proofs.Members.{none_of}
-use Rattle.dm_repo.proofs.MarksLemmas.{also_none, also_more, held_more, first_lack}
+use Rattle.dm_repo.proofs.MarksLemmas.{also_none, also_more, held_more, first_lack, within}
 use Rattle.dm_repo.proofs.marks.mark.Goals as goal
 
 pub loop-c-init : goal.loop-c-init
@@ -17,3 +17,13 @@ loop-c-preserved g c = record {
       (c.requires.marks ∙ sym (length-map c.args.repo.now.patches (λ p. p.info))) c.loop-c-test.true c.index-infos-c.is c.in-Some.ensures c.loop-c.invariant.marked;
   held = held_more c.args.repo.now.patches c.args.infos.now c.loop-c.c c.in-Some.k c.index-infos-c.result c.loop-c-test.true c.index-infos-c.is c.in-Some.ensures c.loop-c.invariant.held;
 }
+
+pub bounds-marks-k : goal.bounds-marks-k
+bounds-marks-k g c =
+    let repo = c.args.repo.now.patches in
+    let n : length (infos_of repo) ≡ length repo = length-map repo (λ p. p.info) in
+    let l = within (infos_of repo) c.in-Some.k c.in-Some.ensures in
+    omega (arith, l, n, c.requires.marks, c.loop-c.invariant.marked.length_is)
+
+pub returns : goal.returns
+returns g c = let all = take_all c.loop-c.c c.args.infos.now c.loop-c-test.false in (rw all at c.loop-c.invariant.marked, rw all at c.loop-c.invariant.held)

@@ -1,7 +1,8 @@
+use Rattle.std.proofs.lemmas.Result.{err_from_is_err_and}
 use Rattle.dm_repo.proofs.merge.merge.Goals as goal
 
-pub returns-in-Refuse : goal.returns-in-Refuse
-returns-in-Refuse g c = rw c.in-Refuse.is c.merge_whole.ensures
+pub returns-in_err-merging : goal.returns-in_err-merging
+returns-in_err-merging g c = λ b fits. let p = err_from_is_err_and c.from_residual.result c.from_residual.ensures.1 in rw (p.1, p.2) (c.in_err-merging.ensures c.args.repo.now.patches b fits)
 
-pub returns-in-Skip : goal.returns-in-Skip
-returns-in-Skip g c = rw c.in-Skip.is c.merge_some.ensures
+pub returns : goal.returns
+returns g c = λ b fits. c.append.ensures b c.args.policy c.args.rest.items c.args.new.items fits (c.in_ok-merging.ensures c.args.repo.now.patches b fits)

@@ -7,6 +7,7 @@ use Rattle.dm_repo.specs.Sifting.{ConflictsUnder}
 use Rattle.dm_repo.specs.Squares.{undone}
 use Rattle.dm_repo.specs.Weighing.{RefusesBundle}
 use Rattle.dm_repo.proofs.SiftLemmas.{all_skipped, some_merged}
+use Rattle.dm_repo.proofs.SkipLemmas.{sifts_untold}
 use Rattle.dm_repo.proofs.Splits.{whole}
 use Rattle.dm_repo.proofs.Steps.{between_places, undone_twice}
 use Rattle.dm_repo.proofs.merge.merge_some.Goals as goal
@@ -19,12 +20,11 @@ first_conflict-blocked-requires-clause-none_merged g c =
     let none = (c.if-is_all_skipped.ensures.0 refl).0 in
     let s = c.in_ok-sifted.ensures in
     let a = c.as_mut_slice-then-is_all_skipped.ensures.value ∙ s.same_rest none in
-    let b = c.as_mut_slice-then-is_all_skipped-2.ensures.value ∙ all_skipped s.sifts none in
-    (c.in_ok-sifted.sifted.skipped.items, rw (a, b) (rw none at s.sifts))
+    let b = c.as_mut_slice-then-is_all_skipped-2.ensures.value ∙ all_skipped (sifts_untold s.sifts) none in
+    (c.in_ok-sifted.sifted.skipped.items, rw (a, b) (rw none at (sifts_untold s.sifts)))
 
 pub returns-then-is_all_skipped : goal.returns-then-is_all_skipped
-returns-then-is_all_skipped g c = λ b fits.
-    let repo = c.args.repo.now.patches in
+returns-then-is_all_skipped g c = λ repo b fits.
     let rest = c.args.rest.items in
     let new = c.args.new.items in
     let none = (c.if-is_all_skipped.ensures.0 refl).0 in
@@ -32,17 +32,17 @@ returns-then-is_all_skipped g c = λ b fits.
     let kept = whole c.undo_all.new.patches (drop (length c.undo_all.new.patches) rest) c.args.rest.len (search rules) in
     let e = c.as_mut_slice-then-is_all_skipped.ensures.value ∙ s.same_rest none ∙ kept ∙ c.undo_all.ensures ∙ ap (map undone) c.as_mut_slice.ensures.value in
     let f : map undone c.as_mut_slice-then-is_all_skipped.result.now ≡ rest = ap (map undone) e ∙ undone_twice rest in
-    let h : c.as_mut_slice-then-is_all_skipped-2.result.now ≡ new = c.as_mut_slice-then-is_all_skipped-2.ensures.value ∙ all_skipped s.sifts none in
+    let h : c.as_mut_slice-then-is_all_skipped-2.result.now ≡ new = c.as_mut_slice-then-is_all_skipped-2.ensures.value ∙ all_skipped (sifts_untold s.sifts) none in
     rw c.conflicts.ensures
     (between_places (RefusesBundle repo b Skip) Conflicts (AtPlaces (ConflictsUnder Skip rest new)) c.first_conflict-blocked.result tt (λ j k q. (rest, new, fits, q)) (rw (f, h) at c.first_conflict-blocked.ensures))
 
 pub returns : goal.returns
-returns g c = λ b fits.
+returns g c = λ repo b fits.
     let rest = c.args.rest.items in
     let new = c.args.new.items in
     let s = c.in_ok-sifted.ensures in
     let kept = whole c.undo_all.new.patches (drop (length c.undo_all.new.patches) rest) c.args.rest.len (search rules) in
     let e = kept ∙ c.undo_all.ensures ∙ ap (map undone) c.as_mut_slice.ensures.value in
-    let g1 = rw (e, undone_twice rest) at s.sifts in
-    let some = some_merged c.args.repo.now.patches b fits g1 (λ h. false≢true (c.if-is_all_skipped.ensures.1 h)) in
-    c.append.ensures b Skip rest new fits (some, (c.in_ok-sifted.sifted.skipped.items, g1, c.len.ensures ∙ c.in_ok-sifted.sifted.skipped.ok.0))
+    let g1 = rw (e, undone_twice rest) at (sifts_untold s.sifts) in
+    let some = some_merged repo b fits g1 (λ h. false≢true (c.if-is_all_skipped.ensures.1 h)) in
+    (some, (c.in_ok-sifted.sifted.skipped.items, g1, c.len-skipped.ensures ∙ c.in_ok-sifted.sifted.skipped.ok.0))

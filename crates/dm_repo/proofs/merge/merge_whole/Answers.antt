@@ -1,6 +1,7 @@
 use Rattle.std.proofs.Common.{rules, ◌≡◌, ◌∙◌, refl, ap, map, drop, length}
 use Rattle.dm_repo.specs.Stops.{AtPlaces}
 use Rattle.dm_repo.specs.Merging.{MergeStops}
+use Rattle.dm_repo.specs.Sifting.{MergesUnder}
 use Rattle.dm_repo.specs.Squares.{PlacedMerges, undone}
 use Rattle.dm_repo.specs.Weighing.{RefusesBundle}
 use Rattle.dm_repo.specs.declared.policy.Policy.TheVariants.{Refuse}
@@ -10,7 +11,7 @@ use Rattle.dm_repo.proofs.Steps.{between_places, undone_twice}
 use Rattle.dm_repo.proofs.merge.merge_whole.Goals as goal
 
 pub returns-in-Ok : goal.returns-in-Ok
-returns-in-Ok g c = λ b fits.
+returns-in-Ok g c = λ repo b fits.
     let rest = c.args.rest.items in
     let new = c.args.new.items in
     let merged = c.merge_all.new.new in
@@ -19,11 +20,11 @@ returns-in-Ok g c = λ b fits.
     let e : c.as_mut_slice-2.result.now ≡ map undone rest = c.as_mut_slice-2.ensures.value ∙ kept ∙ c.undo_all.ensures ∙ ap (map undone) c.as_mut_slice.ensures.value in
     let f : map undone c.as_mut_slice-2.result.now ≡ rest = ap (map undone) e ∙ undone_twice rest in
     let rectangle = rw (f, c.as_mut_slice-3.ensures.value) at c.in-Ok.ensures in
-    (rw kept_new at c.append.ensures) b Refuse rest new fits ((map undone c.merge_all.new.rest, rectangle), refl)
+    let merge : MergesUnder Refuse rest new merged 0 = ((map undone c.merge_all.new.rest, rectangle), refl) in
+    rw kept_new merge
 
 pub returns : goal.returns
-returns g c = λ b fits.
-    let repo = c.args.repo.now.patches in
+returns g c = λ repo b fits.
     let rest = c.args.rest.items in
     let new = c.args.new.items in
     let kept = whole c.undo_all.new.patches (drop (length c.undo_all.new.patches) rest) c.args.rest.len (search rules) in

@@ -1,8 +1,8 @@
-use Rattle.std.proofs.Common.{rules, ◌<◌, ◌≤◌, ◌-◌, ◌≡◌, [], true, false, refl, length, arith}
+use Rattle.std.proofs.Common.{rules, ◌<◌, ◌≤◌, ◌-◌, ◌≡◌, [], true, false, refl, sym, ap, ◌∙◌, length, arith}
 use borrow.Author.Rules.{scaled_Fits}
 use Rattle.std.proofs.lemmas.List.{drop_all}
 use Rattle.dm_prim.specs.Rectangles.{empty}
-use Rattle.dm_repo.specs.Squares.{PlacedCommutes}
+use Rattle.dm_repo.specs.Squares.{Placed, PlacedCommutes}
 use Rattle.dm_repo.proofs.AskedRows.{set_same, ask_pass, ask_pass_stop}
 use Rattle.dm_repo.proofs.sifting.would_pass_all.Goals as goal
 
@@ -20,7 +20,7 @@ pub returns-then-not-branch-clause-row : goal.returns-then-not-branch-clause-row
 returns-then-not-branch-clause-row g c =
     let no : c.in_ok-would_pass.field-0 ≡ false = search rules in
     let x = c.index-rest-k.result in
-    (x, ask_pass_stop PlacedCommutes c.args.rest.now c.loop-k.rest c.loop-k.k x (search rules) (search rules) c.loop-k.invariant.same c.index-rest-k.is c.loop-k.invariant.passed.1 (rw no at c.in_ok-would_pass.ensures.square))
+    (x, ap (λ (p : Placed). p.0) (c.would_pass.ensures.same ∙ sym c.index-rest-k.is), ask_pass_stop PlacedCommutes c.args.rest.now c.loop-k.rest c.loop-k.k x (search rules) (search rules) c.loop-k.invariant.same c.index-rest-k.is c.loop-k.invariant.passed.1 (rw no at c.in_ok-would_pass.ensures.square))
 
 pub loop-k-preserved : goal.loop-k-preserved
 loop-k-preserved g c =

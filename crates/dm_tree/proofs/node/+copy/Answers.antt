@@ -2,6 +2,7 @@ use Rattle.std.proofs.Common.{arith, ◌≡◌, ◌<◌, ◌∙◌, length, sym,
 use Rattle.dm_tree.specs.Children.{Child, flatten, IsRising}
 use Rattle.dm_tree.specs.Nested.{IsValid}
 use Rattle.dm_tree.proofs.Adds.{dir_child}
+use Rattle.dm_tree.proofs.Copies.{copied_more, copied_all}
 use Rattle.dm_tree.proofs.node.+copy.Goals as goal
 use Rattle.std.proofs.Common.{get_or}
 use Rattle.dm_tree.specs.NodeFalls.{one_le}
@@ -30,3 +31,10 @@ copy_children-copy_node-requires g t c κs within =
     let le = one_le ks c.loop-child.child-index c.child-item.result lt in
     let is : length c.child-item.result.under ≡ length (get_or ks c.loop-child.child-index c.child-item.result).under = ap (λ (k : Child). length k.under) c.child-item.is in
     (omega (arith, le, is, c.decreases), (within.0, within.1))
+
+pub copy_children-loop-child-preserved : goal.copy_children-loop-child-preserved
+copy_children-loop-child-preserved g t c = copied_more c.args.children.now c.loop-child.copies.items c.push.new.self.items c.loop-child.child-index c.child-item.result c.in_ok-copy_node.field-0 c.loop-child-test.true
+    (c.in_ok-copy_node.ensures ∙ c.child-item.is) c.in_ok-push.ensures.items c.loop-child.invariant
+
+pub copy_children-returns : goal.copy_children-returns
+copy_children-returns g t c = copied_all c.args.children.now c.loop-child.copies.items c.loop-child.child-index c.loop-child-test.false c.loop-child.invariant

@@ -1,12 +1,18 @@
 use Rattle.std.proofs.Common.{◌≡◌, ◌++◌, ◌∙◌, ap, sym, refl, length, drop}
 use Rattle.std.proofs.lemmas.List.{take_rest}
 use Rattle.dm_tree.proofs.Paths.{forward-other}
-use Rattle.dm_tree.proofs.Fronts.{refuted, under_at, too_long, in_place, moved_valid}
+use Rattle.dm_tree.proofs.Fronts.{refuted, under_at, not_longer, too_long, in_place, moved_valid}
 use Rattle.dm_tree.proofs.path.Path.forward.Goals as goal
 
 pub returns-then-not-begins-clause-value : goal.returns-then-not-begins-clause-value
 returns-then-not-begins-clause-value g c = c.in_ok-copy_into.ensures ∙ sym (forward-other c.args.from.now c.args.to.now c.args.self.now
     (refuted (under_at _ _ _ _ c.names-names.ensures.value c.names-front.ensures.value c.if-not-begins.ensures)))
+
+pub offset_bounds-names-front : goal.offset_bounds-names-front
+offset_bounds-names-front g c = not_longer c.names-names.result.now c.names-front.result.now (c.if-not-begins.ensures.0 refl)
+
+pub slice_bounds-rest-count : goal.slice_bounds-rest-count
+slice_bounds-rest-count g c = not_longer c.names-names.result.now c.names-front.result.now (c.if-not-begins.ensures.0 refl)
 
 pub returns-then-base-rest-gt32-clause-value : goal.returns-then-base-rest-gt32-clause-value
 returns-then-base-rest-gt32-clause-value g c = too_long c.names-names.result.now c.names-front.result.now c.names-base.result.now c.args.self.now c.args.from.now c.args.to.now (length c.names-front.result.now)

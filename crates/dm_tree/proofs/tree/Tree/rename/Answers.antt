@@ -1,12 +1,30 @@
-use Rattle.std.proofs.Common.{refl, sym, ap, subst, ◌∙◌, ◌≡◌, Ok, Err}
+use Rattle.std.proofs.Common.{refl, sym, ap, subst, ◌∙◌, ◌≡◌, ◌<◌, ◌≤◌, length, Ok, Err}
 use Rattle.std.specs.FinMap.{get}
 use Rattle.dm_tree.specs.Changes.{Renamed, RenameAnswers}
-use Rattle.dm_tree.specs.Children.{look}
+use Rattle.dm_tree.specs.Children.{IsRising, look}
 use Rattle.dm_tree.proofs.Moved.{moved_tree}
 use Rattle.dm_tree.proofs.Renames.{renames_of}
 use Rattle.dm_tree.proofs.Steps.{err_memory}
 use Rattle.dm_tree.proofs.Trees.{get-tree_of, tree_of}
 use Rattle.dm_tree.proofs.tree.Tree.rename.Goals as goal
+
+pub rename_allowed-requires-clause-from_named : goal.rename_allowed-requires-clause-from_named
+rename_allowed-requires-clause-from_named g c = subst (λ p. 0 < length p) (sym c.names.ensures.value) c.names.ensures.not_root
+
+pub rename_allowed-requires-clause-to_named : goal.rename_allowed-requires-clause-to_named
+rename_allowed-requires-clause-to_named g c = subst (λ p. 0 < length p) (sym c.names-2.ensures.value) c.names-2.ensures.not_root
+
+pub rename_allowed-requires-clause-not_deep : goal.rename_allowed-requires-clause-not_deep
+rename_allowed-requires-clause-not_deep g c = subst (λ p. length p ≤ 32) (sym c.names-2.ensures.value) c.names-2.ensures.not_deep
+
+pub rename_allowed-requires-clause-rising : goal.rename_allowed-requires-clause-rising
+rename_allowed-requires-clause-rising g c = subst IsRising (sym c.deref.ensures.value) c.self.invariant.rising
+
+pub move_node-requires-clause-rising : goal.move_node-requires-clause-rising
+move_node-requires-clause-rising g c = c.self.invariant.rising
+
+pub move_node-requires-clause-lawful : goal.move_node-requires-clause-lawful
+move_node-requires-clause-lawful g c = c.self.invariant.lawful
 
 pub returns-in-Err-clause-fault : goal.returns-in-Err-clause-fault
 returns-in-Err-clause-fault g c =

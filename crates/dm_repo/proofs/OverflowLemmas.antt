@@ -1,0 +1,108 @@
+-- Where a path gets too many names as patches are applied that lead on: nothing else stops them, and the bundle is refused as full.
+use Rattle.std.proofs.Common.{◌≡◌, ◌≢◌, ℕ, List, ◌∷◌, Option, Some, None, inl, inr, ap, refl, ◌∙◌}
+use Rattle.std.specs.Prelude.{IfSome, MatchOption}
+use Rattle.std.proofs.lemmas.List.{map-append}
+use Rattle.dm_tree.specs.Trees.{Map, Tree}
+use Rattle.dm_tree.specs.declared.fault.TreeFault.{TreeFault}
+use Rattle.dm_tree.specs.declared.fault.TreeFault.TheVariants.{NoParent, Occupied, Missing, NotFile, NotDir, NotEmpty, IntoItself, LineRange, OldDiffers, NoLines, TooDeep, NoMemory}
+use Rattle.dm_prim.specs.Applying.{AdmitsFault}
+use Rattle.dm_prim.specs.InTurn.{InTurn, step}
+use Rattle.dm_prim.specs.Primitives.{Prim, Applies, LawfulMap, Leads}
+use Rattle.dm_named.specs.Patches.{Patch}
+use Rattle.dm_bundle.specs.Bundles.{Contents}
+use Rattle.dm_repo.specs.declared.misfit.Misfit.{Misfit}
+use Rattle.dm_repo.specs.declared.policy.Policy.{Policy}
+use Rattle.dm_repo.specs.declared.refusal.Refusal.TheVariants.{Full}
+use Rattle.dm_repo.specs.Folds.{IsRoot, MakesTooDeep, PatchLeads, PatchLeadsShallowly, PatchStops, ShallowFold}
+use Rattle.dm_repo.specs.Misfits.{FaultsAt, IsBasis, StopsWith}
+use Rattle.dm_repo.specs.Overflows.{FrontOverflows, MergedOverflows, OverflowsWith}
+use Rattle.dm_repo.specs.Repositories.{IsMapOf, IsRepo}
+use Rattle.dm_repo.specs.Sifting.{MergesUnder}
+use Rattle.dm_repo.specs.Squares.{Placed, patches}
+use Rattle.dm_repo.specs.Weighing.{Fits, GoesTooDeep, IsBundleSplit, RefusesBundle}
+use Rattle.dm_repo.proofs.Applying.{fault_there}
+use Rattle.dm_repo.proofs.Depths.{front_leads}
+use Rattle.dm_repo.proofs.FoldLemmas.{merge_applies}
+use Rattle.dm_repo.proofs.Staircases.{runs_part}
+use Rattle.dm_repo.proofs.Trees.{does_one, grows_fold, leads_one, runs_go, runs_lead, runs_one}
+
+-- a primitive that applies has no other fault
+only_deep : (p : Prim) (m t : Map) (e : TreeFault) → e ≢ NoMemory → AdmitsFault p m e → Applies p m t → e ≡ TooDeep
+only_deep p m t NoMemory n r a = absurd (n refl)
+only_deep p m t TooDeep n r a = refl
+only_deep p m t NoParent n r a = absurd (r t a)
+only_deep p m t Occupied n r a = absurd (r t a)
+only_deep p m t Missing n r a = absurd (r t a)
+only_deep p m t NotFile n r a = absurd (r t a)
+only_deep p m t NotDir n r a = absurd (r t a)
+only_deep p m t NotEmpty n r a = absurd (r t a)
+only_deep p m t IntoItself n r a = absurd (r t a)
+only_deep p m t LineRange n r a = absurd (r t a)
+only_deep p m t OldDiffers n r a = absurd (r t a)
+only_deep p m t NoLines n r a = absurd (r t a)
+
+-- nor does one of a patch that leads on
+patch_deep : {x : Patch} {s t : LawfulMap} {k : ℕ} {tree : Tree} {e : TreeFault} → e ≢ NoMemory → FaultsAt x s k tree e → PatchLeads x s t → e ≡ TooDeep
+patch_deep {x} {s} {t} {k} {tree} {e} n f r = let q = fault_there f in go q (runs_part q.before (rw q.at at r))
+  where
+    go : (q : PatchStops (λ p m. AdmitsFault p m.map e) x s) → (v : LawfulMap) × InTurn Leads q.before s v × InTurn Leads (q.prim ∷ q.after) v t → e ≡ TooDeep
+    go q (v, i, step {u = w} j l) =
+        let d : v ≡ q.tree = runs_one does_one i (runs_go q.leads) in
+        let h : Leads q.prim q.tree w = rw d at j in
+        only_deep q.prim q.tree.map w.map e n q.stops h.applies
+
+-- the new patches fit where they lead on from the tree of the front
+pub basis_fits : (repo : List Patch) (b : Contents) (tree : Tree) (rest new : List Placed) {After : LawfulMap → Type 0} → IsBasis repo b tree rest new →
+    ((s : LawfulMap) → IsMapOf tree s → (t : LawfulMap) × After t × InTurn PatchLeadsShallowly (patches new) s t) → Fits repo b rest new
+basis_fits repo b tree rest new basis leads =
+    let m = basis.2 in
+    let last = leads m.0 m.1 in
+    record { front = basis.0; bundle_split = basis.1; base = m.0; folds = m.2; fitted = last.0; leads = last.2 }
+
+module _ {Z : Type 0} where
+  -- what stops patches that lead on
+  stops_deep : {s t : LawfulMap} {xs : List Placed} {m : Misfit Z} → StopsWith s xs m → InTurn PatchLeads (patches xs) s t → OverflowsWith s xs m
+  stops_deep {s} {t} {xs} {m} w r =
+      record { stops = w; is_too_deep = go (runs_part (patches w.before) (rw (ap patches w.at ∙ map-append (λ y. y.1) w.before ((m.place, m.patch) ∷ w.after)) at r)) }
+    where
+      go : (v : LawfulMap) × InTurn PatchLeads (patches w.before) s v × InTurn PatchLeads (m.patch ∷ patches w.after) v t → m.fault ≡ TooDeep
+      go (v, i, step {u} j l) =
+          let d : v ≡ w.tree = runs_one leads_one i (runs_lead w.leads) in
+          let h : PatchLeads m.patch w.tree u = rw d at j in
+          patch_deep w.is_told w.faults h
+
+  goes_deep : {s : LawfulMap} {xs : List Placed} {m : Misfit Z} → OverflowsWith s xs m → GoesTooDeep s xs
+  goes_deep {m} w =
+      let stops : PatchStops MakesTooDeep m.patch w.stops.tree = fault_there (rw w.is_too_deep at w.stops.faults) in
+      ((m.place, m.patch), record { before = w.stops.before; after = w.stops.after; tree = w.stops.tree; at = w.stops.at; leads = w.stops.leads; stops = stops })
+
+  -- what is found as patches are applied
+  abbrev Finds : LawfulMap → List Placed → Option (Misfit Z) → Type 0
+  Finds s xs found = MatchOption found ((t : LawfulMap) × InTurn PatchLeadsShallowly (patches xs) s t) (λ m. StopsWith s xs m)
+
+  module _ (repo : List Patch) (b : Contents) where
+    pub front_told : {front rest new : List Placed} {s : LawfulMap} → IsRepo repo → IsBundleSplit repo b front rest new → IsRoot s → (found : Option (Misfit Z)) → Finds s front found → IfSome found (FrontOverflows repo b)
+    front_told ok p r None f = tt
+    front_told {front} {rest} {new} {s} ok p r (Some m) f =
+        record { front = front; rest = rest; new = new; bundle_split = p; start = s; is_root = r; overflows = stops_deep f (front_leads repo b ok p r).1 }
+
+    pub merged_told : (policy : Policy) (rest new merged : List Placed) (skipped : ℕ) {s : LawfulMap} → Fits repo b rest new → MergesUnder policy rest new merged skipped → ShallowFold repo s →
+        (found : Option (Misfit Z)) → Finds s merged found → IfSome found (MergedOverflows repo b policy)
+    merged_told policy rest new merged skipped fits g t None f = tt
+    merged_told policy rest new merged skipped {s} fits g t (Some m) f = record {
+      rest = rest;
+      new = new;
+      merged = merged;
+      skipped = skipped;
+      fits = fits;
+      merges = g;
+      tree = s;
+      folds = t;
+      overflows = stops_deep f (merge_applies repo b policy rest new merged skipped fits g s (grows_fold repo s t)).1;
+    }
+
+    pub front_refuses : (policy : Policy) {m : Misfit Z} → FrontOverflows repo b m → RefusesBundle repo b policy Full
+    front_refuses policy i = inl (i.front, i.rest, i.new, i.bundle_split, (i.start, i.is_root, goes_deep i.overflows))
+
+    pub merged_refuses : (policy : Policy) {m : Misfit Z} → MergedOverflows repo b policy m → RefusesBundle repo b policy Full
+    merged_refuses policy i = inr (i.rest, i.new, i.merged, i.skipped, i.fits, i.merges, inr (i.tree, i.folds, goes_deep i.overflows))

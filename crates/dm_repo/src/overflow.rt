@@ -1,0 +1,126 @@
+//! Where a path gets too many names as a bundle is weighed, told so that people can be shown it.
+ghost use Rattle.std.specs.Prelude.{IfErr, IfOk, IfSome, List, MatchOption, MatchResult};
+ghost use Rattle.dm_bundle.specs.Bundles.{Contents};
+ghost use Rattle.dm_repo.specs.declared.policy.Policy.{Policy};
+ghost use Rattle.dm_repo.specs.declared.refusal.Refusal.TheVariants.{Full};
+ghost use Rattle.dm_repo.specs.Misfits.{IsBasis};
+ghost use Rattle.dm_repo.specs.Overflows.{FrontOverflows, IsOverflow, MergedOverflows};
+ghost use Rattle.dm_repo.specs.Squares.{Placed};
+ghost use Rattle.dm_repo.specs.Weighing.{IsBundleSplit, IsNothingNew, RefusesBundle};
+
+use crate::basis::{Basis, find_basis};
+use crate::fit::fit;
+use crate::lookup::look_up;
+use crate::merge::{is_too_many, merge_with};
+use crate::misfit::{Misfit, first_misfit};
+use crate::parted::{split_held, split_repo};
+use crate::policy::Policy;
+use crate::refusal::Refusal;
+use crate::repo::{Repo, copy_patches};
+use dm_bundle::Bundle;
+use dm_named::Passing;
+use dm_tree::Tree;
+use dm_tree::laws::tree_is_lawful;
+use std::alloc::Allocator;
+
+/// Where a path gets more than 32 names; the fault is [`TooDeep`](dm_tree::TreeFault::TooDeep).
+#[derive(Drop)]
+pub enum Overflow<A: Allocator> {
+    /// By a common patch, where the front is applied from the root alone; its place is in the repository.
+    Front(Misfit<A>),
+    /// By a new patch, where the merged ones are applied to the repository's tree; its place is among the bundle's new patches.
+    Merged(Misfit<A>),
+}
+
+/// The common patches in front, copied: none where nothing is new.
+fn find_front<A: Allocator + Copy, B: Allocator + Copy>(
+    alloc: B,
+    repo: &Repo<A>,
+    bundle: &Bundle<B>,
+) -> Result<Option<Vec<(usize, Passing<B>), B>>, Refusal>
+    ensures { MatchResult result
+        (λ found. MatchOption found
+        (IsNothingNew repo.now.patches bundle.now)
+        (λ front. (rest : List Placed) × (new : List Placed) × IsBundleSplit repo.now.patches bundle.now front.items rest new))
+        (λ why. (policy : Policy) → RefusesBundle repo.now.patches bundle.now policy why) }
+{
+    let Some(marks) = look_up(alloc, repo, bundle)? else {
+        return Ok(None);
+    };
+    let parted = split_repo(alloc, repo, &marks, 0)?;
+    let new = copy_patches(alloc, bundle.new_patches())?;
+    let _ = split_held(alloc, new, &marks)?;
+    Ok(Some(parted.front))
+}
+
+/// The first common patch that makes a path of more than 32 names, where the front is applied from the root alone.
+fn front_overflow<A: Allocator + Copy, B: Allocator + Copy>(
+    alloc: B,
+    repo: &Repo<A>,
+    bundle: &Bundle<B>,
+) -> Result<Option<Misfit<B>>, Refusal>
+    ensures { MatchResult result
+        (λ found. IfSome found (FrontOverflows repo.now.patches bundle.now))
+        (λ why. (policy : Policy) → RefusesBundle repo.now.patches bundle.now policy why) }
+{
+    repo.lawful();
+    let Some(front) = find_front(alloc, repo, bundle)? else {
+        return Ok(None);
+    };
+    let root = Tree::new(alloc);
+    tree_is_lawful(&root);
+    let found = first_misfit(root, front)?;
+    Ok(found)
+}
+
+/// The first new patch that makes a path of more than 32 names, where the merged ones are applied to the repository's tree.
+fn merged_overflow<A: Allocator, B: Allocator + Copy>(
+    alloc: B,
+    repo: &Repo<A>,
+    basis: Basis<B>,
+    policy: Policy,
+) -> Result<Option<Misfit<B>>, Refusal>
+    ensures { (b : Contents) → IsBasis repo.now.patches b basis.tree basis.rest.items basis.new.items → MatchResult result
+        (λ found. IfSome found (MergedOverflows repo.now.patches b policy))
+        (λ why. RefusesBundle repo.now.patches b policy why) }
+{
+    let mut base = basis.tree;
+    match fit(&basis.new, &mut base) {
+        Ok(()) => {}
+        Err(stop) => return Err(stop.does_not_fit()),
+    }
+    let merging = merge_with(alloc, basis.rest, basis.new, policy)?;
+    if is_too_many(repo.len(), merging.merged.len()) {
+        return Ok(None);
+    }
+    let tree = repo.tree_copy(alloc)?;
+    let found = first_misfit(tree, merging.merged)?;
+    Ok(found)
+}
+
+/// The first patch that makes a path of more than 32 names, with its primitive that does and the tree that this was applied
+/// to: where the common patches are applied from the root alone, or where the merged ones are applied to the repository's
+/// tree. Then [`weigh`](crate::weigh) refuses with [`Refusal::Full`]; where there is none, or there would be too many
+/// patches, nothing is told. A refusal is one of a step before.
+pub fn find_overflow<A: Allocator + Copy, B: Allocator + Copy>(
+    alloc: B,
+    repo: &Repo<A>,
+    bundle: &Bundle<B>,
+    policy: Policy,
+) -> Result<Option<Overflow<B>>, Refusal>
+    ensures told { IfOk result (λ found. IfSome found (IsOverflow repo.now.patches bundle.now policy)) }
+    ensures refuses { IfOk result (λ found. IfSome found (λ _. RefusesBundle repo.now.patches bundle.now policy Full)) }
+    ensures refusal { IfErr result (RefusesBundle repo.now.patches bundle.now policy) }
+{
+    let front = front_overflow(alloc, repo, bundle)?;
+    if let Some(misfit) = front {
+        return Ok(Some(Overflow::Front(misfit)));
+    }
+    let Some(basis) = find_basis(alloc, repo, bundle)? else {
+        return Ok(None);
+    };
+    match merged_overflow(alloc, repo, basis, policy)? {
+        Some(misfit) => Ok(Some(Overflow::Merged(misfit))),
+        None => Ok(None),
+    }
+}
