@@ -1,5 +1,5 @@
 -- Whether one path begins with another, and what is left of it then.
-use Rattle.std.proofs.Common.{◌≡◌, ℕ, ◌+◌, ◌-◌, ◌<◌, ◌≤◌, [], ◌∷◌, ◌++◌, take, drop, length, sym, ap, subst, ap₂, ◌∙◌, arith, take-append-drop, append-nil, get_or, Bool, false, IsTrue, ◌↔◌, length-append, length-take}
+use Rattle.std.proofs.Common.{◌≡◌, ℕ, ◌+◌, ◌-◌, ◌<◌, ◌≤◌, [], ◌∷◌, ◌++◌, take, drop, length, sym, ap, subst, ap₂, ◌∙◌, arith, take-append-drop, append-nil, get_or, Bool, false, IsTrue, ◌↔◌, length-append, length-drop, length-take}
 use Rattle.std.proofs.lemmas.List.{take_rest, drop_all, drop_more, get_or-take, get_or_append_left, get_or_default}
 use Rattle.std.proofs.lemmas.List.Prefix.{front_rest}
 use Rattle.dm_tree.specs.Paths.{Name, Path, Under, Inside, forward}
@@ -40,6 +40,12 @@ begins_more p q i x y some l le a b e h =
 
 pub under_at : {r : Bool} (p p' a a' : Path) → p ≡ p' → a ≡ a' → (IsTrue r ↔ Under p a) → (IsTrue r ↔ Under p' a')
 under_at p p' a a' e f h = rw (e, f) at h
+
+pub not_deeper : (xs p : Path) → xs ≡ p → length p ≤ 32 → length xs ≤ 32
+not_deeper xs p e l = subst (λ (z : Path). length z ≤ 32) (sym e) l
+
+pub rest_not_deeper : (xs p : Path) (n : ℕ) → xs ≡ p → length p ≤ 32 → length (take (length xs - n) (drop n xs)) ≤ 32
+rest_not_deeper xs p n e l = omega (arith, ap length (take_rest xs n), length-drop n xs, ap length e, l)
 
 pub inside_from : (p a : Path) → length a < length p → Under p a → Inside p a
 inside_from p a l (r, e) = go r e

@@ -10,6 +10,7 @@ pub mod Listings
 pub mod Moved
 pub mod ValidityLemmas
 pub mod Joined
+pub mod Plain
 pub mod Paths
 pub mod Places
 pub mod OneAnswer

@@ -3,6 +3,7 @@ use Rattle.std.proofs.Common.{◌≡◌, ◌≢◌, ℕ, suc, ◌+◌, ◌-◌, 
 use Rattle.std.specs.Option.{is_some, option_map}
 use Rattle.std.specs.Ordering.{eq_by_cmp}
 use Rattle.std.specs.FinMap.{find}
+use Rattle.std.proofs.lemmas.List.{drop_all, drop_more}
 use Rattle.std.proofs.lemmas.Bool.Decides.{nat_tests}
 use Rattle.dm_tree.specs.declared.fault.TreeFault.{TreeFault}
 use Rattle.dm_tree.specs.declared.fault.TreeFault.TheVariants.{NoParent, Occupied, Missing, NotFile, NotDir, NotEmpty, IntoItself, LineRange, OldDiffers, NoLines, TooDeep, NoMemory}
@@ -152,3 +153,10 @@ refuses_add_of m ks ks' p p' r e f g h = subst (λ x. RefusesAdd x p r) e (subst
 
 pub renames_of : (m : Map) (ks ks' : List Child) (a a' b b' : Path) (r : Result (Unit {0}) TreeFault) → look ks ≡ m → ks' ≡ ks → a' ≡ a → b' ≡ b → RenameAnswers (look ks') a' b' r → RenameAnswers m a b r
 renames_of m ks ks' a a' b b' r e f g i h = subst (λ n. RenameAnswers n a b r) e (subst (λ k. RenameAnswers (look k) a b r) f (subst (λ x. RenameAnswers (look ks') x b r) g (subst (λ y. RenameAnswers (look ks') a' y r) i h)))
+
+-- a directory that holds something, where there is no room
+pub none_fits : (ks : List Child) (i : ℕ) (d : Child) (n : ℕ) → i < length ks → n ≡ 0 → are_short n (flatten ks) ≡ are_short n (flatten (drop i ks)) → false ≡ are_short n (flatten ks)
+none_fits ks i d n lt e so_far = sym (so_far ∙ ap (λ (z : List Child). are_short n (flatten z)) (drop_more ks i d lt) ∙ ap (λ k. are_short k (flatten (get_or ks i d ∷ drop (i + 1) ks))) e)
+
+pub all_fit : (ks : List Child) (i n : ℕ) → length ks ≤ i → are_short n (flatten ks) ≡ are_short n (flatten (drop i ks)) → true ≡ are_short n (flatten ks)
+all_fit ks i n le so_far = sym (so_far ∙ ap (λ (z : List Child). are_short n (flatten z)) (drop_all i ks le))

@@ -1,6 +1,8 @@
 -- Whether the lines of parts begin with those of a text, told part by part.
-use Rattle.std.proofs.Common.{◌≡◌, ℕ, ◌+◌, ◌-◌, ◌<◌, ◌≤◌, ◌↔◌, List, [], ◌++◌, length, take, drop, get_or, min, zero, suc, refl, sym, ap, ap₂, ◌∙◌, arith, append_assoc, length-drop, take-append-drop}
-use Rattle.std.proofs.lemmas.List.{take_all, drop_all, drop_at, drop_more, drop-drop, take-append-le, drop-append-le}
+use Rattle.std.proofs.Common.{◌≡◌, ℕ, ◌+◌, ◌-◌, ◌<◌, ◌≤◌, ◌↔◌, List, [], ◌++◌, length, take, drop, get_or, min, zero, suc, refl, sym, ap, ap₂, ◌∙◌, arith, IsTrue, nat_eq, append_assoc, length-append, length-drop, take-append-drop}
+use Rattle.std.proofs.lemmas.List.{take_all, drop_all, drop_at, drop_more, drop-drop, take-append-le, drop-append-le, get_or_default}
+use Rattle.std.proofs.lemmas.Bool.{eqb-true}
+use Rattle.dm_tree.proofs.Plain.{is_equal}
 use Rattle.dm_tree.specs.Trees.{Lines}
 use Rattle.dm_tree.specs.Files.{joined, BeginWith}
 
@@ -68,3 +70,20 @@ module _ (ps : List Lines) (first : ℕ) (fs : Lines) (k line at : ℕ) (s : Sta
         home u =
             let w = back (drop line p) rest (drop at fs) count short equal (u.0, u.1 ∙ ap (λ z. z ++ u.0) (sym (drop-drop count at fs))) in
             s.same.1 (w.0, opened ∙ w.1)
+
+-- before the first part
+pub stands_first : (ps : List Lines) (first : ℕ) (fs : Lines) → first ≤ length (get_or ps 0 []) → Standing ps first fs 0 first 0
+stands_first ps first fs h = record { here = h; within = omega arith; same = (λ u. u, λ u. u) }
+
+pub stands_here : (ps : List Lines) (first : ℕ) (fs : Lines) (k line at n : ℕ) (p : Lines) → Standing ps first fs k line at → k < length ps → p ≡ get_or ps k p → n ≡ length p → line ≤ n
+stands_here ps first fs k line at n p s lt read size = omega (arith, s.here, size, ap length (read ∙ get_or_default ps k p [] lt))
+
+-- behind the last part
+pub stands_end : (ps : List Lines) (first : ℕ) (fs : Lines) (k line at n : ℕ) → Standing ps first fs k line at → length ps ≤ k → n ≡ length fs → IsTrue (nat_eq at n) ↔ BeginWith (drop first (joined ps)) fs
+stands_end ps first fs k line at n s le size = (λ t. stands_all ps first fs k line at s (eqb-true at n t ∙ size), λ u. is_equal at n (go (s.same.0 u)))
+  where
+    go : BeginWith (drop line (joined (drop k ps))) (drop at fs) → at ≡ n
+    go (r, e) =
+        let none : drop k ps ≡ [] = drop_all k ps le in
+        let empty : length (drop line (joined (drop k ps))) ≡ 0 = ap (λ (z : List Lines). length (drop line (joined z))) none ∙ ap length (drop_all line [] (omega arith)) in
+        omega (arith, empty, ap length e, length-append (drop at fs) r, length-drop at fs, s.within, size)

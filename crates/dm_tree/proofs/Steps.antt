@@ -1,12 +1,12 @@
 -- Steps that the proofs of several walks over a path share.
-use Rattle.std.proofs.Common.{arith, sym, ap, ◌∙◌, subst, ◌≡◌, ◌≢◌, ◌<◌, ◌∷◌, [], length, OnOk, OnErr, None, Ok, Err, ℕ, true, false, nat_eq, List, Result, Option, get_or, set, Some, IsSome, refl}
+use Rattle.std.proofs.Common.{arith, sym, ap, ◌∙◌, subst, ◌≡◌, ◌≢◌, ◌<◌, ◌∷◌, [], length, OnOk, OnErr, None, Ok, Err, ℕ, true, false, nat_eq, List, Result, Option, get_or, set, Some, IsSome, IsTrue, ◌↔◌, refl}
 use Rattle.std.proofs.lemmas.Bool.{eqb-true}
 use Rattle.std.specs.Option.{IfSome}
 use Rattle.std.specs.Result.{IsErrAnd}
 use Rattle.dm_tree.specs.declared.fault.TreeFault.{TreeFault}
 use Rattle.dm_tree.specs.declared.fault.TreeFault.TheVariants.{NoMemory}
 use Rattle.dm_tree.specs.Paths.{Name, Path}
-use Rattle.dm_tree.specs.Trees.{Entry, File}
+use Rattle.dm_tree.specs.Trees.{Entry, Dir, File}
 use Rattle.dm_tree.specs.Children.{Child, IsRising, IsAt, IsGap, look}
 use Rattle.dm_tree.specs.Walks.{Grafts}
 use Rattle.dm_tree.proofs.Children.{child_at, look_in, find-flatten, child_at-gap, child_at-set, rising-set, grafts-child}
@@ -85,3 +85,10 @@ is_none (Some x) h = absurd (h (λ e. cc))
 pub err_memory : (P : Result (Unit {0}) TreeFault → Type 0) (r : Result (Unit {0}) TreeFault) → IsErrAnd r (λ e. e ≡ NoMemory) → P (Err NoMemory) → P r
 err_memory P (Ok x) h p = absurd h
 err_memory P (Err e) h p = subst (λ (z : TreeFault). P (Err z)) (sym h) p
+
+-- whether a directory is there, by what is there
+pub not_dir : (x y : Option Entry) → y ≡ x → (y ≡ Some Dir → ⊥) → IsTrue false ↔ (x ≡ Some Dir)
+not_dir x y e other = (λ t. cc, λ d. absurd (other (e ∙ d)))
+
+pub is_dir : (x : Option Entry) → Some Dir ≡ x → IsTrue true ↔ (x ≡ Some Dir)
+is_dir x e = (λ t. sym e, λ d. refl)

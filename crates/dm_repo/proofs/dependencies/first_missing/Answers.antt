@@ -1,4 +1,5 @@
 use Rattle.std.proofs.Common.{refl, ◌∙◌, arith}
+use Rattle.std.proofs.lemmas.Result.{err_from_is_err_and}
 use Rattle.std.proofs.lemmas.List.{length-map}
 use Rattle.dm_repo.proofs.DependencyLemmas.{first_lacking, all_have, have_more}
 use Rattle.dm_repo.proofs.dependencies.first_missing.Goals as goal
@@ -20,3 +21,9 @@ returns-in-Some g c = first_lacking c.args.repo.now.patches c.args.bundle.now c.
 
 pub returns : goal.returns
 returns g c = all_have c.args.repo.now.patches c.args.bundle.now c.loop-n.n (rw c.new_patches-new.ensures.value at c.loop-n-test.false) c.loop-n.invariant
+
+pub returns-in_err-names : goal.returns-in_err-names
+returns-in_err-names g c = let p = err_from_is_err_and c.from_residual.result c.from_residual.ensures.1 in rw p.1 tt
+
+pub returns-in_err-missing_dependency : goal.returns-in_err-missing_dependency
+returns-in_err-missing_dependency g c = let p = err_from_is_err_and c.from_residual-in_err-missing_dependency.result c.from_residual-in_err-missing_dependency.ensures.1 in rw p.1 tt

@@ -27,3 +27,6 @@ loop-n-preserved g c = λ repo marked.
 
 pub returns : goal.returns
 returns g c = λ repo marked t. all_have repo c.args.bundle.now c.loop-n.n (rw c.new_patches-new.ensures.value at c.loop-n-test.false) (c.loop-n.invariant repo marked)
+
+pub bounds-held-n : goal.bounds-held-n
+bounds-held-n g c = omega (arith, c.requires, rw c.new_patches-new.ensures.value at c.loop-n-test.true)

@@ -1,4 +1,4 @@
-use Rattle.std.proofs.Common.{◌≡◌, ◌<◌, true, false, sym, ◌∙◌, subst, length, get_or, arith}
+use Rattle.std.proofs.Common.{◌≡◌, ◌<◌, true, false, sym, ◌∙◌, subst, length, get_or, arith, ap}
 use Rattle.std.specs.Prelude.{Contains}
 use Rattle.std.proofs.lemmas.List.{take_all, length-map}
 use Rattle.std.proofs.lemmas.Bool.{false≢true}
@@ -49,3 +49,18 @@ returns g c = λ x d f n k.
     let s = same_patch b.patches c.args.n y x c.requires.place e f in
     let all : (i : PatchInfo) → Contains y.deps i → IsKnown c.args.repo.now.patches b c.args.n i = rw (take_all c.loop-d.d c.deps-dependencies.result.now c.loop-d-test.false, c.deps-dependencies.ensures) at c.loop-d.invariant in
     all d (subst (λ (p : Patch). Contains p.deps d) (sym s) k)
+
+pub index-requires : goal.index-requires
+index-requires g c =
+    let new = c.args.bundle.now.patches in
+    let w : length (infos_of new) ≡ length new = length-map new (λ p. p.info) in
+    omega (arith, w, c.requires.marks.held_is.length_is, c.requires.place, c.args.marks.now.held.ok.0)
+
+pub offset_bounds-new_patches-n : goal.offset_bounds-new_patches-n
+offset_bounds-new_patches-n g c = omega (arith, c.requires.place, ap length c.new_patches.ensures.value)
+
+pub bounds-new_patches-n : goal.bounds-new_patches-n
+bounds-new_patches-n g c = omega (arith, c.requires.place, ap length c.new_patches.ensures.value)
+
+pub is_known-requires : goal.is_known-requires
+is_known-requires g c = record { marks = c.requires.marks; valid = c.requires.valid; names = c.requires.names; distinct = c.requires.distinct }

@@ -1,4 +1,4 @@
-use Rattle.std.proofs.Common.{◌≡◌, ◌-◌, ◌<◌, true, false, sym, ◌∙◌, arith, drop, length, rules}
+use Rattle.std.proofs.Common.{◌≡◌, ◌-◌, ◌<◌, true, false, sym, ◌∙◌, arith, drop, length, rules, ap}
 use Rattle.std.proofs.lemmas.List.{drop_all, length-map}
 use Rattle.std.specs.Prelude.{Contains}
 use Rattle.dm_bundle.specs.Patches.{infos_of}
@@ -40,3 +40,19 @@ returns g c =
     let context = c.args.bundle.now.context in
     let z : c.loop-k.k ≡ 0 = omega (arith, c.loop-k-test.false) in
     (c.in_ok-marks.ensures.0, marks_alike (infos_of repo) c.loop-k.marks.items (ClosedFrom repo context 0) (Closed repo context) (rw z at c.loop-k.invariant) (from_first repo context))
+
+pub index-requires : goal.index-requires
+index-requires g c =
+    let n : length (infos_of c.args.repo.now.patches) ≡ length c.args.repo.now.patches = length-map c.args.repo.now.patches (λ p. p.info) in
+    omega (arith, n, c.loop-k.invariant.length_is, c.loop-k.auto.k, c.len-k.ensures.value, c.loop-k-test.true, c.loop-k.marks.ok.0)
+
+pub patch-requires : goal.patch-requires
+patch-requires g c = omega (arith, c.loop-k.auto.k, c.len-k.ensures.value, c.loop-k-test.true)
+
+pub mark-requires-clause-marks : goal.mark-requires-clause-marks
+mark-requires-clause-marks g c =
+    let n : length (infos_of c.args.repo.now.patches) ≡ length c.args.repo.now.patches = length-map c.args.repo.now.patches (λ p. p.info) in
+    omega (arith, n, c.loop-k.invariant.length_is, ap length c.as_mut_slice.ensures.value)
+
+pub mark-requires-clause-distinct : goal.mark-requires-clause-distinct
+mark-requires-clause-distinct g c = c.len-k.ensures.valid.distinct

@@ -39,3 +39,6 @@ returns-in-Err g c = λ b marked.
     rw c.context_depends.ensures
     (between_places (RefusesToSplit repo b) ContextDepends (AtPlaces (SplitStops PlacedCommutes (IsCommon repo b) (placed repo))) c.in-Err.blocked tt (λ j k q. (marked.knows, q))
     (blocked_map c.in-Err.blocked (λ h r q. stops_alike PlacedCommutes a (kept_stop marks repo c.args.kept (rw c.requires.marks at c.requires.within) c.requires.marked q)) s))
+
+pub copy_patches-requires : goal.copy_patches-requires
+copy_patches-requires g c κs = λ h. h

@@ -1,4 +1,5 @@
 use Rattle.std.proofs.Common.{refl}
+use Rattle.std.proofs.lemmas.Result.{err_from_is_err_and}
 use Rattle.dm_repo.proofs.AskedRows.{pass_goes, merge_goes}
 use Rattle.dm_repo.proofs.sifting.merge_meeting.Goals as goal
 
@@ -22,3 +23,22 @@ unreachable-requires-in-Err-At-merge_past g c =
     let m = rw c.in_default-2.is at c.in_ok-place-2.ensures.row in
     let over = rw (c.would_pass_all.ensures.same, c.in_ok-over.ensures) at c.in-Ok.ensures in
     merge_goes c.in-Err-At-merge_past.field-0 c.in-Err-At-merge_past.field-0-0 c.in-Err-At-merge_past.field-0-is p over m (rw c.would_merge_all.ensures.same at c.in-Err-At-merge_past.ensures)
+
+pub returns-in_err-asked : goal.returns-in_err-asked
+returns-in_err-asked g c = let p = err_from_is_err_and c.from_residual.result c.from_residual.ensures.1 in rw p.1 tt
+
+pub returns-in_err-place : goal.returns-in_err-place
+returns-in_err-place g c = let p = err_from_is_err_and c.from_residual-in_err-place.result c.from_residual-in_err-place.ensures.1 in rw p.1 tt
+
+pub returns-in_err-place-2 : goal.returns-in_err-place-2
+returns-in_err-place-2 g c = let p = err_from_is_err_and c.from_residual-in_err-place-2.result c.from_residual-in_err-place-2.ensures.1 in rw p.1 tt
+
+pub returns-in_err-over : goal.returns-in_err-over
+returns-in_err-over g c = let p = err_from_is_err_and c.from_residual-in_err-over.result c.from_residual-in_err-over.ensures.1 in rw p.1 tt
+
+pub returns : goal.returns
+returns g c = record {
+  between = _;
+  passes_skipped = rw (c.would_pass_all.ensures.same, c.in_ok-over.ensures) at c.in-Ok.ensures;
+  merges_past = rw c.would_merge_all.ensures.same at c.in-Ok-merge_past.ensures;
+}

@@ -1,4 +1,5 @@
 use Rattle.std.proofs.Common.{rules, map, refl, sym, ap, ◌∙◌, drop, length}
+use Rattle.std.proofs.lemmas.Result.{err_from_is_err_and}
 use Rattle.dm_repo.specs.Squares.{undone}
 use Rattle.dm_repo.proofs.SiftLemmas.{push_some}
 use Rattle.dm_repo.proofs.SkipLemmas.{completes_merged, completes_skipped, none_left}
@@ -49,3 +50,6 @@ loop-patch-preserved g c =
 
 pub returns-clause-sifts : goal.returns-clause-sifts
 returns-clause-sifts g c = none_left (map undone c.args.rest.items) c.args.new.items c.loop-patch.skipped.items (map undone c.loop-patch.rest.items) c.loop-patch.patch-iterator.rest.items c.loop-patch.merged.items c.loop-patch.skips.items c.loop-patch.invariant.completes (sym (c.loop-patch.patch-iterator.rest.ok.0) ∙ c.in-None.ensures.steps.0)
+
+pub returns-in_err-over : goal.returns-in_err-over
+returns-in_err-over g c = let p = err_from_is_err_and c.from_residual.result c.from_residual.ensures.1 in record { sifts = rw p.1 tt; same_rest = rw p.1 tt }

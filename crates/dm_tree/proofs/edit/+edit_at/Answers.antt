@@ -8,6 +8,7 @@ use Rattle.dm_tree.proofs.Children.{rising-set}
 use Rattle.dm_tree.proofs.Adds.{dir_child, leaf_child, at_name, set_same, seen}
 use Rattle.dm_tree.proofs.Steps.{no_rest, some_rest, on_ok, on_err, at_of, opened, look_gap, look_dir, look_text}
 use Rattle.dm_tree.proofs.Edits.{look_here, spliced_text, spliced_dir, still_lines}
+use Rattle.dm_tree.proofs.Plain.{none_some}
 use Rattle.dm_tree.proofs.edit.+edit_at.Goals as goal
 
 pub unreachable-requires-in_default-place : goal.unreachable-requires-in_default-place
@@ -111,3 +112,18 @@ returns-else-not-is_empty-clause-err g t c =
     let ks = c.args.children.now.items in
     let view : leaf_child c.child.inside.name (File c.in-Text.file) ≡ c.index_mut-child.result.now = rw c.in-Text.is at c.child.view_is in
     on_err c.splice.result _ _ (λ s. ap (λ l. set ks c.in-Ok.i (leaf_child c.child.inside.name (File l))) s ∙ ap (set ks c.in-Ok.i) view ∙ set_same ks c.in-Ok.i c.index_mut-child.result.now c.index_mut-child.ensures.value) c.splice.ensures.err
+
+pub place-requires : goal.place-requires
+place-requires g t c = subst IsRising (sym c.deref.ensures.value) c.requires.rising
+
+pub index_mut-child-requires : goal.index_mut-child-requires
+index_mut-child-requires g t c = subst (λ n. c.in-Ok.i < n) c.deref.ensures.len c.in-Ok.ensures.range
+
+pub unreachable-requires : goal.unreachable-requires
+unreachable-requires g t c = none_some _ c.in_default.ensures.cases c.requires.nonempty
+
+pub invariant_of-child : goal.invariant_of-child
+invariant_of-child g t c = subst IsValid c.in-Children.is c.child.invariant
+
+pub invariant_of-child-in-Children : goal.invariant_of-child-in-Children
+invariant_of-child-in-Children g t c = c.edit_at.ensures.rising

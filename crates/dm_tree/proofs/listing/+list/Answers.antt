@@ -1,8 +1,10 @@
-use Rattle.std.proofs.Common.{arith, ◌≡◌, ◌<◌, ◌∙◌, ◌++◌, ◌∷◌, [], length, sym, ap, subst, get_or}
+use Rattle.std.proofs.Common.{arith, ◌≡◌, ◌<◌, ◌∙◌, ◌++◌, ◌∷◌, [], length, List, append-nil, sym, ap, subst, get_or}
 use Rattle.dm_tree.specs.Trees.{Entry}
 use Rattle.dm_tree.specs.Children.{Child, PathEntries, all, below, flatten, IsRising}
 use Rattle.dm_tree.specs.Nested.{IsValid}
-use Rattle.dm_tree.specs.Walks.{AreValid}
+use Rattle.dm_tree.specs.Walks.{AreValid, listed}
+use Rattle.dm_tree.specs.Validity.{IsValidPath}
+use Rattle.std.proofs.lemmas.List.{take_all}
 use Rattle.dm_tree.specs.NodeFalls.{one_le}
 use Rattle.dm_tree.proofs.Adds.{dir_child}
 use Rattle.dm_tree.proofs.Sorted.{sorted_flatten}
@@ -60,3 +62,20 @@ list_node-returns-in_ok-push-in-Children-clause-sorted g t c =
     let view : dir_child c.node.inside.name c.in-Children.children.items ≡ k = rw c.in-Children.is at c.node.view_is in
     let under : k.under ≡ flatten c.in-Children.children.items = sym (ap (λ (x : Child). x.under) view) in
     if_ok c.list_children.result _ _ (λ x o. dir_sorted k c.in-Children.children.items c.deref-in-Children.result.now under c.deref-in-Children.ensures.value o) c.list_children.ensures.sorted
+
+pub list_children-loop-child-init : goal.list_children-loop-child-init
+list_children-loop-child-init g t c = (sym (append-nil c.args.out.now.items), tt)
+
+pub list_children-returns-clause-ok : goal.list_children-returns-clause-ok
+list_children-returns-clause-ok g t c = c.loop-child.invariant.0 ∙ ap (λ (z : List Child). c.args.out.now.items ++ listed c.args.above.now (flatten z)) (take_all c.loop-child.child-index c.args.children.now c.loop-child-test.false)
+
+pub list_node-bytes-requires : goal.list_node-bytes-requires
+list_node-bytes-requires g t c = subst IsValid c.in-Text.is c.node.invariant
+
+pub list_node-from_names-requires : goal.list_node-from_names-requires
+list_node-from_names-requires g t c = subst IsValidPath (sym (c.in_ok-names-in-Text.ensures ∙ ap (λ n. c.args.above.now ++ n ∷ []) c.name.ensures)) c.requires.valid.0
+
+pub list_node-from_names-path-requires : goal.list_node-from_names-path-requires
+list_node-from_names-path-requires g t c =
+    let own = c.in_ok-names-in-Children.ensures ∙ ap (λ n. c.args.above.now ++ n ∷ []) c.name-in-Children.ensures in
+    subst IsValidPath (sym (c.in_ok-copy_all-in-Children.ensures ∙ c.deref.ensures.value ∙ own)) c.requires.valid.0

@@ -1,4 +1,4 @@
-use Rattle.std.proofs.Common.{refl, sym, ap, ◌∙◌, subst, ◌≡◌, ◌<◌, ◌∷◌, [], length, Some, None, set, arith}
+use Rattle.std.proofs.Common.{refl, sym, ap, ◌∙◌, subst, ◌≡◌, ◌<◌, ◌≤◌, ◌∷◌, [], length, Some, None, set, arith}
 use Rattle.std.specs.List.{insert}
 use Rattle.dm_tree.specs.Trees.{Dir, File}
 use Rattle.dm_tree.specs.Children.{Child, IsRising, look}
@@ -7,6 +7,7 @@ use Rattle.dm_tree.specs.Walks.{SetsAt, leaf_entry}
 use Rattle.dm_tree.proofs.Children.{child_at-at, child_at-gap, rising-set, rising-insert}
 use Rattle.dm_tree.proofs.Adds.{dir_child, leaf_child, at_name, set_same, seen, parent_dir, parent_file, parent_absent, child_here, sets_dir, sets_leaf}
 use Rattle.dm_tree.proofs.Steps.{no_rest, some_rest, on_ok, on_err, at_of, gap_of, opened, look_dir}
+use Rattle.dm_tree.proofs.Plain.{if_err, if_ok_err, none_some}
 use Rattle.dm_tree.proofs.node.+add.Goals as goal
 
 pub unreachable-requires-then-is_empty : goal.unreachable-requires-then-is_empty
@@ -94,3 +95,27 @@ returns-in_ok-insert-in-Err-clause-ok g t c =
     subst (λ l. SetsAt (look ks) (look l) c.args.path.now what) (sym (c.in_ok-insert-in-Err.ensures.items ∙ ap (insert ks c.in-Err.i) node))
     (subst (λ p. SetsAt (look ks) (look (insert ks c.in-Err.i (leaf_child name (leaf_entry c.args.leaf)))) p what) (sym (c.in-Some.ensures.cases.0 ∙ ap (λ r. name ∷ r) none))
     (sets_leaf ks c.requires.rising name c.in-Err.i (leaf_entry c.args.leaf) gap))
+
+pub place-requires : goal.place-requires
+place-requires g t c = subst IsRising (sym c.deref.ensures.value) c.requires.rising
+
+pub index_mut-child-requires : goal.index_mut-child-requires
+index_mut-child-requires g t c = subst (λ n. c.in-Ok.i < n) c.deref.ensures.len c.in-Ok.ensures.range
+
+pub returns-in_err-node-in-Err-clause-ok : goal.returns-in_err-node-in-Err-clause-ok
+returns-in_err-node-in-Err-clause-ok g t c = if_ok_err c.from_residual.result _ c.from_residual.ensures.0
+
+pub insert-requires : goal.insert-requires
+insert-requires g t c = subst (λ n. c.in-Err.i ≤ n) c.deref.ensures.len c.in-Err.ensures.range
+
+pub returns-in_err-insert-in-Err-clause-rising : goal.returns-in_err-insert-in-Err-clause-rising
+returns-in_err-insert-in-Err-clause-rising g t c = subst IsRising (sym c.in_err-insert-in-Err.ensures.items) c.requires.rising
+
+pub returns-in_err-insert-in-Err-clause-ok : goal.returns-in_err-insert-in-Err-clause-ok
+returns-in_err-insert-in-Err-clause-ok g t c = if_ok_err c.from_residual-in_err-insert-in-Err.result _ c.from_residual-in_err-insert-in-Err.ensures.0
+
+pub returns-in_err-insert-in-Err-clause-err : goal.returns-in_err-insert-in-Err-clause-err
+returns-in_err-insert-in-Err-clause-err g t c = if_err c.from_residual-in_err-insert-in-Err.result _ c.in_err-insert-in-Err.ensures.items
+
+pub unreachable-requires : goal.unreachable-requires
+unreachable-requires g t c = none_some _ c.in_default.ensures.cases c.requires.nonempty

@@ -7,6 +7,7 @@ use Rattle.dm_tree.specs.Walks.{Grafts, nothing}
 use Rattle.dm_tree.proofs.Children.{look_in, find-flatten, child_at-remove, rising-remove, rising-set, grafts-child}
 use Rattle.dm_tree.proofs.Adds.{dir_child, leaf_child, seen}
 use Rattle.dm_tree.proofs.Steps.{no_rest, some_rest, at_of, opened, look_gap, look_dir, look_text, not_there, grafts_dir}
+use Rattle.dm_tree.proofs.Plain.{none_some}
 use Rattle.dm_tree.proofs.node.+cut.Goals as goal
 
 pub unreachable-requires-in_default-place : goal.unreachable-requires-in_default-place
@@ -78,3 +79,12 @@ returns-clause-part g t c = λ q.
     let view : dir_child c.child-2.inside.name c.in-Children.inner.items ≡ c.index_mut-child.result.now = rw c.in-Children.is at c.child-2.view_is in
     let o = opened name _ ks _ c.in-Ok.i c.index_mut-child.result.now c.child-2.inside.name c.in-Children.inner.items c.as_slice.ensures c.deref.ensures.value c.in-Ok.ensures.found c.index_mut-child.ensures.value view in
     c.cut.ensures.part q ∙ sym (look_dir name ks c.in-Ok.i c.child-2.inside.name c.in-Children.inner.items (c.args.path.now ++ q) (rest ++ q) c.requires.rising o (ap (λ p. p ++ q) c.in-Some.ensures.cases.0))
+
+pub place-requires : goal.place-requires
+place-requires g t c = subst IsRising (sym c.deref.ensures.value) c.requires.rising
+
+pub index_mut-child-requires : goal.index_mut-child-requires
+index_mut-child-requires g t c = subst (λ n. c.in-Ok.i < n) c.deref.ensures.len c.in-Ok.ensures.range
+
+pub unreachable-requires : goal.unreachable-requires
+unreachable-requires g t c = none_some _ c.in_default.ensures.cases c.requires.nonempty

@@ -1,4 +1,5 @@
-use Rattle.std.proofs.Common.{rules, ◌≡◌, ◌+◌, ◌++◌, ◌≤◌, length, vec_len, vec_capacity, ap₂, sym, ◌∙◌, arith, IsOk}
+use Rattle.std.proofs.Common.{rules, ◌≡◌, ◌+◌, ◌++◌, ◌≤◌, length, vec_len, vec_capacity, ap₂, sym, ◌∙◌, arith, IsOk, ap}
+use Rattle.std.proofs.lemmas.List.{length-map}
 use Rattle.dm_repo.proofs.Members.{infos_of-append}
 use Rattle.dm_repo.proofs.repo.Repo.commit.Goals as goal
 
@@ -15,3 +16,30 @@ invariant_of-self g c =
     let e : c.append.new.self.items ≡ s.items ++ p.items = search rules in
     let names = c.append_names.ensures ∙ ap₂ (λ a b. a ++ b) c.self.invariant.1 c.ready.invariant ∙ sym (infos_of-append s.items p.items) in
     rw e (rw (← c.ready.view_is, ← c.self.view_is) at c.requires.applies, names)
+
+pub append_names-requires : goal.append_names-requires
+append_names-requires g c =
+    let s = c.self.inside.patches in
+    let p = c.ready.inside.patches in
+    let r = rw (← c.ready.view_is, ← c.self.view_is) at c.requires.room in
+    let distinct = rw (← c.ready.view_is, ← c.self.view_is) at c.requires.applies.valid.distinct in
+    record {
+      room = omega (arith, r, ap length c.ready.invariant, length-map p.items (λ p. p.info));
+      distinct = rw (c.self.invariant.1, c.ready.invariant, ← infos_of-append s.items p.items) distinct;
+    }
+
+pub returns : goal.returns
+returns g c =
+    let s = c.self.inside.patches in
+    let p = c.ready.inside.patches in
+    let r = rw (← c.ready.view_is, ← c.self.view_is) at c.requires.room in
+    let so0 : vec_len s ≡ length s.items = s.ok.0 in
+    let so1 : vec_len s ≤ vec_capacity s = s.ok.1 in
+    let po : vec_len p ≡ length p.items = p.ok.0 in
+    let ok : vec_len s + vec_len p ≤ vec_capacity s = omega (arith, r, so0, so1, po) in
+    let f : IsOk c.append.result = c.append.ensures.succeeds ok in
+    let e : c.append.new.self.items ≡ s.items ++ p.items = search rules in
+    record {
+      patches = rw (← c.ready.view_is, ← c.self.view_is) e;
+      count = rw (← c.ready.view_is) (c.len-count.ensures ∙ po);
+    }

@@ -1,12 +1,13 @@
-use Rattle.std.proofs.Common.{refl, sym, ap, subst, ◌∙◌, ◌≡◌, Some, None}
+use Rattle.std.proofs.Common.{refl, sym, ap, subst, ◌∙◌, ◌≡◌, ◌<◌, length, Some, None}
 use Rattle.std.specs.FinMap as map
 use Rattle.std.specs.FinMap.{get}
 use Rattle.dm_tree.specs.Changes.{AddAnswers}
-use Rattle.dm_tree.specs.Children.{look}
+use Rattle.dm_tree.specs.Children.{look, IsRising, IsTree}
 use Rattle.dm_tree.specs.Walks.{SetsAt, leaf_entry}
 use Rattle.dm_tree.proofs.Renames.{adds_refused, refuses_add_of}
 use Rattle.dm_tree.proofs.Steps.{err_memory}
-use Rattle.dm_tree.proofs.Trees.{added, leaf_valid, sets_tree, get-tree_of}
+use Rattle.dm_tree.proofs.Trees.{added, leaf_valid, sets_tree, get-tree_of, tree_of}
+use Rattle.dm_tree.proofs.Plain.{if_err, if_ok_err}
 use Rattle.dm_tree.proofs.tree.Tree.add_leaf.Goals as goal
 
 pub add-requires-clause-parent : goal.add-requires-clause-parent
@@ -58,3 +59,24 @@ returns-clause-ok g c =
     let e = leaf_entry c.args.leaf in
     let sets : SetsAt (look ks) (look new) p (Some e) = subst (λ x. SetsAt (look ks) (look new) x (Some e)) c.names-2.ensures.value c.in_ok-add.ensures.ok in
     sets_tree ks new p e sets ∙ ap (λ t. map.insert t p e) c.self.view_is
+
+pub add_refused-requires-clause-nonempty : goal.add_refused-requires-clause-nonempty
+add_refused-requires-clause-nonempty g c = subst (λ p. 0 < length p) (sym c.names.ensures.value) c.names.ensures.not_root
+
+pub add_refused-requires-clause-rising : goal.add_refused-requires-clause-rising
+add_refused-requires-clause-rising g c = subst IsRising (sym c.deref.ensures.value) c.self.invariant.rising
+
+pub add-requires-clause-nonempty : goal.add-requires-clause-nonempty
+add-requires-clause-nonempty g c = subst (λ p. 0 < length p) (sym c.names-2.ensures.value) c.names-2.ensures.not_root
+
+pub add-requires-clause-rising : goal.add-requires-clause-rising
+add-requires-clause-rising g c = c.self.invariant.rising
+
+pub invariant_of-self : goal.invariant_of-self
+invariant_of-self g c = subst IsTree (sym c.in_err-add.ensures.err) c.self.invariant
+
+pub returns-in_err-add-clause-ok : goal.returns-in_err-add-clause-ok
+returns-in_err-add-clause-ok g c = if_ok_err c.from_residual.result _ c.from_residual.ensures.0
+
+pub returns-in_err-add-clause-err : goal.returns-in_err-add-clause-err
+returns-in_err-add-clause-err g c = if_err c.from_residual.result _ (ap tree_of c.in_err-add.ensures.err ∙ c.self.view_is)

@@ -1,14 +1,15 @@
-use Rattle.std.proofs.Common.{refl, sym, ap, subst, ◌∙◌, ◌≡◌, ◌+◌, ◌-◌, length, Some, None}
+use Rattle.std.proofs.Common.{refl, sym, ap, subst, ◌∙◌, ◌≡◌, ◌+◌, ◌-◌, ◌<◌, length, Some, None}
 use Rattle.std.specs.FinMap.{get, insert}
 use Rattle.std.specs.List.{splice}
 use Rattle.dm_tree.specs.Trees.{Lines, File}
 use Rattle.dm_tree.specs.Changes.{EditAnswers}
-use Rattle.dm_tree.specs.Children.{look}
+use Rattle.dm_tree.specs.Children.{look, IsTree}
 use Rattle.dm_tree.specs.Nested.{entry_of}
 use Rattle.dm_tree.specs.Walks.{SetsAt, CanSplice, spliced}
 use Rattle.dm_tree.proofs.Edits.{edit_refused, edited_tree, edits_splice, may_edit, refuses_edit_of}
 use Rattle.dm_tree.proofs.Steps.{err_memory}
-use Rattle.dm_tree.proofs.Trees.{get-tree_of, sets_tree}
+use Rattle.dm_tree.proofs.Trees.{get-tree_of, sets_tree, tree_of}
+use Rattle.dm_tree.proofs.Plain.{if_err, if_ok_err, one_more, before_fits, total_fits}
 use Rattle.dm_tree.proofs.tree.Tree.edit.Goals as goal
 
 pub returns-in-None-clause-fault : goal.returns-in-None-clause-fault
@@ -108,3 +109,27 @@ returns-clause-ok g c =
     let sets : SetsAt (look ks) (look c.edit_at.new.children.items) p (Some (File ls')) =
     subst (λ r. SetsAt (look ks) (look c.edit_at.new.children.items) r (Some (File ls'))) c.names.ensures.value (subst (λ w. SetsAt (look ks) (look c.edit_at.new.children.items) c.names.result.now w) what c.in_ok-edit_at.ensures.ok) in
     (ls, ls', at_file, edits.1, sets_tree ks c.edit_at.new.children.items p (File ls') sets ∙ ap (λ t. insert t p (File ls')) c.self.view_is)
+
+pub overflow_sub-start : goal.overflow_sub-start
+overflow_sub-start g c = one_more _ c.args.line c.in_default.ensures.fault.1.at
+
+pub overflow_cast-start : goal.overflow_cast-start
+overflow_cast-start g c = before_fits c.args.line c.ranges.line
+
+pub overflow_add-end : goal.overflow_add-end
+overflow_add-end g c = total_fits (c.args.line - 1) c.len.result _ c.in_default.ensures.fits (c.len.ensures.value ∙ sym (ap length c.text.ensures.value))
+
+pub edit_at-requires-clause-nonempty : goal.edit_at-requires-clause-nonempty
+edit_at-requires-clause-nonempty g c = subst (λ p. 0 < length p) (sym c.names.ensures.value) c.names.ensures.not_root
+
+pub edit_at-requires-clause-rising : goal.edit_at-requires-clause-rising
+edit_at-requires-clause-rising g c = c.self.invariant.rising
+
+pub invariant_of-self : goal.invariant_of-self
+invariant_of-self g c = subst IsTree (sym c.in_err-edit_at.ensures.err) c.self.invariant
+
+pub returns-in_err-edit_at-clause-ok : goal.returns-in_err-edit_at-clause-ok
+returns-in_err-edit_at-clause-ok g c = if_ok_err c.from_residual.result _ c.from_residual.ensures.0
+
+pub returns-in_err-edit_at-clause-err : goal.returns-in_err-edit_at-clause-err
+returns-in_err-edit_at-clause-err g c = if_err c.from_residual.result _ (ap tree_of c.in_err-edit_at.ensures.err ∙ c.self.view_is)

@@ -1,7 +1,7 @@
-use Rattle.std.proofs.Common.{sym, ap, ◌∙◌, ◌≡◌, List, ℕ, Some}
+use Rattle.std.proofs.Common.{sym, ap, subst, ◌<◌, length, ◌∙◌, ◌≡◌, List, ℕ, Some}
 use Rattle.std.specs.FinMap.{get}
 use Rattle.dm_tree.specs.Trees.{File}
-use Rattle.dm_tree.specs.Children.{look}
+use Rattle.dm_tree.specs.Children.{look, IsRising}
 use Rattle.dm_tree.specs.Nested.{entry_of}
 use Rattle.dm_tree.proofs.Edits.{some_lines}
 use Rattle.dm_tree.proofs.Trees.{get-tree_of}
@@ -29,3 +29,9 @@ pub returns-in-Some-Text : goal.returns-in-Some-Text
 returns-in-Some-Text g c =
     let ks = c.self.inside.children.items in
     ap (λ (l : List (List ℕ)). Some (File l)) (c.new.ensures) ∙ sym (ap (λ b. Some (entry_of b)) c.in-Some-Text.field-0-is) ∙ c.in-Some-Text.ensures.value ∙ ap (look c.deref.result.now) c.names.ensures.value ∙ ap (λ k. look k c.args.path.now) c.deref.ensures.value ∙ ap (λ m. m c.args.path.now) (sym (get-tree_of ks) ∙ ap get c.self.view_is)
+
+pub find-requires-clause-nonempty : goal.find-requires-clause-nonempty
+find-requires-clause-nonempty g c = subst (λ p. 0 < length p) (sym c.names.ensures.value) c.names.ensures.not_root
+
+pub find-requires-clause-rising : goal.find-requires-clause-rising
+find-requires-clause-rising g c = subst IsRising (sym c.deref.ensures.value) c.self.invariant.rising

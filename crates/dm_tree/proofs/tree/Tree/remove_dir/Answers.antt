@@ -1,4 +1,4 @@
-use Rattle.std.proofs.Common.{refl, sym, ap, subst, ◌∙◌, ◌≡◌, ◌++◌, ◌∷◌, [], nat_eq, Some, None, IsSome}
+use Rattle.std.proofs.Common.{refl, sym, ap, subst, ◌∙◌, ◌≡◌, ◌<◌, length, ◌++◌, ◌∷◌, [], nat_eq, Some, None, IsSome}
 use Rattle.std.specs.FinMap as map
 use Rattle.std.specs.FinMap.{get}
 use Rattle.dm_tree.specs.Paths.{Name}
@@ -57,3 +57,9 @@ returns-clause-ok g c =
     let bare : (n : Name) → look ks (p ++ n ∷ []) ≡ None = λ n. ap (λ m. m (p ++ n ∷ [])) is_map ∙ sym (c.in-Some-Children.ensures.part (n ∷ [])) ∙ ap (λ b. part_of b (n ∷ [])) c.in-Some-Children.field-0-is ∙ none_inside inner none n in
     let cut : Grafts (look ks) (look c.cut.new.children.items) p nothing = subst (λ r. Grafts (look ks) (look c.cut.new.children.items) r nothing) c.names.ensures.value c.cut.ensures.cut in
     removed_map ks c.cut.new.children.items p (removes_one (look ks) (look c.cut.new.children.items) p c.self.invariant.lawful cut bare) ∙ ap (λ t. map.remove t p) c.self.view_is
+
+pub cut-requires-clause-nonempty : goal.cut-requires-clause-nonempty
+cut-requires-clause-nonempty g c = subst (λ p. 0 < length p) (sym c.names.ensures.value) c.names.ensures.not_root
+
+pub cut-requires-clause-rising : goal.cut-requires-clause-rising
+cut-requires-clause-rising g c = c.self.invariant.rising

@@ -1,8 +1,9 @@
 use Rattle.std.proofs.Common.{refl, sym, ap, subst, ◌∙◌, ◌≡◌, ◌<◌, ◌≤◌, length, Ok, Err}
 use Rattle.std.specs.FinMap.{get}
 use Rattle.dm_tree.specs.Changes.{Renamed, RenameAnswers}
-use Rattle.dm_tree.specs.Children.{IsRising, look}
+use Rattle.dm_tree.specs.Children.{IsRising, IsTree, look}
 use Rattle.dm_tree.proofs.Moved.{moved_tree}
+use Rattle.dm_tree.proofs.Plain.{if_err, if_ok_err}
 use Rattle.dm_tree.proofs.Renames.{renames_of}
 use Rattle.dm_tree.proofs.Steps.{err_memory}
 use Rattle.dm_tree.proofs.Trees.{get-tree_of, tree_of}
@@ -74,3 +75,18 @@ returns-clause-ok g c =
     let is_map : look ks ≡ get c.args.self.now = sym (get-tree_of ks) ∙ ap get c.self.view_is in
     let ren : Renamed a b (look ks) (look new) = subst (λ y. Renamed a y (look ks) (look new)) c.names-4.ensures.value (subst (λ x. Renamed x c.names-4.result.now (look ks) (look new)) c.names-3.ensures.value c.in_ok-move_node.ensures.ok) in
     subst (λ m. Renamed a b m (get (tree_of new))) is_map (subst (λ m. Renamed a b (look ks) m) (sym (get-tree_of new)) ren)
+
+pub move_node-requires-clause-from_named : goal.move_node-requires-clause-from_named
+move_node-requires-clause-from_named g c = subst (λ p. 0 < length p) (sym c.names-3.ensures.value) c.names-3.ensures.not_root
+
+pub move_node-requires-clause-to_named : goal.move_node-requires-clause-to_named
+move_node-requires-clause-to_named g c = subst (λ p. 0 < length p) (sym c.names-4.ensures.value) c.names-4.ensures.not_root
+
+pub invariant_of-self : goal.invariant_of-self
+invariant_of-self g c = subst IsTree (sym c.in_err-move_node.ensures.err) c.self.invariant
+
+pub returns-in_err-move_node-clause-ok : goal.returns-in_err-move_node-clause-ok
+returns-in_err-move_node-clause-ok g c = if_ok_err c.from_residual.result _ c.from_residual.ensures.0
+
+pub returns-in_err-move_node-clause-err : goal.returns-in_err-move_node-clause-err
+returns-in_err-move_node-clause-err g c = if_err c.from_residual.result _ (ap tree_of c.in_err-move_node.ensures.err ∙ c.self.view_is)
