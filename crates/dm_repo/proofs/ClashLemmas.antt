@@ -178,7 +178,7 @@ conflict_stops Skip {rest} (after, skipped, e, s, f) = record { before = []; aft
 
 module _ (repo : List Patch) (b : Contents) where
   -- the steps before the merge have one answer
-  fits_one : {rest new rest1 new1 : List Placed} → Fits repo b rest new → Fits repo b rest1 new1 → (rest ≡ rest1) × (new ≡ new1)
+  pub fits_one : {rest new rest1 new1 : List Placed} → Fits repo b rest new → Fits repo b rest1 new1 → (rest ≡ rest1) × (new ≡ new1)
   fits_one f g =
       let s = f.bundle_split in
       let t = g.bundle_split in (

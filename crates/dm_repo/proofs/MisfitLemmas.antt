@@ -25,7 +25,7 @@ pub leads_also : (xs : List Placed) (x : Placed) {s t u : LawfulMap} → InTurn 
 leads_also xs x r h = rw (map-append (λ (y : Placed). y.1) xs (x ∷ [])) (runs_on r (step h done))
 
 -- a bundle is split in one way
-bundle_one : (repo : List Patch) (b : Contents) {front rest new front1 rest1 new1 : List Placed} → IsBundleSplit repo b front rest new → IsBundleSplit repo b front1 rest1 new1 → (front ≡ front1) × (new ≡ new1)
+pub bundle_one : (repo : List Patch) (b : Contents) {front rest new front1 rest1 new1 : List Placed} → IsBundleSplit repo b front rest new → IsBundleSplit repo b front1 rest1 new1 → (front ≡ front1) × (new ≡ new1)
 bundle_one repo b s t = (
   (split_one Placed PlacedCommutes placed_one (IsCommon repo b) refl s.repo_split.split t.repo_split.split).0,
   (split_one Placed PlacedCommutes placed_one (IsHeld repo) refl s.split t.split).1,

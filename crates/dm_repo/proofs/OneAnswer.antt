@@ -31,7 +31,7 @@ first_one Q j k (q, none) (r, nothing) = same j k (λ l. nothing j l q) (λ l. n
     same j k n m = omega (arith, n, m)
 
 -- what goes too deep is stopped
-deep_stops : {s : LawfulMap} {xs : List Placed} {x : Placed} → FitStops MakesTooDeep s xs x → FitStops IsStopped s xs x
+pub deep_stops : {s : LawfulMap} {xs : List Placed} {x : Placed} → FitStops MakesTooDeep s xs x → FitStops IsStopped s xs x
 deep_stops f = record {
   before = f.before;
   after = f.after;

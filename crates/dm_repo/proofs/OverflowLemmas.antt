@@ -1,6 +1,7 @@
--- Where a path gets too many names as patches are applied that lead on: nothing else stops them, and the bundle is refused as full.
+-- Where a path gets too many names as patches are applied that lead on: nothing else stops them, and the bundle is refused as full. Where none does
+-- it is refused so only for too many patches.
 use Rattle.std.proofs.Common.{◌≡◌, ◌≢◌, ℕ, List, ◌∷◌, Option, Some, None, inl, inr, ap, refl, ◌∙◌}
-use Rattle.std.specs.Prelude.{IfSome, MatchOption}
+use Rattle.std.specs.Prelude.{MatchOption}
 use Rattle.std.proofs.lemmas.List.{map-append}
 use Rattle.dm_tree.specs.Trees.{Map, Tree}
 use Rattle.dm_tree.specs.declared.fault.TreeFault.{TreeFault}
@@ -14,15 +15,20 @@ use Rattle.dm_repo.specs.declared.misfit.Misfit.{Misfit}
 use Rattle.dm_repo.specs.declared.policy.Policy.{Policy}
 use Rattle.dm_repo.specs.declared.refusal.Refusal.TheVariants.{Full}
 use Rattle.dm_repo.specs.Folds.{IsRoot, MakesTooDeep, PatchLeads, PatchLeadsShallowly, PatchStops, ShallowFold}
-use Rattle.dm_repo.specs.Misfits.{FaultsAt, IsBasis, StopsWith}
-use Rattle.dm_repo.specs.Overflows.{FrontOverflows, MergedOverflows, OverflowsWith}
-use Rattle.dm_repo.specs.Repositories.{IsMapOf, IsRepo}
+use Rattle.dm_repo.specs.Misfits.{FaultsAt, StopsWith}
+use Rattle.dm_repo.specs.Overflows.{FrontOverflows, MergedOverflows, MergesTooMany, OverflowsWith}
+use Rattle.dm_repo.specs.Repositories.{IsRepo}
 use Rattle.dm_repo.specs.Sifting.{MergesUnder}
 use Rattle.dm_repo.specs.Squares.{Placed, patches}
-use Rattle.dm_repo.specs.Weighing.{Fits, GoesTooDeep, IsBundleSplit, RefusesBundle}
+use Rattle.dm_repo.specs.Weighing.{Fits, FrontIsFull, GoesTooDeep, IsBundleSplit, MergeIsFull, RefusesBundle}
 use Rattle.dm_repo.proofs.Applying.{fault_there}
+use Rattle.dm_repo.proofs.ClashLemmas.{fits_one}
 use Rattle.dm_repo.proofs.Depths.{front_leads}
 use Rattle.dm_repo.proofs.FoldLemmas.{merge_applies}
+use Rattle.dm_repo.proofs.Making.{fit_stops_all, front_stops, grows_one}
+use Rattle.dm_repo.proofs.MisfitLemmas.{bundle_one}
+use Rattle.dm_repo.proofs.OneAnswer.{deep_stops}
+use Rattle.dm_repo.proofs.SiftLemmas.{under_one}
 use Rattle.dm_repo.proofs.Staircases.{runs_part}
 use Rattle.dm_repo.proofs.Trees.{does_one, grows_fold, leads_one, runs_go, runs_lead, runs_one}
 
@@ -51,13 +57,29 @@ patch_deep {x} {s} {t} {k} {tree} {e} n f r = let q = fault_there f in go q (run
         let h : Leads q.prim q.tree w = rw d at j in
         only_deep q.prim q.tree.map w.map e n q.stops h.applies
 
--- the new patches fit where they lead on from the tree of the front
-pub basis_fits : (repo : List Patch) (b : Contents) (tree : Tree) (rest new : List Placed) {After : LawfulMap → Type 0} → IsBasis repo b tree rest new →
-    ((s : LawfulMap) → IsMapOf tree s → (t : LawfulMap) × After t × InTurn PatchLeadsShallowly (patches new) s t) → Fits repo b rest new
-basis_fits repo b tree rest new basis leads =
-    let m = basis.2 in
-    let last = leads m.0 m.1 in
-    record { front = basis.0; bundle_split = basis.1; base = m.0; folds = m.2; fitted = last.0; leads = last.2 }
+module _ (repo : List Patch) (b : Contents) where
+  -- a front that leads on isn't full
+  front_none : {front rest new : List Placed} {s t : LawfulMap} → IsBundleSplit repo b front rest new → IsRoot s → InTurn PatchLeadsShallowly (patches front) s t → FrontIsFull repo b → ⊥
+  front_none {front} {s} p r leads (front1, rest1, new1, p1, (start, root, deep)) =
+      let e : front ≡ front1 = (bundle_one repo b p p1).0 in
+      front_stops root (deep_stops deep.1) (record { start = s; is_root = r; runs = rw e at leads })
+
+  -- where the merged patches lead on there are too many of them, or nothing is full
+  merged_none : (policy : Policy) (rest new merged : List Placed) (skipped : ℕ) {s t : LawfulMap} → Fits repo b rest new → MergesUnder policy rest new merged skipped → ShallowFold repo s →
+      InTurn PatchLeadsShallowly (patches merged) s t → MergeIsFull repo b policy → MergesTooMany repo b policy
+  merged_none policy rest new merged skipped fits g t leads (rest1, new1, merged1, skipped1, fits1, g1, inl many) =
+      record { rest = rest1; new = new1; merged = merged1; skipped = skipped1; fits = fits1; merges = g1; are_many = many }
+  merged_none policy rest new merged skipped {s} fits g t leads (rest1, new1, merged1, skipped1, fits1, g1, inr (tree, folds, deep)) =
+      let e = fits_one repo b fits fits1 in
+      let h : MergesUnder policy rest new merged1 skipped1 = rw (e.0, e.1) g1 in
+      let m : merged ≡ merged1 = (under_one policy rest new merged merged1 skipped skipped1 g h).0 in
+      let d : s ≡ tree = grows_one repo t folds in
+      absurd (fit_stops_all (deep_stops deep.1) (rw (d, m) at leads))
+
+  -- a bundle that is refused as full is so by its front, or once merged
+  pub only_many : (policy : Policy) → (FrontIsFull repo b → ⊥) → (MergeIsFull repo b policy → MergesTooMany repo b policy) → RefusesBundle repo b policy Full → MergesTooMany repo b policy
+  only_many policy front merge (inl f) = absurd (front f)
+  only_many policy front merge (inr m) = merge m
 
 module _ {Z : Type 0} where
   -- what stops patches that lead on
@@ -81,14 +103,15 @@ module _ {Z : Type 0} where
   Finds s xs found = MatchOption found ((t : LawfulMap) × InTurn PatchLeadsShallowly (patches xs) s t) (λ m. StopsWith s xs m)
 
   module _ (repo : List Patch) (b : Contents) where
-    pub front_told : {front rest new : List Placed} {s : LawfulMap} → IsRepo repo → IsBundleSplit repo b front rest new → IsRoot s → (found : Option (Misfit Z)) → Finds s front found → IfSome found (FrontOverflows repo b)
-    front_told ok p r None f = tt
+    pub front_told : {front rest new : List Placed} {s : LawfulMap} → IsRepo repo → IsBundleSplit repo b front rest new → IsRoot s → (found : Option (Misfit Z)) → Finds s front found →
+        MatchOption found (FrontIsFull repo b → ⊥) (FrontOverflows repo b)
+    front_told ok p r None f = front_none repo b p r f.1
     front_told {front} {rest} {new} {s} ok p r (Some m) f =
         record { front = front; rest = rest; new = new; bundle_split = p; start = s; is_root = r; overflows = stops_deep f (front_leads repo b ok p r).1 }
 
     pub merged_told : (policy : Policy) (rest new merged : List Placed) (skipped : ℕ) {s : LawfulMap} → Fits repo b rest new → MergesUnder policy rest new merged skipped → ShallowFold repo s →
-        (found : Option (Misfit Z)) → Finds s merged found → IfSome found (MergedOverflows repo b policy)
-    merged_told policy rest new merged skipped fits g t None f = tt
+        (found : Option (Misfit Z)) → Finds s merged found → MatchOption found (MergeIsFull repo b policy → MergesTooMany repo b policy) (MergedOverflows repo b policy)
+    merged_told policy rest new merged skipped fits g t None f = merged_none repo b policy rest new merged skipped fits g t f.1
     merged_told policy rest new merged skipped {s} fits g t (Some m) f = record {
       rest = rest;
       new = new;

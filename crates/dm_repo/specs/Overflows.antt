@@ -1,5 +1,5 @@
 -- Where a path gets too many names: the patch, its primitive, and the tree that this was applied to.
-use Rattle.std.specs.Prelude.{◌≡◌, ℕ, List}
+use Rattle.std.specs.Prelude.{◌≡◌, ℕ, ◌+◌, ◌<◌, List, length}
 use Rattle.dm_tree.specs.declared.fault.TreeFault.TheVariants.{TooDeep}
 use Rattle.dm_prim.specs.Primitives.{LawfulMap}
 use Rattle.dm_named.specs.Patches.{Patch}
@@ -12,7 +12,7 @@ use Rattle.dm_repo.specs.Folds.{IsRoot, ShallowFold}
 use Rattle.dm_repo.specs.Misfits.{StopsWith}
 use Rattle.dm_repo.specs.Sifting.{MergesUnder}
 use Rattle.dm_repo.specs.Squares.{Placed}
-use Rattle.dm_repo.specs.Weighing.{Fits, IsBundleSplit}
+use Rattle.dm_repo.specs.Weighing.{Fits, IsBundleSplit, most_patches}
 
 -- the patches before this one lead shallowly on from s, and after that one of its primitives makes a path of more than 32 names
 pub record OverflowsWith {Z : Type 0} (s : LawfulMap) (xs : List Placed) (m : Misfit Z) : Type 0 where
@@ -45,3 +45,13 @@ pub record MergedOverflows {Z : Type 0} (repo : List Patch) (b : Contents) (poli
 abbrev pub IsOverflow : {Z : Type 0} → List Patch → Contents → Policy → Overflow Z → Type 0
 IsOverflow repo b policy (Front m) = FrontOverflows repo b m
 IsOverflow repo b policy (Merged m) = MergedOverflows repo b policy m
+
+-- the bundle is merged, and then there would be too many patches, whatever its paths
+pub record MergesTooMany (repo : List Patch) (b : Contents) (policy : Policy) : Type 0 where
+  pub rest : List Placed
+  pub new : List Placed
+  pub merged : List Placed
+  pub skipped : ℕ
+  pub fits : Fits repo b rest new
+  pub merges : MergesUnder policy rest new merged skipped
+  pub are_many : most_patches < length repo + length merged

@@ -1,15 +1,13 @@
 //! Where a path gets too many names as a bundle is weighed, told so that people can be shown it.
-ghost use Rattle.std.specs.Prelude.{IfErr, IfOk, IfSome, List, MatchOption, MatchResult};
+ghost use Rattle.std.specs.Prelude.{IfErr, IfNone, IfOk, IfSome, List, MatchOption, MatchResult};
 ghost use Rattle.dm_bundle.specs.Bundles.{Contents};
 ghost use Rattle.dm_repo.specs.declared.policy.Policy.{Policy};
 ghost use Rattle.dm_repo.specs.declared.refusal.Refusal.TheVariants.{Full};
-ghost use Rattle.dm_repo.specs.Misfits.{IsBasis};
-ghost use Rattle.dm_repo.specs.Overflows.{FrontOverflows, IsOverflow, MergedOverflows};
+ghost use Rattle.dm_repo.specs.Overflows.{FrontOverflows, IsOverflow, MergedOverflows, MergesTooMany};
 ghost use Rattle.dm_repo.specs.Squares.{Placed};
-ghost use Rattle.dm_repo.specs.Weighing.{IsBundleSplit, IsNothingNew, RefusesBundle};
+ghost use Rattle.dm_repo.specs.Weighing.{Fits, FrontIsFull, IsBundleSplit, IsNothingNew, MergeIsFull, RefusesBundle};
 
-use crate::basis::{Basis, find_basis};
-use crate::fit::fit;
+use crate::basis::{Basis, find_fitted};
 use crate::lookup::look_up;
 use crate::merge::{is_too_many, merge_with};
 use crate::misfit::{Misfit, first_misfit};
@@ -60,7 +58,9 @@ fn front_overflow<A: Allocator + Copy, B: Allocator + Copy>(
     bundle: &Bundle<B>,
 ) -> Result<Option<Misfit<B>>, Refusal>
     ensures { MatchResult result
-        (λ found. IfSome found (FrontOverflows repo.now.patches bundle.now))
+        (λ found. MatchOption found
+        (FrontIsFull repo.now.patches bundle.now → ⊥)
+        (FrontOverflows repo.now.patches bundle.now))
         (λ why. (policy : Policy) → RefusesBundle repo.now.patches bundle.now policy why) }
 {
     repo.lawful();
@@ -80,15 +80,12 @@ fn merged_overflow<A: Allocator, B: Allocator + Copy>(
     basis: Basis<B>,
     policy: Policy,
 ) -> Result<Option<Misfit<B>>, Refusal>
-    ensures { (b : Contents) → IsBasis repo.now.patches b basis.tree basis.rest.items basis.new.items → MatchResult result
-        (λ found. IfSome found (MergedOverflows repo.now.patches b policy))
+    ensures { (b : Contents) → Fits repo.now.patches b basis.rest.items basis.new.items → MatchResult result
+        (λ found. MatchOption found
+        (MergeIsFull repo.now.patches b policy → MergesTooMany repo.now.patches b policy)
+        (MergedOverflows repo.now.patches b policy))
         (λ why. RefusesBundle repo.now.patches b policy why) }
 {
-    let mut base = basis.tree;
-    match fit(&basis.new, &mut base) {
-        Ok(()) => {}
-        Err(stop) => return Err(stop.does_not_fit()),
-    }
     let merging = merge_with(alloc, basis.rest, basis.new, policy)?;
     if is_too_many(repo.len(), merging.merged.len()) {
         return Ok(None);
@@ -100,8 +97,8 @@ fn merged_overflow<A: Allocator, B: Allocator + Copy>(
 
 /// The first patch that makes a path of more than 32 names, with its primitive that does and the tree that this was applied
 /// to: where the common patches are applied from the root alone, or where the merged ones are applied to the repository's
-/// tree. Then [`weigh`](crate::weigh) refuses with [`Refusal::Full`]; where there is none, or there would be too many
-/// patches, nothing is told. A refusal is one of a step before.
+/// tree. Then [`weigh`](crate::weigh) refuses with [`Refusal::Full`]. Where nothing is told, `weigh` refuses so only if there
+/// would be too many patches. A refusal is one of a step before.
 pub fn find_overflow<A: Allocator + Copy, B: Allocator + Copy>(
     alloc: B,
     repo: &Repo<A>,
@@ -110,13 +107,15 @@ pub fn find_overflow<A: Allocator + Copy, B: Allocator + Copy>(
 ) -> Result<Option<Overflow<B>>, Refusal>
     ensures told { IfOk result (λ found. IfSome found (IsOverflow repo.now.patches bundle.now policy)) }
     ensures refuses { IfOk result (λ found. IfSome found (λ _. RefusesBundle repo.now.patches bundle.now policy Full)) }
+    ensures only { IfOk result (λ found. IfNone found
+        (RefusesBundle repo.now.patches bundle.now policy Full → MergesTooMany repo.now.patches bundle.now policy)) }
     ensures refusal { IfErr result (RefusesBundle repo.now.patches bundle.now policy) }
 {
     let front = front_overflow(alloc, repo, bundle)?;
     if let Some(misfit) = front {
         return Ok(Some(Overflow::Front(misfit)));
     }
-    let Some(basis) = find_basis(alloc, repo, bundle)? else {
+    let Some(basis) = find_fitted(alloc, repo, bundle)? else {
         return Ok(None);
     };
     match merged_overflow(alloc, repo, basis, policy)? {

@@ -1,4 +1,4 @@
-use Rattle.std.proofs.Common.{sym, ap, ◌∙◌, length}
+use Rattle.std.proofs.Common.{sym, ap, ◌∙◌, length, arith}
 use Rattle.std.proofs.lemmas.List.{length-map}
 use Rattle.std.proofs.lemmas.Result.{err_from_is_err_and}
 use Rattle.dm_repo.specs.declared.policy.Policy.TheVariants.{Refuse}
@@ -32,3 +32,21 @@ returns g c =
     let rest = c.in_ok-parted.parted.rest.items in
     let split = c.in_ok-parted.ensures b found.marked in
     (rest, c.in_ok-split_held.field-0.items, c.in_ok-split_held.ensures repo b Refuse front rest (sym (c.in_ok-new.ensures ∙ c.new_patches.ensures.value)) found (record { prerequisites = found.prerequisites; split = split }))
+
+pub split_repo-requires : goal.split_repo-requires
+split_repo-requires g c =
+    let found = rw c.in-Some.is at c.in_ok-marks.ensures in
+    record {
+      marks = found.marked.common_is.length_is ∙ length-map c.args.repo.now.patches (λ x. x.info);
+      within = omega arith;
+      marked = λ k l. absurd (omega (arith, l));
+    }
+
+pub copy_patches-requires : goal.copy_patches-requires
+copy_patches-requires g c κs = λ h. h
+
+pub returns-in_err-marks : goal.returns-in_err-marks
+returns-in_err-marks g c = let p = err_from_is_err_and c.from_residual.result c.from_residual.ensures.1 in rw (p.1, p.2) c.in_err-marks.ensures
+
+pub returns-in_default : goal.returns-in_default
+returns-in_default g c = rw c.in_default.is at c.in_ok-marks.ensures

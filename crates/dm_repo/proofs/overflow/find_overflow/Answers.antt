@@ -1,5 +1,5 @@
 use Rattle.std.proofs.lemmas.Result.{err_from_is_err_and}
-use Rattle.dm_repo.proofs.OverflowLemmas.{front_refuses, merged_refuses}
+use Rattle.dm_repo.proofs.OverflowLemmas.{front_refuses, merged_refuses, only_many}
 use Rattle.dm_repo.proofs.overflow.find_overflow.Goals as goal
 
 pub returns-in_err-front-clause-refusal : goal.returns-in_err-front-clause-refusal
@@ -24,3 +24,8 @@ pub returns-in-Some-3-clause-refuses : goal.returns-in-Some-3-clause-refuses
 returns-in-Some-3-clause-refuses g c =
     let told = rw c.in-Some-3.is at (c.in_ok-misfit.ensures c.args.bundle.now (rw c.in-Some-2.is at c.in_ok-basis.ensures)) in
     merged_refuses c.args.repo.now.patches c.args.bundle.now c.args.policy told
+
+pub returns-in-None-clause-only : goal.returns-in-None-clause-only
+returns-in-None-clause-only g c =
+    let merged = rw c.in-None.is at (c.in_ok-misfit.ensures c.args.bundle.now (rw c.in-Some-2.is at c.in_ok-basis.ensures)) in
+    only_many c.args.repo.now.patches c.args.bundle.now c.args.policy (rw c.in_default.is at c.in_ok-front.ensures) merged

@@ -1,0 +1,5 @@
+pub mod Parting
+pub mod Sharing
+pub mod Whole
+pub mod Sent
+pub mod Contexts

@@ -1,0 +1,7 @@
+use Rattle.std.proofs.Common.{◌∙◌, ap, sym}
+use Rattle.dm_repo.specs.Squares.{patches}
+use Rattle.dm_repo.proofs.Splits.{all_taken}
+use Rattle.dm_send.proofs.sending.without_places.Goals as goal
+
+pub returns : goal.returns
+returns g c = c.loop-patch.invariant.moved ∙ ap patches (sym (all_taken c.args.placed.items c.loop-patch.yielded c.loop-patch.patch-iterator.rest.items c.loop-patch.invariant.whole (sym (c.loop-patch.patch-iterator.rest.ok.0) ∙ c.in-None.ensures.steps.0)))

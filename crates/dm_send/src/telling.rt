@@ -1,0 +1,96 @@
+//! Reading what somebody holds.
+ghost use Rattle.std.specs.Prelude.{◌≡◌, ◌≢◌, ℕ, ◌-◌, [], IfErr, IfOk, IfSome};
+ghost use Rattle.dm_bundle.specs.Bundles.{BundleText};
+ghost use Rattle.dm_bundle.specs.Faults.{FaultAt};
+ghost use Rattle.dm_send.specs.Telling.{IsNamesFault, TellsNames, headed, named_in};
+
+use dm_bundle::{Bundle, read_bundle};
+use dm_info::Info;
+use dm_named::{FaultKind, ReadFault};
+use std::alloc::{AllocError, Allocator};
+
+/// The heading of a bundle.
+const HEADING: &[u8] = b"New patches:\n";
+
+/// The names of a bundle's new patches, and of its context.
+fn names_in<A: Allocator + Copy>(
+    alloc: A,
+    bundle: &Bundle<A>,
+) -> Result<Vec<Info<A>, A>, AllocError>
+    ensures { IfOk result (λ names. names.items ≡ named_in bundle.now) }
+{
+    let mut names = Vec::new(alloc);
+    for patch in bundle.new_patches() {
+        names.push(patch.info().copy_into(alloc)?)?;
+    }
+    for name in bundle.context() {
+        names.push(name.copy_into(alloc)?)?;
+    }
+    Ok(names)
+}
+
+/// The text after the heading of a bundle.
+fn with_heading<A: Allocator + Copy>(alloc: A, text: &[u8]) -> Result<Vec<u8, A>, AllocError>
+    ensures { IfOk result (λ whole. whole.items ≡ headed text.now) }
+{
+    let mut whole = Vec::new(alloc);
+    whole.extend_from_slice(HEADING)?;
+    whole.extend_from_slice(text)?;
+    Ok(whole)
+}
+
+/// The names of a text that is a context alone; none where it has new patches, but no heading.
+fn names_of_context<A: Allocator + Copy>(
+    alloc: A,
+    text: &[u8],
+) -> Result<Option<Vec<Info<A>, A>>, ReadFault>
+    ensures found { IfOk result (λ found. IfSome found (λ names. BundleText (headed text.now) (record { patches = []; context = names.items }))) }
+    ensures fault { IfErr result (λ e. e.kind ≢ FaultKind.NoMemory → (at : ℕ) × (e.at ≡ at - 13) × FaultAt (headed text.now) e.kind at) }
+{
+    let whole = match with_heading(alloc, text) {
+        Ok(whole) => whole,
+        Err(error) => return Err(ReadFault::no_memory(error, 0)),
+    };
+    let bundle = match read_bundle(alloc, &whole) {
+        Ok(bundle) => bundle,
+        Err(fault) => {
+            return Err(ReadFault {
+                kind: fault.kind,
+                at: fault.at.saturating_sub(HEADING.len()),
+            });
+        }
+    };
+    if !bundle.new_patches().is_empty() {
+        return Ok(None);
+    }
+    match names_in(alloc, &bundle) {
+        Ok(names) => Ok(Some(names)),
+        Err(error) => Err(ReadFault::no_memory(error, text.len())),
+    }
+}
+
+/// The names that a text tells: those of a bundle's new patches and of its context, or those of a context alone, as
+/// `darcs log --context` writes it.
+///
+/// The fault is that of the text as a bundle; where it has no heading, as a context. `NoMemory` is returned if an allocation
+/// failed.
+pub fn read_names<A: Allocator + Copy>(alloc: A, text: &[u8]) -> Result<Vec<Info<A>, A>, ReadFault>
+    ensures names { IfOk result (λ names. TellsNames text.now names.items) }
+    ensures fault { IfErr result (λ e. e.kind ≢ FaultKind.NoMemory → IsNamesFault text.now e) }
+{
+    match read_bundle(alloc, text) {
+        Ok(bundle) => match names_in(alloc, &bundle) {
+            Ok(names) => Ok(names),
+            Err(error) => Err(ReadFault::no_memory(error, text.len())),
+        },
+        Err(fault) => {
+            if fault.kind != FaultKind::NoNewPatches {
+                return Err(fault);
+            }
+            match names_of_context(alloc, text)? {
+                Some(names) => Ok(names),
+                None => Err(fault),
+            }
+        }
+    }
+}
