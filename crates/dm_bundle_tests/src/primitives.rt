@@ -1,9 +1,10 @@
 //! The table of commutation, row by row, and what no contract says: that `commute`, `commute_lists` and `apply_all` return an
 //! answer where memory is ample, and what a commute takes of an arena.
+use crate::asking::{do_commute, is_twice};
 use crate::rows::{HUNKS, MOVE_THEN_WORK, MOVES, WORK_THEN_MOVE, WORKS};
 use bumpalo::Bump;
 use dm_named::{Named, read_named, write_named};
-use dm_prim::{Prim, apply_all, commute, commute_lists};
+use dm_prim::{Prim, apply_all, commute};
 use dm_tree::Tree;
 use std::alloc::{AllocError, Global};
 
@@ -33,12 +34,6 @@ fn write_both(alloc: Global, row: &mut Named<Global>, out: &mut Vec<u8>) -> Resu
     write_named(row, out)?;
     commute_firsts(alloc, row)?;
     write_named(row, out)
-}
-
-/// Whether a text is another one twice.
-fn is_twice(text: &[u8]) -> bool {
-    let (first, second) = text.split_at(text.len() / 2);
-    first == second
 }
 
 /// Whether the first two primitives of the row commute to the others.
@@ -75,14 +70,6 @@ fn push_thousand(prim: &[u8], out: &mut Vec<u8>) -> Result<(), AllocError> {
         out.extend_from_slice(prim)?;
     }
     Ok(())
-}
-
-/// Whether two lists commute in this arena.
-fn do_commute(arena: &Bump, xs: &[Prim<&Bump>], ys: &[Prim<&Bump>]) -> bool {
-    match commute_lists(arena, xs, ys) {
-        Ok(answer) => answer.is_some(),
-        Err(_) => false,
-    }
 }
 
 /// Whether the first thousand primitives of a patch pass all others, in this arena.

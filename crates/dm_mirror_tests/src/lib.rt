@@ -4,6 +4,7 @@
 //! once; that a flush which fails is a failed write.
 #![tactic(auto)]
 
+mod asking;
 #[cfg(test)]
 mod mails;
 #[cfg(test)]

@@ -1,14 +1,10 @@
 //! Mails of one poster and of two: that they come, and what becomes of them once an end is gone. Which mail comes, and why one
 //! isn't sent, is in contracts.
 
-use dm_mail::{Inlet, MOST_BUNDLES, MailFault, Outlet, Text, Why, open};
-use std::alloc::{AllocError, Global};
+use crate::asking::{is_sent_back, sends};
+use dm_mail::{Inlet, MOST_BUNDLES, MailFault, Outlet, open};
+use std::alloc::Global;
 use std::sync::Wait;
-
-/// The text of a bundle that is sent.
-fn text_of(alloc: Global, bytes: &[u8]) -> Result<Text, AllocError> {
-    Text::new(alloc, Vec::from_slice(alloc, bytes)?)
-}
 
 /// Opens the mail of one poster.
 fn open_one<R: Wait>(
@@ -18,25 +14,6 @@ fn open_one<R: Wait>(
 ) -> Result<(Option<Outlet>, Inlet), MailFault> {
     let (mut outlets, inlet) = open(rt, alloc, 1, bound)?;
     Ok((outlets.pop(), inlet))
-}
-
-/// Whether a bundle is sent.
-fn sends<R: Wait>(rt: &R, alloc: Global, outlet: &mut Outlet) -> bool {
-    match text_of(alloc, b"x") {
-        Ok(text) => outlet.send(rt, text).is_ok(),
-        Err(_) => false,
-    }
-}
-
-/// Whether a bundle comes back, since the inlet is gone.
-fn is_sent_back<R: Wait>(rt: &R, alloc: Global, outlet: &mut Outlet) -> bool {
-    let Ok(text) = text_of(alloc, b"x") else {
-        return false;
-    };
-    match outlet.send(rt, text) {
-        Ok(()) => false,
-        Err(unsent) => unsent.why == Why::Gone,
-    }
 }
 
 /// Whether as many bundles as may be come, each taken at once, and not one more is sent.

@@ -1,12 +1,10 @@
 //! What no command shows: that two mirrors run at once, and a flush that fails. What a run prints is in the repository's `tests`.
 
-use dm_mirror::{Gate, Plan, WriteFault, run, write_report};
+use crate::asking::took;
+use dm_mirror::{Gate, Plan, WriteFault, write_report};
 use dm_repo::Policy;
-use std::alloc::Global;
 use std::io::{ErrorKind, Write};
-use std::sync::Wait;
 use std::sync::atomic::{AtomicUsize, Ordering};
-use std::thread::Threads;
 use std::{io, thread};
 
 /// Adds the directory `./d`.
@@ -50,14 +48,6 @@ impl Gate for Meeting {
         if taken == 0 {
             self.meet(mirror, 2);
         }
-    }
-}
-
-/// How many mirrors took, in a run whose gate this is.
-fn took<R: Threads + Wait + Sync>(rt: &R, alloc: Global, plan: Plan, gate: &Meeting) -> usize {
-    match run(rt, alloc, plan, gate) {
-        Ok(outcome) => outcome.mirrors(),
-        Err(_) => 0,
     }
 }
 

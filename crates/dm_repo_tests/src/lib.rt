@@ -5,6 +5,7 @@
 //! heap and over an arena; what becomes of the arena; that a refusal for memory leaves the repository as it was.
 #![tactic(auto)]
 
+mod asking;
 #[cfg(test)]
 mod repositories;
 #[cfg(test)]

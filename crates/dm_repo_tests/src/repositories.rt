@@ -1,8 +1,9 @@
 //! What only tests call of a repository: each call once, where memory is ample.
 
+use crate::asking::take_both;
 use bumpalo::Bump;
 use dm_bundle::{Bundle, read_bundle};
-use dm_repo::{Policy, Repo, Weighed, law_both_orders, split, weigh};
+use dm_repo::{Policy, Repo, Weighed, split, weigh};
 use dm_scratch::take;
 use std::alloc::Global;
 
@@ -60,19 +61,10 @@ const D: &[u8] = b"New patches:\n\n[d\np**d] adddir ./d\n\nContext:\n\n";
 /// A patch (e) that adds another.
 const E: &[u8] = b"New patches:\n\n[e\np**d] adddir ./e\n\nContext:\n\n";
 
-/// Whether two bundles are taken in both orders.
-fn take_both(heap: Global, first: &Bundle<Global>, second: &Bundle<Global>) -> bool {
-    let repo = Repo::new(heap);
-    match law_both_orders(heap, &repo, first, second) {
-        Ok(answer) => answer.is_some(),
-        Err(_) => false,
-    }
-}
-
 /// Whether a bundle and the one of this text are taken in both orders.
 fn take_with(heap: Global, first: &Bundle<Global>, text: &[u8]) -> bool {
     match read_bundle(heap, text) {
-        Ok(second) => take_both(heap, first, &second),
+        Ok(second) => take_both(heap, &Repo::new(heap), first, &second),
         Err(_) => false,
     }
 }

@@ -1,11 +1,9 @@
 //! Bundles for somebody who holds other patches.
 
+use crate::asking::{is_refused, is_sent};
 use bumpalo::Bump;
-use dm_bundle::write_bundle;
 use dm_repo::{Policy, Refusal, Repo};
 use dm_scratch::take;
-use dm_send::{read_names, send};
-use std::alloc::Global;
 
 /// A patch (a) that adds a file of five lines, a patch (m) that adds a line before the second, and a patch (t) that adds one
 /// before the first.
@@ -18,31 +16,6 @@ const THEIRS: &[u8] = b"\nContext:\n\n\n[t\np**d] \n\n[x\np**d] \n\n[a\np**d] \n
 /// The bundle for them: (m) as it stands behind (a) and (t), one line further down.
 const SENT: &[u8] =
     b"New patches:\n\n[m\np**d] hunk ./f 3\n+z\n\nContext:\n\n[t\np**d] \n[a\np**d] \n";
-
-/// Whether this is the text of the bundle for somebody who tells that.
-fn is_sent(alloc: Global, repo: &Repo<Global>, theirs: &[u8], text: &[u8]) -> bool {
-    let Ok(names) = read_names(alloc, theirs) else {
-        return false;
-    };
-    let Ok(bundle) = send(alloc, repo, &names, 1000) else {
-        return false;
-    };
-    match write_bundle(alloc, &bundle) {
-        Ok(sent) => sent.as_slice() == text,
-        Err(_) => false,
-    }
-}
-
-/// Whether nothing is sent to somebody who tells that, for this reason.
-fn is_refused(alloc: Global, repo: &Repo<Global>, theirs: &[u8], why: Refusal) -> bool {
-    let Ok(names) = read_names(alloc, theirs) else {
-        return false;
-    };
-    match send(alloc, repo, &names, 1000) {
-        Ok(_) => false,
-        Err(told) => told == why,
-    }
-}
 
 #[test]
 fn what_they_lack_is_sent_behind_what_both_hold(rt: HostRuntime) {

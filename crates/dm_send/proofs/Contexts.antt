@@ -1,10 +1,26 @@
--- A bundle without new patches names its context alone.
-use Rattle.std.proofs.Common.{◌≡◌, ℕ, List, [], refl}
+-- Contexts that stand alone.
+use Rattle.std.proofs.Common.{◌≡◌, ◌≢◌, ℕ, false, eqb, List, [], ◌∷◌, length, refl, sym, ◌∙◌}
 use Rattle.dm_info.specs.PatchInfo.{PatchInfo}
+use Rattle.dm_named.specs.declared.fault.FaultKind.TheVariants.{NoMemory, NoNewPatches}
+use Rattle.dm_named.specs.declared.fault.ReadFault.{ReadFault}
 use Rattle.dm_bundle.specs.Bundles.{BundleText, Contents}
-use Rattle.dm_send.specs.Telling.{named_in}
+use Rattle.dm_bundle.specs.Faults.{FaultAt}
+use Rattle.dm_send.specs.Telling.{LacksHeading, named_in}
 
+-- a bundle without new patches names its context alone
 pub alone : {text : List ℕ} {names : List PatchInfo} (b : Contents) → b.patches ≡ [] → names ≡ named_in b → BundleText text b → BundleText text (record { patches = []; context = names })
 alone {text} {names} b none named stands =
     let whole : b ≡ record { patches = []; context = b.context } = rw none refl in
     rw (named, none) (rw whole at stands)
+
+-- a list whose length was tested
+pub some_left : {X : Type 0} (xs : List X) → false ≡ eqb (length xs) 0 → xs ≢ []
+some_left [] t e = absurd (cc)
+some_left (x ∷ xs) t e = absurd (cc)
+
+-- a text that is no bundle for want of a heading
+pub lacks : (text : List ℕ) (e : ReadFault) → e.kind ≡ NoNewPatches → (e.kind ≢ NoMemory → FaultAt text e.kind e.at) → LacksHeading text
+lacks text e k f = (e.at, rw k at (f (λ h. not_memory (sym k ∙ h))))
+  where
+    not_memory : NoNewPatches ≡ NoMemory → ⊥
+    not_memory h = absurd (cc)

@@ -1,5 +1,9 @@
 pub mod Parting
 pub mod Sharing
 pub mod Whole
+pub mod Rows
+pub mod Stairs
+pub mod Placeless
+pub mod Minimal
 pub mod Sent
 pub mod Contexts

@@ -55,7 +55,7 @@ distinct_front [] (suc n) d = tt
 distinct_front (j ∷ is) zero d = tt
 distinct_front (j ∷ is) (suc n) d = (λ c. d.0 (in_front is n c), distinct_front is n d.1)
 
-in_reverse : (is : List PatchInfo) {i : PatchInfo} → Contains (reverse is) i → Contains is i
+pub in_reverse : (is : List PatchInfo) {i : PatchInfo} → Contains (reverse is) i → Contains is i
 in_reverse is {i} (k, l, e) = let b : k < length is = omega (arith, l, length-reverse is) in (length is - 1 - k, omega (arith, b), sym (get_or-reverse is k i b) ∙ e)
 
 pub to_reverse : (is : List PatchInfo) {i : PatchInfo} → Contains is i → Contains (reverse is) i

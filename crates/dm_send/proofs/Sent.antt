@@ -1,16 +1,15 @@
--- What is sent, from the split and from what a repository of the shared patches answers.
+-- What is sent, from how a repository is divided and from what a repository of the shared patches answers.
 use Rattle.std.proofs.Common.{◌≡◌, ◌≢◌, ◌⊎◌, ℕ, List, [], take, reverse, inl, inr, refl}
 use Rattle.dm_info.specs.PatchInfo.{PatchInfo}
 use Rattle.dm_named.specs.Patches.{Patch}
-use Rattle.dm_bundle.specs.Bundles.{HasNoDoubles}
+use Rattle.dm_named.specs.Commuting.{NamedCommutes}
+use Rattle.dm_bundle.specs.Bundles.{Contents, HasNoDoubles}
 use Rattle.dm_bundle.specs.Patches.{infos_of, Distinct}
 use Rattle.std.specs.List.{Contains}
 use Rattle.dm_repo.specs.CommonSets.{Closed}
 use Rattle.dm_repo.specs.Repositories.{IsRepo}
 use Rattle.dm_repo.specs.Squares.{Placed, patches}
 use Rattle.dm_repo.specs.Weighed.{Weighs}
-use Rattle.dm_repo.specs.Weighing.{IsMergeOf}
-use Rattle.dm_repo.specs.declared.policy.Policy.{Policy}
 use Rattle.dm_repo.specs.declared.policy.Policy.TheVariants.{Refuse}
 use Rattle.dm_repo.specs.declared.refusal.Refusal.{Refusal}
 use Rattle.dm_repo.specs.declared.refusal.Refusal.TheVariants.{MissingContext, MissingDependency, ContextDepends, HeldDepends, DoesNotFit, Conflicts, Full, NoMemory}
@@ -19,9 +18,11 @@ use Rattle.dm_repo.specs.declared.weighed.Weighed.{Weighed}
 use Rattle.dm_repo.specs.declared.weighed.Weighed.TheVariants.{NothingNew, Merged as merged}
 use Rattle.dm_repo.proofs.Members.{none_of}
 use Rattle.dm_repo.proofs.Placed.{patches_placed}
-use Rattle.dm_send.specs.Sending.{IsRefusedAs, IsSplitFor, MakesSameTree, Parts, RefusesToSend, Sends, behind, just}
-use Rattle.dm_send.proofs.Parting.{are_apart, front_distinct, no_doubles, split_parts}
-use Rattle.dm_send.proofs.Whole.{nothing_new, taken_is, taken_under}
+use Rattle.dm_send.specs.Minimizing.{Minimizes}
+use Rattle.dm_send.specs.Sending.{Accepts, IsDivided, IsRefusedAs, IsSplitFor, MakesSameTree, Parts, RefusesThere, RefusesToDivide, RefusesToSplitFor, RefusesToSend, RefusesToSendMinimal, Sends, SendsMinimal, behind, just}
+use Rattle.dm_send.proofs.Minimal.{is_context, takes}
+use Rattle.dm_send.proofs.Parting.{front_distinct, no_doubles, split_parts, to_reverse}
+use Rattle.dm_send.proofs.Whole.{nothing_new, taken_is, takes_whole}
 
 -- what an empty repository takes of a bundle that rests on nothing
 pub takes_nothing : {Z : Type 0} (list : List Patch) {w : Weighed Z} → w ≡ NothingNew → Weighs [] (just list) Refuse w → list ≡ []
@@ -30,6 +31,12 @@ takes_nothing list e n = nothing_new [] list (λ i c h. none_of h) (rw e at n)
 pub takes_all : {Z : Type 0} (list : List Patch) {w : Weighed Z} {m : Merged Z} → w ≡ merged m → Weighs [] (just list) Refuse w → m.patches.items ≡ list
 takes_all list e r = (taken_is [] list (λ i c h. none_of h) Refuse (rw e at r).0).0
 
+-- what was weighed was accepted
+pub accepts : {Z : Type 0} (repo : List Patch) (b : Contents) (w : Weighed Z) → Weighs repo b Refuse w → Accepts repo b
+accepts repo b NothingNew n = inl n
+accepts repo b (merged m) r = inr (m.patches.items, m.skipped, r.0)
+
+-- a repository that is divided
 module _ (repo : List Patch) (theirs : List PatchInfo) (most : ℕ) (front rest : List Placed) (distinct : Distinct (infos_of repo)) (split : IsSplitFor repo theirs front rest) where
   parts : Parts (Closed repo theirs) (infos_of repo) (infos_of (patches front)) (infos_of (patches rest))
   parts = rw (patches_placed 0 repo) at (split_parts (Closed repo theirs) split)
@@ -37,20 +44,33 @@ module _ (repo : List Patch) (theirs : List PatchInfo) (most : ℕ) (front rest 
   pub front_alone : HasNoDoubles (patches front) []
   front_alone = front_distinct (Closed repo theirs) (patches front) (patches rest) most parts distinct
 
-  pub sent_apart : HasNoDoubles (take most (patches rest)) (reverse (infos_of (patches front)))
-  sent_apart = no_doubles (Closed repo theirs) (patches front) (patches rest) most parts distinct
+  pub new_apart : HasNoDoubles (take most (patches rest)) (reverse (infos_of (patches front)))
+  new_apart = no_doubles (Closed repo theirs) (patches front) (patches rest) most parts distinct
 
-  apart : (i : PatchInfo) → Contains (infos_of (take most (patches rest))) i → Contains (infos_of (patches front)) i → ⊥
-  apart = are_apart (Closed repo theirs) (patches front) (patches rest) most parts distinct
+  pub divided : MakesSameTree repo front rest → IsRepo (patches front) → IsDivided repo theirs most (patches front) (take most (patches rest))
+  divided tree ok = record { front = front; rest = rest; split = split; is_shared = refl; is_new = refl; names = parts; is_repo = ok; same_tree = tree }
 
-  taken : {Z : Type 0} (w : Weighed Z) → Weighs (patches front) (behind (patches front) (take most (patches rest))) Refuse w →
-      (policy : Policy) → take most (patches rest) ≢ [] → IsMergeOf (patches front) (behind (patches front) (take most (patches rest))) policy (take most (patches rest)) 0
-  taken NothingNew n policy some = absurd (some (nothing_new (patches front) (take most (patches rest)) apart n))
-  taken (merged m) r policy some = taken_under (patches front) (take most (patches rest)) apart Refuse policy r.0
+-- what is sent is taken
+module _ (repo : List Patch) (theirs : List PatchInfo) (most : ℕ) (shared new : List Patch) (d : IsDivided repo theirs most shared new) (doubles : HasNoDoubles new (reverse (infos_of shared))) where
+  pub apart : (i : PatchInfo) → Contains (infos_of new) i → Contains (infos_of shared) i → ⊥
+  apart i c h = doubles.apart i c (to_reverse (infos_of shared) h)
 
-  pub sends : {Z : Type 0} (w : Weighed Z) → MakesSameTree repo front rest → IsRepo (patches front) → Weighs (patches front) (behind (patches front) (take most (patches rest))) Refuse w →
-      Sends repo theirs most (behind (patches front) (take most (patches rest)))
-  sends w tree ok r = record { front = front; rest = rest; split = split; names = parts; is_sent = refl; is_repo = ok; is_taken = taken w r; same_tree = tree }
+  pub sends : Accepts shared (behind shared new) → Sends repo theirs most (behind shared new)
+  sends a = record { shared = shared; new = new; divided = d; is_sent = refl; is_taken = takes_whole shared new apart a }
+
+  pub sends_minimal : (needed sent gone : List Patch) → Minimizes NamedCommutes shared new needed sent gone → Accepts shared (behind needed sent) → SendsMinimal repo theirs most (behind needed sent)
+  sends_minimal needed sent gone m a = record {
+    shared = shared;
+    new = new;
+    divided = d;
+    needed = needed;
+    sent = sent;
+    gone = gone;
+    minimizes = m;
+    is_sent = refl;
+    is_context = is_context shared new d.is_repo apart needed sent gone m;
+    is_taken = takes shared new d.is_repo apart needed sent gone m a;
+  }
 
 -- memory ran out, or something else is wrong
 is_memory : (why : Refusal) → (why ≡ NoMemory) ⊎ (why ≢ NoMemory)
@@ -63,12 +83,65 @@ is_memory (HeldDepends h n) = inr (λ e. absurd (cc))
 is_memory (DoesNotFit n) = inr (λ e. absurd (cc))
 is_memory (Conflicts n h) = inr (λ e. absurd (cc))
 
-module _ (repo : List Patch) (theirs : List PatchInfo) (most : ℕ) (why told : Refusal) (memory : why ≡ NoMemory → told ≡ NoMemory) (full : why ≢ NoMemory → told ≡ Full) where
-  refuses : (why ≢ NoMemory → RefusesToSend repo theirs most Full) → RefusesToSend repo theirs most told
-  refuses f = elim (is_memory why) [ inl e ↦ rw (memory e) tt | inr n ↦ rw (full n) (f n) ]
+-- what is told where a repository refuses a bundle
+module _ (why told : Refusal) (memory : why ≡ NoMemory → told ≡ NoMemory) (full : why ≢ NoMemory → told ≡ Full) where
+  pub refuses_there : (shared : List Patch) (b : Contents) → IsRefusedAs shared b why → RefusesThere shared b told
+  refuses_there shared b r = elim (is_memory why) [ inl e ↦ rw (memory e) tt | inr n ↦ rw (full n) (why, n, r) ]
 
-  pub front_refuses : {front rest : List Placed} → IsSplitFor repo theirs front rest → IsRefusedAs [] (just (patches front)) why → RefusesToSend repo theirs most told
-  front_refuses {front} {rest} s r = refuses (λ n. (front, rest, s, inl (why, n, r)))
+  pub refuses_front : (repo : List Patch) (theirs : List PatchInfo) {front rest : List Placed} → IsSplitFor repo theirs front rest → IsRefusedAs [] (just (patches front)) why → RefusesToDivide repo theirs told
+  refuses_front repo theirs {front} {rest} s r = elim (is_memory why) [ inl e ↦ rw (memory e) tt | inr n ↦ rw (full n) (front, rest, s, (why, n, r)) ]
 
-  pub bundle_refuses : {front rest : List Placed} → IsSplitFor repo theirs front rest → IsRefusedAs (patches front) (behind (patches front) (take most (patches rest))) why → RefusesToSend repo theirs most told
-  bundle_refuses {front} {rest} s r = refuses (λ n. (front, rest, s, inr (why, n, r)))
+module _ (repo : List Patch) (theirs : List PatchInfo) (most : ℕ) where
+  -- it can't be split
+  pub undivided : (why : Refusal) → RefusesToSplitFor repo theirs why → RefusesToDivide repo theirs why
+  undivided Full r = absurd r
+  undivided NoMemory r = r
+  undivided (MissingContext c) r = r
+  undivided (MissingDependency n d) r = r
+  undivided (ContextDepends h k) r = r
+  undivided (HeldDepends h n) r = r
+  undivided (DoesNotFit n) r = r
+  undivided (Conflicts n h) r = r
+
+  -- nor divided
+  pub unsent : (why : Refusal) → RefusesToDivide repo theirs why → RefusesToSend repo theirs most why
+  unsent Full r = inl r
+  unsent NoMemory r = r
+  unsent (MissingContext c) r = r
+  unsent (MissingDependency n d) r = r
+  unsent (ContextDepends h k) r = r
+  unsent (HeldDepends h n) r = r
+  unsent (DoesNotFit n) r = r
+  unsent (Conflicts n h) r = r
+
+  pub unsent_minimal : (why : Refusal) → RefusesToDivide repo theirs why → RefusesToSendMinimal repo theirs most why
+  unsent_minimal Full r = inl r
+  unsent_minimal NoMemory r = r
+  unsent_minimal (MissingContext c) r = r
+  unsent_minimal (MissingDependency n d) r = r
+  unsent_minimal (ContextDepends h k) r = r
+  unsent_minimal (HeldDepends h n) r = r
+  unsent_minimal (DoesNotFit n) r = r
+  unsent_minimal (Conflicts n h) r = r
+
+  -- nor taken
+  pub untaken : (shared new : List Patch) → IsDivided repo theirs most shared new → (why : Refusal) → RefusesThere shared (behind shared new) why → RefusesToSend repo theirs most why
+  untaken shared new d Full r = inr (shared, new, d, r)
+  untaken shared new d NoMemory r = tt
+  untaken shared new d (MissingContext c) r = absurd r
+  untaken shared new d (MissingDependency n e) r = absurd r
+  untaken shared new d (ContextDepends h k) r = absurd r
+  untaken shared new d (HeldDepends h n) r = absurd r
+  untaken shared new d (DoesNotFit n) r = absurd r
+  untaken shared new d (Conflicts n h) r = absurd r
+
+  pub untaken_minimal : (shared new needed sent gone : List Patch) → IsDivided repo theirs most shared new → Minimizes NamedCommutes shared new needed sent gone →
+      (why : Refusal) → RefusesThere shared (behind needed sent) why → RefusesToSendMinimal repo theirs most why
+  untaken_minimal shared new needed sent gone d m Full r = inr (shared, new, needed, sent, gone, d, m, r)
+  untaken_minimal shared new needed sent gone d m NoMemory r = tt
+  untaken_minimal shared new needed sent gone d m (MissingContext c) r = absurd r
+  untaken_minimal shared new needed sent gone d m (MissingDependency n e) r = absurd r
+  untaken_minimal shared new needed sent gone d m (ContextDepends h k) r = absurd r
+  untaken_minimal shared new needed sent gone d m (HeldDepends h n) r = absurd r
+  untaken_minimal shared new needed sent gone d m (DoesNotFit n) r = absurd r
+  untaken_minimal shared new needed sent gone d m (Conflicts n h) r = absurd r

@@ -1,5 +1,5 @@
 -- A bundle behind all patches of a repository is taken as it is.
-use Rattle.std.proofs.Common.{◌≡◌, ◌≤◌, ◌+◌, ℕ, List, [], ◌∷◌, length, inl, refl, sym, ap, ◌∙◌}
+use Rattle.std.proofs.Common.{◌≡◌, ◌≤◌, ◌+◌, ℕ, List, [], ◌∷◌, length, inl, inr, refl, sym, ap, ◌∙◌}
 use Rattle.std.specs.List.{Contains}
 use Rattle.std.proofs.lemmas.List.{length-map}
 use Rattle.dm_info.specs.PatchInfo.{PatchInfo}
@@ -12,11 +12,12 @@ use Rattle.dm_repo.specs.Squares.{Placed, patches, placed}
 use Rattle.dm_repo.specs.Staircases.{Split, nothing, stays, yields}
 use Rattle.dm_repo.specs.Weighing.{Fits, IsCommon, IsHeld, IsMergeOf, IsNothingNew, most_patches}
 use Rattle.dm_repo.specs.declared.policy.Policy.{Policy}
+use Rattle.dm_repo.specs.declared.policy.Policy.TheVariants.{Refuse}
 use Rattle.dm_repo.proofs.Following.{merges_whole}
 use Rattle.dm_repo.proofs.Members.{here, more}
 use Rattle.dm_repo.proofs.Placed.{patches_placed}
 use Rattle.dm_repo.proofs.SiftLemmas.{some_new, under_one, whole_under}
-use Rattle.dm_send.specs.Sending.{behind}
+use Rattle.dm_send.specs.Sending.{Accepts, TakesAs, behind}
 use Rattle.dm_send.proofs.Parting.{to_reverse}
 use Rattle.dm_send.proofs.Sharing.{name_held}
 
@@ -33,13 +34,18 @@ module _ {P : Type 0} {Square : P → P → P → P → Type 0} {In : P → Type
   all_in f (yields {r} {xs} o s t) = absurd (o (f r (here r xs)))
 
   -- where none is nothing moves
-  none_in : {xs front rest : List P} → ((x : P) → Contains xs x → In x → ⊥) → Split Square In xs front rest → (front ≡ []) × (rest ≡ xs)
+  pub none_in : {xs front rest : List P} → ((x : P) → Contains xs x → In x → ⊥) → Split Square In xs front rest → (front ≡ []) × (rest ≡ xs)
   none_in f nothing = (refl, refl)
   none_in f (stays {h} {xs} i s) = absurd (f h (here h xs) i)
   none_in f (yields {r} {xs} o s t) =
       let q = none_in (λ x c. f x (more r xs c)) s in
       let e = past_nothing q.0 t in
       (e.0, rw (e.1, q.1) refl)
+
+-- patches without a name are none
+pub nothing_named : (xs : List Patch) → ((i : PatchInfo) → Contains (infos_of xs) i → ⊥) → xs ≡ []
+nothing_named [] f = refl
+nothing_named (x ∷ xs) f = absurd (f x.info (here x.info (infos_of xs)))
 
 module _ (shared new : List Patch) (apart : (i : PatchInfo) → Contains (infos_of new) i → Contains (infos_of shared) i → ⊥) where
   common : (x : Placed) → Contains (placed shared) x → IsCommon shared (behind shared new) x
@@ -75,8 +81,7 @@ module _ (shared new : List Patch) (apart : (i : PatchInfo) → Contains (infos_
       rw n at whole
 
   pub nothing_new : IsNothingNew shared (behind shared new) → new ≡ []
-  nothing_new n = go new (λ i c. apart i c (n.all_held i c))
-    where
-      go : (xs : List Patch) → ((i : PatchInfo) → Contains (infos_of xs) i → ⊥) → xs ≡ []
-      go [] f = refl
-      go (x ∷ xs) f = absurd (f x.info (here x.info (infos_of xs)))
+  nothing_new n = nothing_named new (λ i c. apart i c (n.all_held i c))
+
+  pub takes_whole : Accepts shared (behind shared new) → TakesAs shared (behind shared new) new
+  takes_whole a policy some = elim a [ inl n ↦ absurd (some (nothing_new n)) | inr w ↦ taken_under Refuse policy w.2 ]

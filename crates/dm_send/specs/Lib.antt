@@ -1,2 +1,3 @@
+pub mod Minimizing
 pub mod Sending
 pub mod Telling

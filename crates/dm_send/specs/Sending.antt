@@ -1,8 +1,9 @@
 -- What is sent to somebody who holds other patches (`darcs send`): what they lack, as it stands behind what both hold.
-use Rattle.std.specs.Prelude.{◌≡◌, ◌≢◌, ◌↔◌, ◌⊎◌, ℕ, List, [], ◌∷◌, ◌++◌, take, reverse}
+use Rattle.std.specs.Prelude.{◌≡◌, ◌≢◌, ◌↔◌, ◌⊎◌, ℕ, List, [], ◌∷◌, ◌++◌, take, reverse, Contains}
 use Rattle.dm_prim.specs.Primitives.{LawfulMap}
 use Rattle.dm_info.specs.PatchInfo.{PatchInfo}
 use Rattle.dm_named.specs.Patches.{Patch}
+use Rattle.dm_named.specs.Commuting.{NamedCommutes}
 use Rattle.dm_bundle.specs.Patches.{infos_of}
 use Rattle.dm_bundle.specs.Bundles.{Contents}
 use Rattle.dm_repo.specs.declared.policy.Policy.{Policy}
@@ -15,7 +16,8 @@ use Rattle.dm_repo.specs.Repositories.{IsRepo}
 use Rattle.dm_repo.specs.Squares.{Placed, placed, patches, PlacedCommutes}
 use Rattle.dm_repo.specs.Staircases.{Split, SplitStops}
 use Rattle.dm_repo.specs.Stops.{AtPlaces}
-use Rattle.dm_repo.specs.Weighing.{IsMergeOf, RefusesBundle}
+use Rattle.dm_repo.specs.Weighing.{IsMergeOf, IsNothingNew, RefusesBundle}
+use Rattle.dm_send.specs.Minimizing.{Minimizes}
 
 -- both hold the patch: theirs has its name, or names it by way of dependencies
 abbrev pub IsShared : List Patch → List PatchInfo → Placed → Type 0
@@ -57,25 +59,74 @@ IsRefusedAs repo b why = RefusesBundle repo b Refuse why
 abbrev pub IsRefused : List Patch → Contents → Type 0
 IsRefused repo b = (why : Refusal) × (why ≢ NoMemory) × IsRefusedAs repo b why
 
--- a bundle for somebody who holds patches of these names, and whatever else
-pub record Sends (repo : List Patch) (theirs : List PatchInfo) (most : ℕ) (b : Contents) : Type 0 where
+-- taking the bundle is accepted, where conflicts are refused: nothing is new, or it is merged
+abbrev pub Accepts : List Patch → Contents → Type 0
+Accepts repo b = IsNothingNew repo b ⊎ ((merged : List Patch) × (skipped : ℕ) × IsMergeOf repo b Refuse merged skipped)
+
+-- what is said where it isn't: that it is full, or that memory ran out
+abbrev pub RefusesThere : List Patch → Contents → Refusal → Type 0
+RefusesThere repo b Full = IsRefused repo b
+RefusesThere repo b NoMemory = Unit {0}
+RefusesThere repo b other = ⊥
+
+-- the repository is divided: these are its shared patches, and the first of the others, up to so many, as they stand behind all shared ones
+pub record IsDivided (repo : List Patch) (theirs : List PatchInfo) (most : ℕ) (shared new : List Patch) : Type 0 where
   pub front : List Placed
   pub rest : List Placed
   pub split : IsSplitFor repo theirs front rest
+  pub is_shared : shared ≡ patches front
+  pub is_new : new ≡ take most (patches rest)
   -- the shared patches are told from the others by name
-  pub names : Parts (Closed repo theirs) (infos_of repo) (infos_of (patches front)) (infos_of (patches rest))
-  -- the first of the others are sent, up to so many, behind the shared ones
-  pub is_sent : b ≡ behind (patches front) (take most (patches rest))
-  -- a repository of exactly the shared patches takes them as they are, under each policy
-  pub is_repo : IsRepo (patches front)
-  pub is_taken : (policy : Policy) → b.patches ≢ [] → IsMergeOf (patches front) b policy b.patches 0
-  -- the shared patches and then all the others make the tree of the repository
+  pub names : Parts (Closed repo theirs) (infos_of repo) (infos_of shared) (infos_of (patches rest))
+  -- by themselves they are a repository, and with all the others behind them they make the tree of the whole
+  pub is_repo : IsRepo shared
   pub same_tree : MakesSameTree repo front rest
 
--- nothing is sent: a shared patch depends on one that isn't; or a path goes too deep, so that the shared patches make no repository, or one that
--- refuses the bundle
+-- a repository of these patches takes the bundle, under each policy; its new patches become these, and none is skipped
+abbrev pub TakesAs : List Patch → Contents → List Patch → Type 0
+TakesAs shared b new = (policy : Policy) → b.patches ≢ [] → IsMergeOf shared b policy new 0
+
+-- a bundle for somebody who holds patches of these names, and whatever else
+pub record Sends (repo : List Patch) (theirs : List PatchInfo) (most : ℕ) (b : Contents) : Type 0 where
+  pub shared : List Patch
+  pub new : List Patch
+  pub divided : IsDivided repo theirs most shared new
+  -- it rests on all that is shared
+  pub is_sent : b ≡ behind shared new
+  -- a repository of exactly that takes it as it is
+  pub is_taken : TakesAs shared b new
+
+-- a bundle for the same, that rests on no more than it needs
+pub record SendsMinimal (repo : List Patch) (theirs : List PatchInfo) (most : ℕ) (b : Contents) : Type 0 where
+  pub shared : List Patch
+  pub new : List Patch
+  pub divided : IsDivided repo theirs most shared new
+  pub needed : List Patch
+  pub sent : List Patch
+  pub gone : List Patch
+  pub minimizes : Minimizes NamedCommutes shared new needed sent gone
+  pub is_sent : b ≡ behind needed sent
+  -- what is needed is shared
+  pub is_context : (i : PatchInfo) → Contains b.context i → Contains (infos_of shared) i
+  -- a repository of exactly what is shared takes it, and has then the same patches behind that
+  pub is_taken : TakesAs shared b new
+
+-- it can't be divided: a shared patch depends on one that isn't, or the shared ones by themselves make a path too deep; memory may run out at any time
+abbrev pub RefusesToDivide : List Patch → List PatchInfo → Refusal → Type 0
+RefusesToDivide repo theirs Full = (front : List Placed) × (rest : List Placed) × IsSplitFor repo theirs front rest × IsRefused [] (just (patches front))
+RefusesToDivide repo theirs why = RefusesToSplitFor repo theirs why
+
+-- nothing is sent: it can't be divided; or a path goes too deep, so that a repository of the shared patches refuses the bundle
 abbrev pub RefusesToSend : List Patch → List PatchInfo → ℕ → Refusal → Type 0
 RefusesToSend repo theirs most Full =
-    (front : List Placed) × (rest : List Placed) × IsSplitFor repo theirs front rest ×
-    (IsRefused [] (just (patches front)) ⊎ IsRefused (patches front) (behind (patches front) (take most (patches rest))))
-RefusesToSend repo theirs most why = RefusesToSplitFor repo theirs why
+    RefusesToDivide repo theirs Full ⊎
+    ((shared : List Patch) × (new : List Patch) × IsDivided repo theirs most shared new × IsRefused shared (behind shared new))
+RefusesToSend repo theirs most why = RefusesToDivide repo theirs why
+
+-- so it is where the bundle rests on no more than it needs
+abbrev pub RefusesToSendMinimal : List Patch → List PatchInfo → ℕ → Refusal → Type 0
+RefusesToSendMinimal repo theirs most Full =
+    RefusesToDivide repo theirs Full ⊎
+    ((shared : List Patch) × (new : List Patch) × (needed : List Patch) × (sent : List Patch) × (gone : List Patch) × IsDivided repo theirs most shared new ×
+    Minimizes NamedCommutes shared new needed sent gone × IsRefused shared (behind needed sent))
+RefusesToSendMinimal repo theirs most why = RefusesToDivide repo theirs why

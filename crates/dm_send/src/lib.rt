@@ -2,14 +2,16 @@
 //!
 //! [`send`] splits a repository by the names of the patches that somebody else holds: what both hold goes to the front, and
 //! the other patches, as they stand behind it, are the new patches of the bundle. Its context names what both hold.
+//! [`send_minimal`] names only those of them that the new patches need. [`read_names`] reads which patches somebody holds.
 //!
 //! The crate stands on dm_repo for splitting and weighing. Its theorem is the contract of [`send`]: a repository of exactly
 //! the patches that both hold takes the bundle whole, and has then the tree of the repository that it was sent from.
 #![tactic(auto)]
 
+mod minimizing;
 mod sending;
 mod shared;
 mod telling;
 
-pub use sending::send;
+pub use sending::{send, send_minimal};
 pub use telling::read_names;

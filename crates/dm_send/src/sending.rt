@@ -1,11 +1,12 @@
-//! Sending.
+//! The bundle for somebody who holds patches of some names.
 ghost use Rattle.std.specs.Prelude.{◌≡◌, ◌≢◌, [], reverse, IfErr, IfOk, MatchResult};
 ghost use Rattle.dm_bundle.specs.Bundles.{HasNoDoubles};
 ghost use Rattle.dm_bundle.specs.Patches.{infos_of};
 ghost use Rattle.dm_repo.specs.Repositories.{IsRepo};
 ghost use Rattle.dm_repo.specs.Squares.{patches};
-ghost use Rattle.dm_send.specs.Sending.{IsRefusedAs, RefusesToSend, Sends, just};
+ghost use Rattle.dm_send.specs.Sending.{Accepts, IsDivided, IsRefusedAs, RefusesThere, RefusesToDivide, RefusesToSend, RefusesToSendMinimal, Sends, SendsMinimal, just};
 
+use crate::minimizing::minimize;
 use crate::shared::split_for;
 use dm_bundle::Bundle;
 use dm_info::Info;
@@ -13,7 +14,7 @@ use dm_named::Named;
 use dm_repo::{Policy, Refusal, Repo, Weighed, weigh, weigh_owned};
 use std::alloc::{AllocError, Allocator};
 
-/// The patches without their places, up to so many.
+/// The patches without their places.
 fn without_places<B: Allocator + Copy>(
     alloc: B,
     placed: Vec<(usize, Named<B>), B>,
@@ -69,11 +70,63 @@ fn refused_there(why: Refusal) -> Refusal
     }
 }
 
-/// That the patches of a repository are one; does nothing.
+/// That the patches of a repository have distinct names and apply in turn; does nothing.
 fn is_lawful<A: Allocator>(repo: &Repo<A>)
     ensures { IsRepo repo.now.patches }
 {
     let _ = repo.len();
+}
+
+/// What both hold, and what somebody else lacks.
+#[derive(Drop)]
+struct Divided<A: Allocator> {
+    /// A repository of the shared patches.
+    shared: Repo<A>,
+    /// Their names, the newest first.
+    names: Vec<Info<A>, A>,
+    /// The first of the others, as they stand behind the shared ones.
+    new: Vec<Named<A>, A>,
+}
+
+/// Divides a repository by the names of what somebody else holds; of the patches that they lack, the first `most`.
+fn divide<A: Allocator + Copy, B: Allocator + Copy>(
+    alloc: B,
+    repo: &Repo<A>,
+    theirs: &[Info<A>],
+    most: usize,
+) -> Result<Divided<B>, Refusal>
+    ensures divided { IfOk result (λ d. IsDivided repo.now.patches theirs.now most d.shared.patches d.new.items) }
+    ensures names { IfOk result (λ d. d.names.items ≡ reverse (infos_of d.shared.patches)) }
+    ensures no_doubles { IfOk result (λ d. HasNoDoubles d.new.items d.names.items) }
+    ensures refusal { IfErr result (RefusesToDivide repo.now.patches theirs.now) }
+{
+    is_lawful(repo);
+    let parted = split_for(alloc, repo, theirs)?;
+    let list = without_places(alloc, parted.front)?;
+    let names = names_of(alloc, &list)?;
+    let mut new = without_places(alloc, parted.rest)?;
+    new.truncate(most);
+    let shared = match repo_of(alloc, list) {
+        Ok(shared) => shared,
+        Err(why) => return Err(refused_there(why)),
+    };
+    is_lawful(&shared);
+    Ok(Divided { shared, names, new })
+}
+
+/// The bundle, where a repository of what both hold takes it.
+fn accepted<B: Allocator + Copy>(
+    alloc: B,
+    shared: &Repo<B>,
+    bundle: Bundle<B>,
+) -> Result<Bundle<B>, Refusal>
+    ensures accepted { IfOk result (λ b. (b ≡ bundle) × Accepts shared.now.patches bundle) }
+    ensures refusal { IfErr result (RefusesThere shared.now.patches bundle) }
+{
+    match weigh(alloc, shared, &bundle, Policy::Refuse) {
+        Ok(_) => Ok(bundle),
+        Err(why) => Err(refused_there(why)),
+    }
 }
 
 /// The bundle for somebody who holds patches of these names, and whatever else: its new patches are what they lack, as these
@@ -91,20 +144,31 @@ pub fn send<A: Allocator + Copy, B: Allocator + Copy>(
     ensures sent { IfOk result (Sends repo.now.patches theirs.now most) }
     ensures refusal { IfErr result (RefusesToSend repo.now.patches theirs.now most) }
 {
-    is_lawful(repo);
-    let parted = split_for(alloc, repo, theirs)?;
-    let shared = without_places(alloc, parted.front)?;
-    let mut new = without_places(alloc, parted.rest)?;
-    new.truncate(most);
-    let context = names_of(alloc, &shared)?;
-    let there = match repo_of(alloc, shared) {
-        Ok(there) => there,
-        Err(why) => return Err(refused_there(why)),
-    };
-    is_lawful(&there);
-    let bundle = Bundle::without_doubles(new, context);
-    match weigh(alloc, &there, &bundle, Policy::Refuse) {
-        Ok(_) => Ok(bundle),
-        Err(why) => Err(refused_there(why)),
-    }
+    let divided = divide(alloc, repo, theirs, most)?;
+    let bundle = Bundle::without_doubles(divided.new, divided.names);
+    let accepted = accepted(alloc, &divided.shared, bundle)?;
+    Ok(accepted)
+}
+
+/// The same bundle, with no more context than it needs (`darcs send --minimize`): of the shared patches, from the last to the
+/// first, each is left out that passes those kept behind it and the new ones; so none is that one of these names. The new
+/// patches are as they stand behind what is kept.
+///
+/// It refuses as [`send`] does.
+pub fn send_minimal<A: Allocator + Copy, B: Allocator + Copy>(
+    alloc: B,
+    repo: &Repo<A>,
+    theirs: &[Info<A>],
+    most: usize,
+) -> Result<Bundle<B>, Refusal>
+    ensures sent { IfOk result (SendsMinimal repo.now.patches theirs.now most) }
+    ensures refusal { IfErr result (RefusesToSendMinimal repo.now.patches theirs.now most) }
+{
+    let divided = divide(alloc, repo, theirs, most)?;
+    let new = divided.new;
+    let minimal = minimize(alloc, &divided.shared, new)?;
+    let names = names_of(alloc, &minimal.needed)?;
+    let bundle = Bundle::without_doubles(minimal.sent, names);
+    let accepted = accepted(alloc, &divided.shared, bundle)?;
+    Ok(accepted)
 }

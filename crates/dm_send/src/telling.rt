@@ -1,6 +1,6 @@
 //! Reading what somebody holds.
-ghost use Rattle.std.specs.Prelude.{◌≡◌, ◌≢◌, ℕ, ◌-◌, [], IfErr, IfOk, IfSome};
-ghost use Rattle.dm_bundle.specs.Bundles.{BundleText};
+ghost use Rattle.std.specs.Prelude.{◌≡◌, ◌≢◌, ℕ, ◌-◌, [], IfErr, IfOk, IsTrue, MatchOption};
+ghost use Rattle.dm_bundle.specs.Bundles.{BundleText, Contents};
 ghost use Rattle.dm_bundle.specs.Faults.{FaultAt};
 ghost use Rattle.dm_send.specs.Telling.{IsNamesFault, TellsNames, headed, named_in};
 
@@ -39,12 +39,14 @@ fn with_heading<A: Allocator + Copy>(alloc: A, text: &[u8]) -> Result<Vec<u8, A>
     Ok(whole)
 }
 
-/// The names of a text that is a context alone; none where it has new patches, but no heading.
+/// The names of a text that is a context alone; none where it has new patches behind no heading.
 fn names_of_context<A: Allocator + Copy>(
     alloc: A,
     text: &[u8],
 ) -> Result<Option<Vec<Info<A>, A>>, ReadFault>
-    ensures found { IfOk result (λ found. IfSome found (λ names. BundleText (headed text.now) (record { patches = []; context = names.items }))) }
+    ensures found { IfOk result (λ found. MatchOption found
+        ((b : Contents) × BundleText (headed text.now) b × (b.patches ≢ []))
+        (λ names. BundleText (headed text.now) (record { patches = []; context = names.items }))) }
     ensures fault { IfErr result (λ e. e.kind ≢ FaultKind.NoMemory → (at : ℕ) × (e.at ≡ at - 13) × FaultAt (headed text.now) e.kind at) }
 {
     let whole = match with_heading(alloc, text) {
@@ -69,11 +71,22 @@ fn names_of_context<A: Allocator + Copy>(
     }
 }
 
+/// Whether a text is no bundle for want of a heading.
+fn is_heading_due(kind: FaultKind) -> bool
+    ensures due { IsTrue result → kind ≡ FaultKind.NoNewPatches }
+    ensures all { kind ≡ FaultKind.NoNewPatches → IsTrue result }
+{
+    match kind {
+        FaultKind::NoNewPatches => true,
+        _ => false,
+    }
+}
+
 /// The names that a text tells: those of a bundle's new patches and of its context, or those of a context alone, as
 /// `darcs log --context` writes it.
 ///
-/// The fault is that of the text as a bundle; where it has no heading, as a context. `NoMemory` is returned if an allocation
-/// failed.
+/// The fault is that of the text as a bundle; where only its heading is missing, as a context. `NoMemory` is returned if an
+/// allocation failed.
 pub fn read_names<A: Allocator + Copy>(alloc: A, text: &[u8]) -> Result<Vec<Info<A>, A>, ReadFault>
     ensures names { IfOk result (λ names. TellsNames text.now names.items) }
     ensures fault { IfErr result (λ e. e.kind ≢ FaultKind.NoMemory → IsNamesFault text.now e) }
@@ -84,7 +97,7 @@ pub fn read_names<A: Allocator + Copy>(alloc: A, text: &[u8]) -> Result<Vec<Info
             Err(error) => Err(ReadFault::no_memory(error, text.len())),
         },
         Err(fault) => {
-            if fault.kind != FaultKind::NoNewPatches {
+            if !is_heading_due(fault.kind) {
                 return Err(fault);
             }
             match names_of_context(alloc, text)? {

@@ -1,3 +1,4 @@
 pub mod CheckLemmas
 pub mod AnswerLemmas
 pub mod RunLemmas
+pub mod SendLemmas

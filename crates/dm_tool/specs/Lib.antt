@@ -3,3 +3,4 @@ pub mod Printing
 pub mod Checking
 pub mod Applying
 pub mod Running
+pub mod Sending

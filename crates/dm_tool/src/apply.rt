@@ -17,7 +17,11 @@ use std::alloc::Global;
 use std::io::{Read, Write};
 
 /// The repository that a base's text makes, where a conflict refuses it, or an empty one.
-fn repo_of(alloc: Global, arena: &mut Bump, base: Option<&[u8]>) -> Result<Repo<Global>, ToolFault>
+pub(crate) fn repo_of(
+    alloc: Global,
+    arena: &mut Bump,
+    base: Option<&[u8]>,
+) -> Result<Repo<Global>, ToolFault>
     ensures ok { IfOk result (λ repo. IsStart base.entry repo.patches) }
     ensures err { IfErr result (λ e. MatchOption base.entry ⊥ (λ text. RefusesBase text.now e)) }
 {

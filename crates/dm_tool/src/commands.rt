@@ -6,6 +6,7 @@ use crate::explaining::{explain_applied, explain_unread};
 use crate::fault::ToolFault;
 use crate::files::{WordFault, read_file};
 use crate::plan_words::{policy_of, run_plan};
+use crate::send::{Sent, send_over};
 use clap::error::ErrorKind;
 use clap::{Arg, ArgAction, ArgMatches, Command, Error, value_parser};
 use std::alloc::{AllocError, Global};
@@ -20,10 +21,10 @@ const NO_ANSWER: u8 = 2;
 /// What `dm --version` prints after the program's name.
 const VERSION: &str = "0.1.0";
 
-/// A word that names the file of a base.
-fn base<'a>(alloc: Global, help: &'a str) -> Arg<'a> {
-    Arg::new(alloc, "base")
-        .long("base")
+/// A word that names a file.
+fn file<'a>(alloc: Global, name: &'a str, help: &'a str) -> Arg<'a> {
+    Arg::new(alloc, name)
+        .long(name)
         .value_name("FILE")
         .help(help)
 }
@@ -74,13 +75,30 @@ fn posters<'a>(alloc: Global) -> Arg<'a> {
         )
 }
 
+/// The word that says how many patches are sent.
+fn first<'a>(alloc: Global) -> Arg<'a> {
+    Arg::new(alloc, "first")
+        .long("first")
+        .value_name("N")
+        .value_parser(value_parser!(u32))
+        .help("Send the first N patches of them alone")
+}
+
+/// The word that asks for the least context.
+fn minimal<'a>(alloc: Global) -> Arg<'a> {
+    Arg::new(alloc, "minimal")
+        .long("minimal")
+        .action(ArgAction::SetTrue)
+        .help("Name in the context only what the patches rest on")
+}
+
 /// The words of `dm apply`.
 fn apply_words<'a>(alloc: Global) -> Result<Command<'a>, AllocError> {
     Command::new(alloc, "apply")
         .about(
             "Take the patch bundle on standard input; print the verdict and the listing of the tree",
         )
-        .arg(base(alloc, "Take the bundle of FILE first"))?
+        .arg(file(alloc, "base", "Take the bundle of FILE first"))?
         .arg(bundle(alloc))?
         .arg(explain(alloc))?
         .arg(skip(alloc))
@@ -110,10 +128,23 @@ fn run_words<'a>(alloc: Global) -> Result<Command<'a>, AllocError> {
             "How many mirrors there are; one to eight",
         ))?
         .arg(number(alloc, "bound", "B", waiting))?
-        .arg(base(alloc, start))?
+        .arg(file(alloc, "base", start))?
         .arg(explain(alloc))?
         .arg(skip(alloc))?
         .arg(posters(alloc))
+}
+
+/// The words of `dm send`.
+fn send_words<'a>(alloc: Global) -> Result<Command<'a>, AllocError> {
+    let mine =
+        "The repository to send from: what an empty one has once it has taken the bundle of FILE";
+    let theirs = "What they hold: the patches that the bundle or the context of FILE names";
+    Command::new(alloc, "send")
+        .about("Print the bundle of the patches that somebody lacks")
+        .arg(file(alloc, "base", mine).required(true))?
+        .arg(first(alloc))?
+        .arg(minimal(alloc))?
+        .arg(file(alloc, "to", theirs).required(true))
 }
 
 /// The commands and their words.
@@ -126,7 +157,8 @@ fn program<'a>(alloc: Global) -> Result<Command<'a>, AllocError> {
         .arg_required_else_help(true)
         .subcommand(apply_words(alloc)?)?
         .subcommand(check_words(alloc)?)?
-        .subcommand(run_words(alloc)?)
+        .subcommand(run_words(alloc)?)?
+        .subcommand(send_words(alloc)?)
 }
 
 /// Prints why there is no answer. Where that fails too, the exit status alone tells it.
@@ -189,6 +221,34 @@ fn apply<'a, R: Runtime + AllocGlobal>(
     Ok(applied.status)
 }
 
+/// Says on standard error how many names of theirs were passed over, and that nothing is sent.
+fn say_sent<R: Runtime + AllocGlobal>(rt: &R, sent: &Sent) {
+    let unheld = sent.unheld;
+    let _ = match unheld {
+        0 => Ok(()),
+        1 => eprintln!(rt; "dm: passed over 1 patch that isn't held here"),
+        _ => eprintln!(rt; "dm: passed over {unheld} patches that aren't held here"),
+    };
+    if sent.new == Some(0) {
+        let _ = eprintln!(rt; "dm: nothing to send");
+    }
+}
+
+/// `dm send`: the base is read before what they hold.
+fn send<'a, R: Runtime + AllocGlobal>(rt: &R, words: &ArgMatches<'a>) -> Result<u8, WordFault<'a>> {
+    let mine = read_file(rt, words.get_str("base").unwrap_or(""))?;
+    let theirs = read_file(rt, words.get_str("to").unwrap_or(""))?;
+    let most = match words.get_one::<u32>("first") {
+        Some(most) => most as usize,
+        None => usize::MAX,
+    };
+    let is_minimal = words.get_flag("minimal");
+    let mut writer = io::writer(rt);
+    let sent = send_over(rt.alloc(), &mine, &theirs, most, is_minimal, &mut writer)?;
+    say_sent(rt, &sent);
+    Ok(sent.status)
+}
+
 /// Out of memory, where that is why the words could not be read.
 fn out_of_memory(kind: ErrorKind) -> Option<ToolFault> {
     match kind {
@@ -218,6 +278,7 @@ fn start<'a, R: Runtime + AllocGlobal + Threads + Wait + Sync>(
         Some(("apply", words)) => exit_status(rt, apply(rt, colour, words)),
         Some(("check", words)) => exit_status(rt, check(rt, colour, words)),
         Some(("run", words)) => exit_status(rt, run_plan(rt, colour, words)),
+        Some(("send", words)) => exit_status(rt, send(rt, words)),
         _ => NO_ANSWER,
     }
 }

@@ -3,6 +3,7 @@ ghost use Rattle.std.specs.Prelude.{◌≡◌, ◌≢◌, ◌⊎◌};
 ghost use Rattle.dm_tool.specs.declared.fault.ToolFault.TheVariants.{NoMemory, NoThread, BadPlan};
 
 use dm_mirror::{PlanFault, RunFault};
+use dm_named::{FaultKind, ReadFault};
 use dm_repo::Refusal;
 use dm_scratch::Verdict;
 use std::alloc::{AllocError, AllocFailed};
@@ -23,6 +24,13 @@ pub enum ToolFault {
     /// The base isn't taken into an empty repository: the text is malformed, or its bundle refused. Nothing was read or written.
     #[error("base {0}")]
     BadBase(Verdict),
+    /// The text of what somebody holds tells no names. Nothing was written.
+    #[error("theirs malformed {} {}", .0.kind.word(), .0.at)]
+    BadNames(ReadFault),
+    /// A bundle would have more than 1,000 new patches, or more than 10,000 primitives in one, or its text more bytes than a
+    /// bundle may have. Nothing was written.
+    #[error("too many patches to send; --first N sends the first N")]
+    TooManyToSend,
     /// There is no plan of these posters, bases and bound. Nothing was written.
     #[error("{0}")]
     BadPlan(PlanFault),
@@ -41,6 +49,17 @@ impl ToolFault {
             return ToolFault::NoMemory;
         }
         ToolFault::BadBase(verdict)
+    }
+
+    /// Why there is no answer to a text of names with this fault.
+    pub fn of_names(fault: ReadFault) -> ToolFault
+        ensures { ((fault.kind ≡ FaultKind.NoMemory) × (result ≡ ToolFault.NoMemory)) ⊎
+            ((fault.kind ≢ FaultKind.NoMemory) × (result ≡ ToolFault.BadNames fault)) }
+    {
+        if fault.kind == FaultKind::NoMemory {
+            return ToolFault::NoMemory;
+        }
+        ToolFault::BadNames(fault)
     }
 }
 

@@ -4,14 +4,15 @@
 //! it and where. `dm apply` reads a bundle, takes it into the repository that another bundle makes, or
 //! into an empty one, and prints the verdict with the listing of the repository's tree, or with all its
 //! patches as a bundle. `dm run` lets posters send bundles to mirrors, in threads, and prints what each
-//! mirror took, and its tree.
+//! mirror took, and its tree. `dm send` prints the bundle of what somebody lacks.
 //!
 //! The crate stands on `dm_scratch` for taking a text into a repository, on `dm_mirror` for posters and
-//! mirrors, on `dm_bundle` and `dm_named` for the text of bundles, and on `clap`, `indexmap` and `memchr`
-//! for the words of the command line. Its theorems are the contracts of [`check::check_over`],
-//! [`apply::apply_over`] and [`running::run_over`]: over a reader and a writer that tell their bytes, what
-//! is written and the exit status are those of the bundle that the text stands for, or of the text's first
-//! fault, or those of taking it, or of a run in which no bundle is lost, doubled or reordered.
+//! mirrors, on `dm_send` for what somebody lacks, on `dm_bundle` and `dm_named` for the text of bundles, and
+//! on `clap`, `indexmap` and `memchr` for the words of the command line. Its theorems are the contracts of
+//! [`check::check_over`], [`apply::apply_over`], [`running::run_over`] and [`send::send_over`]: over a reader
+//! and a writer that tell their bytes, what is written and the exit status are those of the bundle that the
+//! text stands for, or of the text's first fault, or those of taking it, or of a run in which no bundle is
+//! lost, doubled or reordered, or of the bundle for somebody who holds other patches.
 #![tactic(auto)]
 
 mod apply;
@@ -24,6 +25,7 @@ mod files;
 mod plan_words;
 mod print;
 mod running;
+mod send;
 mod status;
 mod streams;
 

@@ -1,0 +1,10 @@
+use Rattle.std.proofs.Common.{◌≡◌, ◌++◌}
+use Rattle.dm_send.proofs.minimizing.named_all.Given as goal
+
+abbrev pub invariant-loop-patch : goal.invariant-loop-patch
+invariant-loop-patch g l = record {
+  can_next : (goal.iterator-loop-patch g).can_next l.patch-iterator;
+  is_finite : (goal.iterator-loop-patch g).is_finite l.patch-iterator;
+  moved : l.named.items ≡ l.yielded;
+  whole : l.fn.list.items ≡ l.yielded ++ l.patch-iterator.rest.items;
+}

@@ -1,0 +1,98 @@
+-- What `dm send` answers.
+use Rattle.std.specs.Prelude.{◌≡◌, ◌≢◌, ℕ, Bool, true, false, List, length, Option, MatchOption}
+use Rattle.dm_info.specs.PatchInfo.{PatchInfo}
+use Rattle.dm_named.specs.Patches.{Patch}
+use Rattle.dm_bundle.specs.Bundles.{Contents}
+use Rattle.dm_bundle.specs.Canonical.{bundle_text}
+use Rattle.dm_bundle.specs.Faults.{IsWithinSize}
+use Rattle.dm_bundle.specs.Patches.{AreFew}
+use Rattle.dm_repo.specs.declared.refusal.Refusal.{Refusal}
+use Rattle.dm_repo.specs.declared.refusal.Refusal.TheVariants as refusals
+use Rattle.dm_repo.specs.Repositories.{Holds}
+use Rattle.dm_scratch.specs.declared.verdict.Verdict.TheVariants.{Refused}
+use Rattle.dm_scratch.specs.Taking.{Reads}
+use Rattle.dm_scratch.specs.Words.{verdict_text}
+use Rattle.dm_scratch.specs.Printing.{line_of}
+use Rattle.dm_send.specs.Sending.{Parts, RefusesToSend, RefusesToSendMinimal, Sends, SendsMinimal}
+use Rattle.dm_send.specs.Telling.{IsNamesFault, TellsNames}
+use Rattle.dm_tool.specs.declared.fault.ToolFault.{ToolFault}
+use Rattle.dm_tool.specs.declared.fault.ToolFault.TheVariants.{NoMemory, BadBase, BadNames, TooManyToSend}
+use Rattle.dm_tool.specs.declared.send.Sent.{Sent}
+use Rattle.dm_tool.specs.Applying.{IsBase, RefusesBase}
+
+-- a bundle for somebody who holds patches of these names: a minimal one, or not
+abbrev pub SendsFor : Bool → List Patch → List PatchInfo → ℕ → Contents → Type 0
+SendsFor true repo names most b = SendsMinimal repo names most b
+SendsFor false repo names most b = Sends repo names most b
+
+-- why there is none
+abbrev pub RefusesToSendFor : Bool → List Patch → List PatchInfo → ℕ → Refusal → Type 0
+RefusesToSendFor true repo names most why = RefusesToSendMinimal repo names most why
+RefusesToSendFor false repo names most why = RefusesToSend repo names most why
+
+-- nothing is sent, though memory is ample
+abbrev pub IsRefusedFor : Bool → List Patch → List PatchInfo → ℕ → Refusal → Type 0
+IsRefusedFor is_minimal repo names most why = (why ≢ refusals.NoMemory) × RefusesToSendFor is_minimal repo names most why
+
+-- the bundle and its canonical text are within the limits of what is read
+pub record IsWithinLimits (b : Contents) : Type 0 where
+  pub few : AreFew b.patches
+  pub small : IsWithinSize (bundle_text b)
+
+-- To somebody who holds patches of these names these bytes and this exit status are answered: the canonical text of the bundle for them, which is read
+-- as that bundle; or the line of why there is none.
+pub data AnswersNames (is_minimal : Bool) (repo : List Patch) (names : List PatchInfo) (most : ℕ) (out : List ℕ) (status : ℕ) : Type 0 where
+  sent : (b : Contents) → SendsFor is_minimal repo names most b → out ≡ bundle_text b → Reads out b → status ≡ 0
+      → AnswersNames is_minimal repo names most out status
+  refused : (why : Refusal) → IsRefusedFor is_minimal repo names most why → out ≡ line_of (verdict_text (Refused why)) → status ≡ 1
+      → AnswersNames is_minimal repo names most out status
+
+-- so is it to somebody of whom a text tells what they hold, from the repository that a base's text makes
+pub record AnswersTexts (is_minimal : Bool) (mine theirs : List ℕ) (most : ℕ) (out : List ℕ) (status : ℕ) : Type 0 where
+  pub repo : List Patch
+  pub names : List PatchInfo
+  pub is_base : IsBase mine repo
+  pub tells : TellsNames theirs names
+  pub answers : AnswersNames is_minimal repo names most out status
+
+-- so many new patches are sent, or there is no bundle
+abbrev pub SendsCount : Bool → List Patch → List PatchInfo → ℕ → Option ℕ → Type 0
+SendsCount is_minimal repo names most new = MatchOption new
+    ((why : Refusal) × IsRefusedFor is_minimal repo names most why)
+    (λ count. (b : Contents) × SendsFor is_minimal repo names most b × (count ≡ length b.patches))
+
+-- so many of the names aren't held
+abbrev pub CountsUnheld : List Patch → List PatchInfo → ℕ → Type 0
+CountsUnheld repo names count = (held : List PatchInfo) × (unheld : List PatchInfo) × Parts (Holds repo) names held unheld × (count ≡ length unheld)
+
+-- what is told of the answer: how many new patches are sent, if any, and how many names aren't held
+pub record TellsNumbers (is_minimal : Bool) (repo : List Patch) (names : List PatchInfo) (most : ℕ) (sent : Sent) : Type 0 where
+  pub new : SendsCount is_minimal repo names most sent.new
+  pub unheld : CountsUnheld repo names sent.unheld
+
+-- so it is of the answer to two texts
+pub record TellsTexts (is_minimal : Bool) (mine theirs : List ℕ) (most : ℕ) (sent : Sent) : Type 0 where
+  pub repo : List Patch
+  pub names : List PatchInfo
+  pub is_base : IsBase mine repo
+  pub tells : TellsNames theirs names
+  pub numbers : TellsNumbers is_minimal repo names most sent
+
+-- the text tells no names: memory ran out, or it has this fault
+abbrev pub RefusesNames : List ℕ → ToolFault → Type 0
+RefusesNames theirs NoMemory = Unit {0}
+RefusesNames theirs (BadNames fault) = IsNamesFault theirs fault
+RefusesNames theirs other = ⊥
+
+-- the bundle is past a limit
+abbrev pub IsPastLimits : Bool → List Patch → List PatchInfo → ℕ → Type 0
+IsPastLimits is_minimal repo names most = (b : Contents) × SendsFor is_minimal repo names most b × (IsWithinLimits b → ⊥)
+
+-- Why there is no answer to two texts: memory ran out; or the base isn't taken; or it is, and then the other tells no names, or the bundle is past a limit.
+abbrev pub RefusesTexts : Bool → List ℕ → List ℕ → ℕ → ToolFault → Type 0
+RefusesTexts is_minimal mine theirs most NoMemory = Unit {0}
+RefusesTexts is_minimal mine theirs most (BadBase verdict) = RefusesBase mine (BadBase verdict)
+RefusesTexts is_minimal mine theirs most (BadNames fault) = (repo : List Patch) × IsBase mine repo × IsNamesFault theirs fault
+RefusesTexts is_minimal mine theirs most TooManyToSend =
+    (repo : List Patch) × (names : List PatchInfo) × IsBase mine repo × TellsNames theirs names × IsPastLimits is_minimal repo names most
+RefusesTexts is_minimal mine theirs most other = ⊥

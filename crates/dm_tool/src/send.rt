@@ -1,0 +1,222 @@
+//! The command `dm send`.
+ghost use Rattle.std.specs.Prelude.{◌≡◌, ◌≢◌, ◌≤◌, ◌⊎◌, length, IfOk, IfErr, MatchBool};
+ghost use Rattle.std.specs.Io.KnownBytes.{Keeps};
+ghost use Rattle.std.specs.List.{AllByRecursion};
+ghost use Rattle.dm_bundle.specs.Canonical.{bundle_text};
+ghost use Rattle.dm_bundle.specs.Patches.{AreFew};
+ghost use Rattle.dm_scratch.specs.Taking.{Reads};
+ghost use Rattle.dm_send.specs.Telling.{TellsNames};
+ghost use Rattle.dm_tool.specs.Streams.{Writes, WritesPrefix};
+ghost use Rattle.dm_tool.specs.Applying.{IsBase, RefusesBase};
+ghost use Rattle.dm_tool.specs.Sending.{AnswersNames, AnswersTexts, CountsUnheld, IsPastLimits, IsWithinLimits, RefusesNames, RefusesTexts};
+ghost use Rattle.dm_tool.specs.Sending.{RefusesToSendFor, SendsFor, TellsNumbers, TellsTexts};
+
+use crate::apply::repo_of;
+use crate::fault::ToolFault;
+use crate::status::status_of;
+use crate::streams::write_text;
+use bumpalo::Bump;
+use dm_bundle::{Bundle, MOST_BYTES, write_bundle};
+use dm_info::Info;
+use dm_named::Named;
+use dm_repo::{Refusal, Repo};
+use dm_scratch::{Verdict, push_verdict};
+use dm_send::{read_names, send, send_minimal};
+use std::alloc::Global;
+use std::io::Write;
+
+/// The most new patches of a bundle that is read.
+const MOST_PATCHES: usize = 1000;
+
+/// The most primitives of a new patch that is read.
+const MOST_PRIMS: usize = 10_000;
+
+/// What `dm send` answered.
+#[derive(Drop)]
+pub struct Sent {
+    /// The exit status.
+    pub status: u8,
+    /// How many new patches are sent; `None` where there is no bundle.
+    pub new: Option<usize>,
+    /// How many names of theirs aren't held here.
+    pub unheld: usize,
+}
+
+/// The repository that a base's text makes.
+fn base_of(alloc: Global, mine: &[u8]) -> Result<Repo<Global>, ToolFault>
+    ensures ok { IfOk result (λ repo. IsBase mine.now repo.patches) }
+    ensures err { IfErr result (RefusesBase mine.now) }
+{
+    let mut arena = Bump::new(alloc);
+    repo_of(alloc, &mut arena, Some(mine))
+}
+
+/// The names that a text tells.
+fn names_of(alloc: Global, theirs: &[u8]) -> Result<Vec<Info<Global>>, ToolFault>
+    ensures ok { IfOk result (λ names. TellsNames theirs.now names.items) }
+    ensures err { IfErr result (RefusesNames theirs.now) }
+{
+    match read_names(alloc, theirs) {
+        Ok(names) => Ok(names),
+        Err(fault) => Err(ToolFault::of_names(fault)),
+    }
+}
+
+/// How many of these names aren't held.
+fn count_unheld(repo: &Repo<Global>, names: &[Info<Global>]) -> usize
+    ensures { CountsUnheld repo.now.patches names.now result }
+{
+    let mut unheld = 0;
+    for name in names {
+        match repo.position(name) {
+            Some(_) => {}
+            None => unheld += 1,
+        }
+    }
+    unheld
+}
+
+/// The bundle for somebody who holds patches of these names.
+fn bundle_for(
+    alloc: Global,
+    repo: &Repo<Global>,
+    names: &[Info<Global>],
+    most: usize,
+    is_minimal: bool,
+) -> Result<Bundle<Global>, Refusal>
+    ensures sent { IfOk result (SendsFor is_minimal repo.now.patches names.now most) }
+    ensures refusal { IfErr result (RefusesToSendFor is_minimal repo.now.patches names.now most) }
+{
+    if is_minimal {
+        return send_minimal(alloc, repo, names, most);
+    }
+    send(alloc, repo, names, most)
+}
+
+/// Whether each of these patches has few enough primitives to be read.
+fn are_short(patches: &[Named<Global>]) -> bool
+    ensures { MatchBool result
+        (AllByRecursion (λ p. length p.prims ≤ 10000) patches.now)
+        (AllByRecursion (λ p. length p.prims ≤ 10000) patches.now → ⊥) }
+{
+    for patch in patches {
+        if patch.prims().len() > MOST_PRIMS {
+            return false;
+        }
+    }
+    true
+}
+
+/// Whether these are new patches that are read.
+fn are_few(patches: &[Named<Global>]) -> bool
+    ensures { MatchBool result (AreFew patches.now) (AreFew patches.now → ⊥) }
+{
+    if patches.len() > MOST_PATCHES {
+        return false;
+    }
+    are_short(patches)
+}
+
+/// The canonical text of a bundle, where both are within the limits of what is read.
+fn text_of(alloc: Global, bundle: &Bundle<Global>) -> Result<Vec<u8>, ToolFault>
+    ensures text { IfOk result (λ text. text.items ≡ bundle_text bundle.now) }
+    ensures reads { IfOk result (λ text. Reads text.items bundle.now) }
+    ensures err { IfErr result (λ e. (e ≡ ToolFault.NoMemory) ⊎ ((e ≡ ToolFault.TooManyToSend) × (IsWithinLimits bundle.now → ⊥))) }
+{
+    if !are_few(bundle.new_patches()) {
+        return Err(ToolFault::TooManyToSend);
+    }
+    let text = write_bundle(alloc, bundle)?;
+    if text.len() > MOST_BYTES {
+        return Err(ToolFault::TooManyToSend);
+    }
+    Ok(text)
+}
+
+/// What is printed for somebody who holds patches of these names, and what is told of it.
+fn answer_for(
+    alloc: Global,
+    repo: &Repo<Global>,
+    names: &[Info<Global>],
+    most: usize,
+    is_minimal: bool,
+) -> Result<(Vec<u8>, Sent), ToolFault>
+    ensures ok { IfOk result (λ x. AnswersNames is_minimal repo.now.patches names.now most x.0.items x.1.status) }
+    ensures told { IfOk result (λ x. TellsNumbers is_minimal repo.now.patches names.now most x.1) }
+    ensures err { IfErr result (λ e. (e ≡ ToolFault.NoMemory) ⊎
+        ((e ≡ ToolFault.TooManyToSend) × IsPastLimits is_minimal repo.now.patches names.now most)) }
+{
+    let unheld = count_unheld(repo, names);
+    match bundle_for(alloc, repo, names, most, is_minimal) {
+        Ok(bundle) => {
+            let text = text_of(alloc, &bundle)?;
+            let sent = Sent {
+                status: 0,
+                new: Some(bundle.new_patches().len()),
+                unheld,
+            };
+            Ok((text, sent))
+        }
+        Err(why) => {
+            if why == Refusal::NoMemory {
+                return Err(ToolFault::NoMemory);
+            }
+            let verdict = Verdict::Refused(why);
+            let mut line = Vec::new(alloc);
+            push_verdict(verdict, &mut line)?;
+            let sent = Sent {
+                status: status_of(verdict),
+                new: None,
+                unheld,
+            };
+            Ok((line, sent))
+        }
+    }
+}
+
+/// What is printed for somebody of whom a text tells what they hold, and what is told of it.
+fn answer_of(
+    alloc: Global,
+    mine: &[u8],
+    theirs: &[u8],
+    most: usize,
+    is_minimal: bool,
+) -> Result<(Vec<u8>, Sent), ToolFault>
+    ensures ok { IfOk result (λ x. AnswersTexts is_minimal mine.now theirs.now most x.0.items x.1.status) }
+    ensures told { IfOk result (λ x. TellsTexts is_minimal mine.now theirs.now most x.1) }
+    ensures err { IfErr result (RefusesTexts is_minimal mine.now theirs.now most) }
+{
+    let repo = base_of(alloc, mine)?;
+    let names = names_of(alloc, theirs)?;
+    let answer = answer_for(alloc, &repo, &names, most, is_minimal)?;
+    Ok(answer)
+}
+
+/// Writes the canonical bundle of the patches that somebody lacks, as they stand behind what both hold: the first `most` of
+/// those of the repository that a base's text makes. Another text tells what they hold. A minimal bundle names in its context
+/// only what its patches rest on. Where a patch that they hold rests on one that they don't, or a path would go too deep, it
+/// writes the line of the refusal. Returns the exit status, 0 with a bundle and 1 with a refusal, and what it tells.
+///
+/// Errors: [`ToolFault::BadBase`] where the base isn't taken; then [`ToolFault::BadNames`] where the other text tells no names;
+/// [`ToolFault::TooManyToSend`] where the bundle is past a limit of what `dm` reads; [`ToolFault::NoMemory`];
+/// [`ToolFault::Write`]. Only after the last has anything been written, which is a prefix of the output.
+pub fn send_over<W: Write>(
+    alloc: Global,
+    mine: &[u8],
+    theirs: &[u8],
+    most: usize,
+    is_minimal: bool,
+    writer: &mut W,
+) -> Result<Sent, ToolFault>
+    ensures ok { IfOk result (λ sent. Writes (AnswersTexts is_minimal mine.now theirs.now most)
+        (W.contents writer.old) (W.contents writer.new) sent.status) }
+    ensures told { IfOk result (TellsTexts is_minimal mine.now theirs.now most) }
+    ensures fault { IfErr result (λ e. (e ≢ ToolFault.Write) → RefusesTexts is_minimal mine.now theirs.now most e) }
+    ensures silent { IfErr result (λ e. (e ≢ ToolFault.Write) → Keeps (W.contents writer.old) (W.contents writer.new)) }
+    ensures prefix { IfErr result (λ e. (e ≡ ToolFault.Write) →
+        WritesPrefix (AnswersTexts is_minimal mine.now theirs.now most) (W.contents writer.old) (W.contents writer.new)) }
+{
+    let (out, sent) = answer_of(alloc, mine, theirs, most, is_minimal)?;
+    write_text(&out, writer)?;
+    Ok(sent)
+}
