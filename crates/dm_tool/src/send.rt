@@ -4,7 +4,10 @@ ghost use Rattle.std.specs.Io.KnownBytes.{Keeps};
 ghost use Rattle.std.specs.List.{AllByRecursion};
 ghost use Rattle.dm_bundle.specs.Canonical.{bundle_text};
 ghost use Rattle.dm_bundle.specs.Patches.{AreFew};
+ghost use Rattle.dm_scratch.specs.declared.verdict.Verdict.TheVariants.{Refused};
+ghost use Rattle.dm_scratch.specs.Printing.{line_of};
 ghost use Rattle.dm_scratch.specs.Taking.{Reads};
+ghost use Rattle.dm_scratch.specs.Words.{verdict_text};
 ghost use Rattle.dm_send.specs.Telling.{TellsNames};
 ghost use Rattle.dm_tool.specs.Streams.{Writes, WritesPrefix};
 ghost use Rattle.dm_tool.specs.Applying.{IsBase, RefusesBase};
@@ -133,6 +136,20 @@ fn text_of(alloc: Global, bundle: &Bundle<Global>) -> Result<Vec<u8>, ToolFault>
     Ok(text)
 }
 
+/// The line that says why there is no bundle. That memory ran out is no answer.
+fn refusal_line(alloc: Global, why: Refusal) -> Result<Vec<u8>, ToolFault>
+    ensures line { IfOk result (λ line. line.items ≡ line_of (verdict_text (Refused why))) }
+    ensures answers { IfOk result (λ _. why ≢ Refusal.NoMemory) }
+    ensures err { IfErr result (λ e. e ≡ ToolFault.NoMemory) }
+{
+    if why == Refusal::NoMemory {
+        return Err(ToolFault::NoMemory);
+    }
+    let mut line = Vec::new(alloc);
+    push_verdict(Verdict::Refused(why), &mut line)?;
+    Ok(line)
+}
+
 /// What is printed for somebody who holds patches of these names, and what is told of it.
 fn answer_for(
     alloc: Global,
@@ -158,14 +175,9 @@ fn answer_for(
             Ok((text, sent))
         }
         Err(why) => {
-            if why == Refusal::NoMemory {
-                return Err(ToolFault::NoMemory);
-            }
-            let verdict = Verdict::Refused(why);
-            let mut line = Vec::new(alloc);
-            push_verdict(verdict, &mut line)?;
+            let line = refusal_line(alloc, why)?;
             let sent = Sent {
-                status: status_of(verdict),
+                status: status_of(Verdict::Refused(why)),
                 new: None,
                 unheld,
             };
