@@ -11,3 +11,4 @@ pub mod TableLemmas
 pub mod ListLemmas
 pub mod ApplyLemmas
 pub mod TouchLemmas
+pub mod SketchLemmas

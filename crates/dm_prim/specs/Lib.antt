@@ -8,3 +8,4 @@ pub mod Hunks
 pub mod Prims
 pub mod Applying
 pub mod Touch
+pub mod Sketches

@@ -17,6 +17,7 @@ mod list;
 mod pair;
 mod places;
 mod primitive;
+mod sketch;
 mod touched;
 
 pub use effect::{apply, apply_all};

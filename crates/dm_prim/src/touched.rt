@@ -3,10 +3,12 @@ ghost use Rattle.std.specs.Prelude.{◌≡◌, ◌↔◌, ◌++◌, ◌∷◌, [
 ghost use Rattle.dm_tree.specs.Paths.{Path as TreePath};
 ghost use Rattle.dm_prim.specs.Commuting.{IsValidPrim};
 ghost use Rattle.dm_prim.specs.Prims.{IsWork, prim_of, prims_of};
+ghost use Rattle.dm_prim.specs.Sketches.{Covers};
 ghost use Rattle.dm_prim.specs.Touch.{AreApart, IsApartFrom, IsNamedAmong, IsTouched, MoveNothing, MovesOutside, NamesAmong, PassUnchanged, StayTouched, Touches, TouchesMore};
 
 use crate::pair::are_apart;
 use crate::primitive::Primitive;
+use crate::sketch::Sketch;
 use dm_tree::Path;
 use std::alloc::{AllocError, Allocator};
 use std::marker::Model;
@@ -16,16 +18,20 @@ use std::marker::Model;
 #[derive(Drop)]
 pub struct Touched<A: Allocator> {
     paths: Vec<Path<A>, A>,
+    sketch: Sketch,
     moves_outside: bool,
     moves_nothing: bool,
 }
 
 impl<A: Allocator> Model for Touched<A> {
     ghost use Rattle.dm_prim.specs.Touch.{TouchedPaths};
+    ghost use Rattle.dm_prim.specs.Sketches.{Covers};
 
     ghost Value = { TouchedPaths };
 
     ghost view = { λ t. record { paths = t.paths.items; moves_outside = t.moves_outside; moves_nothing = t.moves_nothing } };
+
+    ghost invariant = { λ t. Covers t.paths.items t.sketch };
 }
 
 impl<A: Allocator + Copy> Touched<A> {
@@ -34,9 +40,9 @@ impl<A: Allocator + Copy> Touched<A> {
         ensures { OnOk result (TouchesMore (prim_of prim.now) self.old self.new) }
     {
         prim.tells_valid();
-        add_path(&mut self.paths, prim.path())?;
+        add_path(&mut self.paths, &mut self.sketch, prim.path())?;
         if let Some(target) = prim.target() {
-            add_path(&mut self.paths, target)?;
+            add_path(&mut self.paths, &mut self.sketch, target)?;
             self.moves_nothing = false;
             if !are_apart(prim.path(), target) {
                 self.moves_outside = false;
@@ -83,9 +89,11 @@ impl<A: Allocator> Touched<A> {
 /// Adds a path, unless it is one of the last two there: the primitives of a patch often work at one path in turn, or at two.
 fn add_path<A: Allocator + Copy, B: Allocator>(
     paths: &mut Vec<Path<A>, A>,
+    sketch: &mut Sketch,
     path: &Path<B>,
 ) -> Result<(), AllocError>
-    ensures { OnOk result ((f : TreePath) → Contains paths.new.items f ↔ Contains (paths.old.items ++ path.now ∷ []) f) }
+    ensures paths { OnOk result ((f : TreePath) → Contains paths.new.items f ↔ Contains (paths.old.items ++ path.now ∷ []) f) }
+    ensures sketch { Covers paths.old.items sketch.old → Covers paths.new.items sketch.new }
 {
     if is_recent(path, paths) {
         return Ok(());
@@ -93,6 +101,7 @@ fn add_path<A: Allocator + Copy, B: Allocator>(
     let alloc = *paths.allocator();
     let copy = path.copy_into(alloc)?;
     paths.push(copy)?;
+    sketch.add(path);
     Ok(())
 }
 
@@ -105,6 +114,7 @@ pub fn touch<A: Allocator, B: Allocator + Copy>(
 {
     let mut touched = Touched {
         paths: Vec::new(alloc),
+        sketch: Sketch::new(),
         moves_outside: true,
         moves_nothing: true,
     };
@@ -254,6 +264,9 @@ fn touch_nothing_in_common<A: Allocator, B: Allocator>(
     }
     if !second.moves_outside {
         return false;
+    }
+    if first.sketch.is_apart_from(&second.sketch) {
+        return true;
     }
     all_apart(&first.paths, &second.paths)
 }

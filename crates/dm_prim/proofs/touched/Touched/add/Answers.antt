@@ -13,7 +13,7 @@ returns-then-not-are_apart g c =
     let to = c.in-Some.target.now in
     λ ps h. touches_more p t two false false c.tells_valid.ensures
     (λ f. subst (λ z. Contains two f ↔ Contains (t.paths ++ z) f) (ap (λ z. z ∷ to ∷ []) c.path.ensures ∙ sym (paths_of_move p (path_of p) to c.in-Some.ensures))
-    (two_more t.paths one two c.path.result.now to c.in_ok-add_path.ensures c.in_ok-add_path-2.ensures f))
+    (two_more t.paths one two c.path.result.now to c.in_ok-add_path.ensures.paths c.in_ok-add_path-2.ensures.paths f))
     (λ x. cc, λ x. absurd (cc (c.if-not-are_apart.ensures.1 (rw c.path-in-Some.ensures ((move_moves_outside p (path_of p) to c.in-Some.ensures).0 x.1)))))
     (move_moves_something p (path_of p) to c.in-Some.ensures) ps (rw (← c.self.view_is) at h)
 
@@ -26,7 +26,7 @@ returns-else-not-are_apart g c =
     let to = c.in-Some.target.now in
     λ ps h. touches_more p t two c.self.inside.moves_outside false c.tells_valid.ensures
     (λ f. subst (λ z. Contains two f ↔ Contains (t.paths ++ z) f) (ap (λ z. z ∷ to ∷ []) c.path.ensures ∙ sym (paths_of_move p (path_of p) to c.in-Some.ensures))
-    (two_more t.paths one two c.path.result.now to c.in_ok-add_path.ensures c.in_ok-add_path-2.ensures f))
+    (two_more t.paths one two c.path.result.now to c.in_ok-add_path.ensures.paths c.in_ok-add_path-2.ensures.paths f))
     (λ m. (m, (move_moves_outside p (path_of p) to c.in-Some.ensures).1 (rw c.path-in-Some.ensures at (c.if-not-are_apart.ensures.0 refl))), λ x. x.0)
     (move_moves_something p (path_of p) to c.in-Some.ensures) ps (rw (← c.self.view_is) at h)
 
@@ -35,6 +35,6 @@ returns-in_default g c =
     let p = prim_of c.args.prim.now in
     let t : TouchedPaths = record { paths = c.self.inside.paths.items; moves_outside = c.self.inside.moves_outside; moves_nothing = c.self.inside.moves_nothing } in
     λ ps h. touches_more p t c.add_path.new.paths.items c.self.inside.moves_outside c.self.inside.moves_nothing c.tells_valid.ensures
-    (λ f. subst (λ z. Contains c.add_path.new.paths.items f ↔ Contains (t.paths ++ z) f) (ap (λ z. z ∷ []) c.path.ensures ∙ sym (paths_of_work p c.in_default.ensures)) (c.in_ok-add_path.ensures f))
+    (λ f. subst (λ z. Contains c.add_path.new.paths.items f ↔ Contains (t.paths ++ z) f) (ap (λ z. z ∷ []) c.path.ensures ∙ sym (paths_of_work p c.in_default.ensures)) (c.in_ok-add_path.ensures.paths f))
     (λ m. (m, work_moves_outside p c.in_default.ensures), λ x. x.0)
     (λ m. (m, c.in_default.ensures), λ x. x.0) ps (rw (← c.self.view_is) at h)
