@@ -12,9 +12,10 @@ use Rattle.dm_named.specs.Patches.{Patch, PatchText}
 use Rattle.dm_named.specs.Faults.{InfoFaultAt, info}
 use Rattle.dm_named.specs.declared.fault.FaultKind.{FaultKind}
 use Rattle.dm_named.specs.declared.fault.FaultKind.TheVariants as K
+use Rattle.dm_named.specs.declared.limits.Limits.{Limits}
 use Rattle.dm_named.proofs.ManyLemmas.{many_more}
-use Rattle.dm_bundle.specs.Patches.{infos_of, Distinct, SameMembers, NextPatch, NewPatches, AreFew}
-use Rattle.dm_bundle.specs.Faults.{IsDoubled, DueFaultAt, in_patch, no_memory, NewPatchesFaultAt}
+use Rattle.dm_bundle.specs.Patches.{infos_of, Distinct, SameMembers, NextPatch, NewPatches, AreFewWithin}
+use Rattle.dm_bundle.specs.Faults.{IsDoubled, DueFaultWithin, in_patch, no_memory, NewPatchesFaultWithin}
 use Rattle.dm_bundle.proofs.Members.{distinct_more, infos_more}
 
 pub same_more : (s n is : List PatchInfo) (k : PatchInfo) → SameMembers s is → ((i : PatchInfo) → Contains n i ↔ (Contains s i ⊎ (i ≡ k))) → SameMembers n (is ++ k ∷ [])
@@ -34,30 +35,30 @@ pub count_map : (ps : List Patch) → length (infos_of ps) ≡ length ps
 count_map [] = refl
 count_map (p ∷ ps) = ap suc (count_map ps)
 
-few_all : (ps : List Patch) (p : Patch) → AllByRecursion (λ q. length q.prims ≤ 10000) ps → length p.prims ≤ 10000 → AllByRecursion (λ q. length q.prims ≤ 10000) (ps ++ p ∷ [])
-few_all [] p a f = (f, tt)
-few_all (q ∷ ps) p a f = (a.0, few_all ps p a.1 f)
+few_all : (limits : Limits) (ps : List Patch) (p : Patch) → AllByRecursion (λ q. length q.prims ≤ limits.prims) ps → length p.prims ≤ limits.prims → AllByRecursion (λ q. length q.prims ≤ limits.prims) (ps ++ p ∷ [])
+few_all limits [] p a f = (f, tt)
+few_all limits (q ∷ ps) p a f = (a.0, few_all limits ps p a.1 f)
 
-pub few_more : (ps : List Patch) (p : Patch) → AreFew ps → length ps < 1000 → length p.prims ≤ 10000 → AreFew (ps ++ p ∷ [])
-few_more ps p few room prims = record { count = omega (arith, room, length-append ps (p ∷ [])); prims = few_all ps p few.prims prims }
+pub few_more : (limits : Limits) (ps : List Patch) (p : Patch) → AreFewWithin limits ps → length ps < limits.patches → length p.prims ≤ limits.prims → AreFewWithin limits (ps ++ p ∷ [])
+few_more limits ps p few room prims = record { count = omega (arith, room, length-append ps (p ∷ [])); prims = few_all limits ps p few.prims prims }
 
 -- a fault of the patch info where a patch begins
-pub info_due : (kind : FaultKind) (known : List PatchInfo) (text here : List ℕ) → Begins 91 text → length known < 1000 → InfoFaultAt kind text here → DueFaultAt kind known text here
-info_due K.BadInfo known text here b room f = in_patch b room (λ d. f.1.none d.info d.rest d.stands) (info f)
-info_due K.Inverted known text here b room f = in_patch b room (λ d. not_both text d.info d.rest d.stands f.1) (info f)
-info_due K.NoMemory known text here b room f = no_memory refl
-info_due K.TooLarge known text here b room f = elim f [ ]
-info_due K.NoNewPatches known text here b room f = elim f [ ]
-info_due K.BadDepends known text here b room f = elim f [ ]
-info_due K.BadPatch known text here b room f = elim f [ ]
-info_due K.Unsupported known text here b room f = elim f [ ]
-info_due K.BadPath known text here b room f = elim f [ ]
-info_due K.BadNumber known text here b room f = elim f [ ]
-info_due K.EmptyHunk known text here b room f = elim f [ ]
-info_due K.Unclosed known text here b room f = elim f [ ]
-info_due K.NoContext known text here b room f = elim f [ ]
-info_due K.Doubled known text here b room f = elim f [ ]
-info_due K.TooMany known text here b room f = elim f [ ]
+pub info_due : (limits : Limits) (kind : FaultKind) (known : List PatchInfo) (text here : List ℕ) → Begins 91 text → length known < limits.patches → InfoFaultAt kind text here → DueFaultWithin limits kind known text here
+info_due limits K.BadInfo known text here b room f = in_patch b room (λ d. f.1.none d.info d.rest d.stands) (info f)
+info_due limits K.Inverted known text here b room f = in_patch b room (λ d. not_both text d.info d.rest d.stands f.1) (info f)
+info_due limits K.NoMemory known text here b room f = no_memory refl
+info_due limits K.TooLarge known text here b room f = elim f [ ]
+info_due limits K.NoNewPatches known text here b room f = elim f [ ]
+info_due limits K.BadDepends known text here b room f = elim f [ ]
+info_due limits K.BadPatch known text here b room f = elim f [ ]
+info_due limits K.Unsupported known text here b room f = elim f [ ]
+info_due limits K.BadPath known text here b room f = elim f [ ]
+info_due limits K.BadNumber known text here b room f = elim f [ ]
+info_due limits K.EmptyHunk known text here b room f = elim f [ ]
+info_due limits K.Unclosed known text here b room f = elim f [ ]
+info_due limits K.NoContext known text here b room f = elim f [ ]
+info_due limits K.Doubled known text here b room f = elim f [ ]
+info_due limits K.TooMany known text here b room f = elim f [ ]
 
 -- the patch info that stands in front of a named patch is its own
 pub one_front : (text : List ℕ) (i : PatchInfo) (rest : List ℕ) (p : Patch) (after : List ℕ) → Stands text i rest → PatchText text p after → i ≡ p.info
@@ -67,5 +68,5 @@ one_front text i rest p after s t = (one_info text i p.info rest t.after s t.inf
 pub not_doubled : (known : List PatchInfo) (text : List ℕ) (i : PatchInfo) (rest : List ℕ) → Stands text i rest → (Contains known i → ⊥) → IsDoubled known text → ⊥
 not_doubled known text i rest s none d = none (subst (Contains known) (one_info text d.info i d.rest rest d.stands s).0 d.is_known)
 
-pub new_wrong : (kind : FaultKind) (text mid next here : List ℕ) (ps : List Patch) → NewPatches text ps mid → AreFew ps → next ≡ skipped mid → DueFaultAt kind (infos_of ps) next here → NewPatchesFaultAt kind text here
-new_wrong kind text mid next here ps r few e w = record { patches = ps; mid = mid; read = r; few = few; wrong = subst (λ (t : List ℕ). DueFaultAt kind (infos_of ps) t here) e w }
+pub new_wrong : (limits : Limits) (kind : FaultKind) (text mid next here : List ℕ) (ps : List Patch) → NewPatches text ps mid → AreFewWithin limits ps → next ≡ skipped mid → DueFaultWithin limits kind (infos_of ps) next here → NewPatchesFaultWithin limits kind text here
+new_wrong limits kind text mid next here ps r few e w = record { patches = ps; mid = mid; read = r; few = few; wrong = subst (λ (t : List ℕ). DueFaultWithin limits kind (infos_of ps) t here) e w }

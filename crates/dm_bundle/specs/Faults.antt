@@ -3,21 +3,27 @@
 use Rattle.std.specs.Prelude.{◌≡◌, ◌≢◌, ◌≤◌, ◌<◌, ℕ, List, length, drop, Contains}
 use Rattle.dm_info.specs.PatchInfo.{PatchInfo}
 use Rattle.dm_info.specs.Spelling.{Stands, open_bracket}
+use Rattle.dm_named.specs.Limits.{standard}
 use Rattle.dm_named.specs.Many.{Many}
 use Rattle.dm_named.specs.Words.{skipped, Begins, Word}
 use Rattle.dm_named.specs.Patches.{Patch, NextInfo}
-use Rattle.dm_named.specs.Faults.{InfoFaultAt, PatchFaultAt}
+use Rattle.dm_named.specs.Faults.{InfoFaultAt, PatchFaultWithin}
 use Rattle.dm_named.specs.declared.fault.FaultKind.{FaultKind}
 use Rattle.dm_named.specs.declared.fault.FaultKind.TheVariants.{TooLarge, NoNewPatches, NoContext, Doubled, TooMany, NoMemory}
+use Rattle.dm_named.specs.declared.limits.Limits.{Limits}
 use Rattle.dm_bundle.specs.Heading.{Heading}
-use Rattle.dm_bundle.specs.Patches.{infos_of, NewPatches, AreFew}
+use Rattle.dm_bundle.specs.Patches.{infos_of, NewPatches, AreFewWithin}
 use Rattle.dm_bundle.specs.Context.{context_word, ContextWord, AreDisjoint}
 
--- a bundle's text has at most so many bytes
-abbrev pub most_bytes : ℕ
-most_bytes = 4194304
+-- the text is not too large for these limits
+abbrev pub IsWithinSizeOf : Limits → List ℕ → Type 0
+IsWithinSizeOf limits text = length text ≤ limits.bytes
 
--- the text is not too large
+-- a bundle's text has at most so many bytes by the standard limits
+abbrev pub most_bytes : ℕ
+most_bytes = standard.bytes
+
+-- the text is not too large for the standard limits
 abbrev pub IsWithinSize : List ℕ → Type 0
 IsWithinSize text = length text ≤ most_bytes
 
@@ -34,22 +40,22 @@ pub record IsDoubled (known : List PatchInfo) (here : List ℕ) : Type 0 where
 
 -- where a named patch or the word `Context:` is due, after patches of these patch infos: something else; one patch too many; a
 -- doubled patch; or a fault in the patch itself
-pub data DueFaultAt (kind : FaultKind) (known : List PatchInfo) (text here : List ℕ) : Type 0 where
+pub data DueFaultWithin (limits : Limits) (kind : FaultKind) (known : List PatchInfo) (text here : List ℕ) : Type 0 where
   no_context : kind ≡ NoContext → here ≡ text → (Begins open_bracket text → ⊥) → ((rest : List ℕ) → Word text context_word rest → ⊥)
-      → DueFaultAt kind known text here
-  too_many : kind ≡ TooMany → here ≡ text → Begins open_bracket text → length known ≡ 1000 → DueFaultAt kind known text here
-  doubled : kind ≡ Doubled → here ≡ text → length known < 1000 → IsDoubled known text → DueFaultAt kind known text here
-  in_patch : Begins open_bracket text → length known < 1000 → (IsDoubled known text → ⊥) → PatchFaultAt kind text here
-      → DueFaultAt kind known text here
-  no_memory : kind ≡ NoMemory → DueFaultAt kind known text here
+      → DueFaultWithin limits kind known text here
+  too_many : kind ≡ TooMany → here ≡ text → Begins open_bracket text → length known ≡ limits.patches → DueFaultWithin limits kind known text here
+  doubled : kind ≡ Doubled → here ≡ text → length known < limits.patches → IsDoubled known text → DueFaultWithin limits kind known text here
+  in_patch : Begins open_bracket text → length known < limits.patches → (IsDoubled known text → ⊥) → PatchFaultWithin limits kind text here
+      → DueFaultWithin limits kind known text here
+  no_memory : kind ≡ NoMemory → DueFaultWithin limits kind known text here
 
--- after new patches, not too many, there is a fault in the next one, or in what is there instead
-pub record NewPatchesFaultAt (kind : FaultKind) (text here : List ℕ) : Type 0 where
+-- after new patches, no more than the limits allow, there is a fault in the next one, or in what is there instead
+pub record NewPatchesFaultWithin (limits : Limits) (kind : FaultKind) (text here : List ℕ) : Type 0 where
   pub patches : List Patch
   pub mid : List ℕ
   pub read : NewPatches text patches mid
-  pub few : AreFew patches
-  pub wrong : DueFaultAt kind (infos_of patches) (skipped mid) here
+  pub few : AreFewWithin limits patches
+  pub wrong : DueFaultWithin limits kind (infos_of patches) (skipped mid) here
 
 -- where a patch info of the context begins: it is that of a new patch, or no patch info
 pub data ContextInfoFaultAt (kind : FaultKind) (known : List PatchInfo) (text here : List ℕ) : Type 0 where
@@ -65,17 +71,22 @@ pub record ContextFaultAt (kind : FaultKind) (new : List PatchInfo) (text here :
   pub wrong : ContextInfoFaultAt kind new (skipped mid) here
 
 -- a fault after the heading: among the new patches, or after them and the word `Context:`
-pub data AfterHeadingFaultAt (kind : FaultKind) (text here : List ℕ) : Type 0 where
-  in_new : NewPatchesFaultAt kind text here → AfterHeadingFaultAt kind text here
-  in_context : (patches : List Patch) (between after_word : List ℕ) → NewPatches text patches between → AreFew patches
-      → ContextWord between after_word → ContextFaultAt kind (infos_of patches) after_word here → AfterHeadingFaultAt kind text here
+pub data AfterHeadingFaultWithin (limits : Limits) (kind : FaultKind) (text here : List ℕ) : Type 0 where
+  in_new : NewPatchesFaultWithin limits kind text here → AfterHeadingFaultWithin limits kind text here
+  in_context : (patches : List Patch) (between after_word : List ℕ) → NewPatches text patches between → AreFewWithin limits patches
+      → ContextWord between after_word → ContextFaultAt kind (infos_of patches) after_word here → AfterHeadingFaultWithin limits kind text here
 
--- the fault of a text and its place: too many bytes, else no heading, else a fault after the heading; that memory runs out is none
-pub data FaultAt (text : List ℕ) (kind : FaultKind) (at : ℕ) : Type 0 where
-  too_large : kind ≡ TooLarge → at ≡ most_bytes → most_bytes < length text → FaultAt text kind at
-  no_new_patches : kind ≡ NoNewPatches → at ≡ length text → IsWithinSize text → HasNoHeading text → FaultAt text kind at
-  after_heading : kind ≢ NoMemory → at ≤ length text → IsWithinSize text → (new : List ℕ) → Heading text new
-      → AfterHeadingFaultAt kind new (drop at text) → FaultAt text kind at
+-- the fault of a text read within these limits, and its place: too many bytes, else no heading, else a fault after the heading; that
+-- memory runs out is none
+pub data FaultWithin (limits : Limits) (text : List ℕ) (kind : FaultKind) (at : ℕ) : Type 0 where
+  too_large : kind ≡ TooLarge → at ≡ limits.bytes → limits.bytes < length text → FaultWithin limits text kind at
+  no_new_patches : kind ≡ NoNewPatches → at ≡ length text → IsWithinSizeOf limits text → HasNoHeading text → FaultWithin limits text kind at
+  after_heading : kind ≢ NoMemory → at ≤ length text → IsWithinSizeOf limits text → (new : List ℕ) → Heading text new
+      → AfterHeadingFaultWithin limits kind new (drop at text) → FaultWithin limits text kind at
+
+-- the fault of a text read within the standard limits, and its place
+abbrev pub FaultAt : List ℕ → FaultKind → ℕ → Type 0
+FaultAt text kind at = FaultWithin standard text kind at
 
 -- a fault of this kind says that the text stands for no bundle: faults of the limits and of memory don't
 pub record ExcludesBundle (kind : FaultKind) : Type 0 where

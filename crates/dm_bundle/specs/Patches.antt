@@ -2,9 +2,11 @@
 use Rattle.std.specs.Prelude.{◌≤◌, ◌↔◌, ℕ, List, [], ◌∷◌, length, map, Contains}
 use Rattle.std.specs.List.{AllByRecursion}
 use Rattle.dm_info.specs.PatchInfo.{PatchInfo}
+use Rattle.dm_named.specs.Limits.{standard}
 use Rattle.dm_named.specs.Many.{Many}
 use Rattle.dm_named.specs.Words.{skipped}
 use Rattle.dm_named.specs.Patches.{Patch, PatchText}
+use Rattle.dm_named.specs.declared.limits.Limits.{Limits}
 
 -- the patch infos of patches
 abbrev pub infos_of : List Patch → List PatchInfo
@@ -28,7 +30,11 @@ pub record NewPatches (text : List ℕ) (patches : List Patch) (rest : List ℕ)
   pub read : Many NextPatch text patches rest
   pub distinct : Distinct (infos_of patches)
 
--- at most 1,000 new patches, each of at most 10,000 primitives
-pub record AreFew (patches : List Patch) : Type 0 where
-  pub count : length patches ≤ 1000
-  pub prims : AllByRecursion (λ p. length p.prims ≤ 10000) patches
+-- no more new patches than these limits allow, each of no more primitives
+pub record AreFewWithin (limits : Limits) (patches : List Patch) : Type 0 where
+  pub count : length patches ≤ limits.patches
+  pub prims : AllByRecursion (λ p. length p.prims ≤ limits.prims) patches
+
+-- no more than the standard limits allow
+abbrev pub AreFew : List Patch → Type 0
+AreFew patches = AreFewWithin standard patches

@@ -4,16 +4,13 @@ ghost use Rattle.std.specs.Prelude.{◌≡◌, ◌≤◌, ◌<◌, [], ◌∷◌
 ghost use Rattle.dm_info.specs.Spelling.{open_bracket};
 ghost use Rattle.dm_named.specs.Words.{skipped, Begins};
 ghost use Rattle.dm_named.specs.Patches.{PatchText};
-ghost use Rattle.dm_bundle.specs.Patches.{infos_of, SameMembers, NewPatches, AreFew};
-ghost use Rattle.dm_bundle.specs.Faults.{DueFaultAt, NewPatchesFaultAt};
+ghost use Rattle.dm_bundle.specs.Patches.{infos_of, SameMembers, NewPatches, AreFewWithin};
+ghost use Rattle.dm_bundle.specs.Faults.{DueFaultWithin, NewPatchesFaultWithin};
 
 use crate::known::Known;
 use dm_named::text::{begins_at, info_at, skip};
-use dm_named::{FaultKind, Named, ReadFault, read_named};
+use dm_named::{FaultKind, Limits, Named, ReadFault, read_named_within};
 use std::alloc::Allocator;
-
-/// The most new patches that a bundle may have.
-const MOST_PATCHES: usize = 1000;
 
 /// The new patches of a text, the set of their patch infos, and the place after the last patch.
 #[derive(Drop)]
@@ -31,20 +28,21 @@ fn patch_at<A: Allocator + Copy>(
     here: usize,
     patches: &[Named<A>],
     known: &mut Known<A>,
+    limits: Limits,
 ) -> Result<(Named<A>, usize), ReadFault>
     requires begins { Begins open_bracket (drop here text.now) }
-    requires counted { length patches.now ≤ 1000 }
+    requires counted { length patches.now ≤ limits.patches }
     requires known { SameMembers known.old (infos_of patches.now) }
     ensures ok { IfOk result (λ x. PatchText (drop here text.now) x.0 (drop x.1 text.now)) }
     ensures within { IfOk result (λ x. x.1 ≤ length text.now) }
-    ensures room { OnOk result (length patches.now < 1000) }
-    ensures few { IfOk result (λ x. length x.0.prims ≤ 10000) }
+    ensures room { OnOk result (length patches.now < limits.patches) }
+    ensures few { IfOk result (λ x. length x.0.prims ≤ limits.prims) }
     ensures is_new { IfOk result (λ x. Contains (infos_of patches.now) x.0.info → ⊥) }
     ensures noted { IfOk result (λ x. SameMembers known.new (infos_of patches.now ++ x.0.info ∷ [])) }
-    ensures err { IfErr result (λ e. DueFaultAt e.kind (infos_of patches.now) (drop here text.now) (drop e.at text.now)) }
+    ensures err { IfErr result (λ e. DueFaultWithin limits e.kind (infos_of patches.now) (drop here text.now) (drop e.at text.now)) }
     ensures place { IfErr result (λ e. here ≤ length text.now → e.at ≤ length text.now) }
 {
-    if patches.len() >= MOST_PATCHES {
+    if patches.len() >= limits.patches {
         return Err(ReadFault {
             kind: FaultKind::TooMany,
             at: here,
@@ -62,7 +60,7 @@ fn patch_at<A: Allocator + Copy>(
             at: here,
         });
     }
-    let (patch, next) = read_named(alloc, text, here)?;
+    let (patch, next) = read_named_within(alloc, text, here, limits)?;
     Ok((patch, next))
 }
 
@@ -71,14 +69,15 @@ pub(crate) fn patches_at<A: Allocator + Copy>(
     alloc: A,
     text: &[u8],
     start: usize,
+    limits: Limits,
 ) -> Result<Start<A>, ReadFault>
     requires { start ≤ length text.now }
     ensures ok { IfOk result (λ s. NewPatches (drop start text.now) s.patches.items (drop s.end text.now)) }
     ensures known { IfOk result (λ s. SameMembers s.known (infos_of s.patches.items)) }
-    ensures few { IfOk result (λ s. AreFew s.patches.items) }
+    ensures few { IfOk result (λ s. AreFewWithin limits s.patches.items) }
     ensures closed { IfOk result (λ s. Begins open_bracket (skipped (drop s.end text.now)) → ⊥) }
     ensures within { IfOk result (λ s. s.end ≤ length text.now) }
-    ensures err { IfErr result (λ e. NewPatchesFaultAt e.kind (drop start text.now) (drop e.at text.now)) }
+    ensures err { IfErr result (λ e. NewPatchesFaultWithin limits e.kind (drop start text.now) (drop e.at text.now)) }
     ensures place { IfErr result (λ e. e.at ≤ length text.now) }
 {
     let mut patches = Vec::new(alloc);
@@ -86,7 +85,7 @@ pub(crate) fn patches_at<A: Allocator + Copy>(
     let mut end = start;
     let mut here = skip(text, end);
     while begins_at(text, here, b'[') {
-        let (patch, next) = patch_at(alloc, text, here, &patches, &mut known)?;
+        let (patch, next) = patch_at(alloc, text, here, &patches, &mut known, limits)?;
         if let Err(e) = patches.push(patch) {
             return Err(ReadFault::no_memory(e.into(), here));
         }

@@ -1,38 +1,37 @@
 //! Reading a bundle.
 
 ghost use Rattle.std.specs.Prelude.{◌≡◌, ◌≢◌, ◌≤◌, ◌<◌, length, drop, MatchResult, IfOk, IfErr, IsErrOf};
-ghost use Rattle.dm_bundle.specs.Patches.{AreFew};
-ghost use Rattle.dm_bundle.specs.Bundles.{Contents, Sections, BundleText};
-ghost use Rattle.dm_bundle.specs.Faults.{most_bytes, IsWithinSize, HasNoHeading, AfterHeadingFaultAt, FaultAt, ExcludesBundle};
+ghost use Rattle.dm_bundle.specs.Patches.{AreFew, AreFewWithin};
+ghost use Rattle.dm_bundle.specs.Bundles.{Contents, IsValidBundle, Sections, BundleText};
+ghost use Rattle.dm_bundle.specs.Canonical.{bundle_text};
+ghost use Rattle.dm_bundle.specs.Faults.{most_bytes, IsWithinSize, IsWithinSizeOf, HasNoHeading, AfterHeadingFaultWithin, FaultAt, FaultWithin, ExcludesBundle};
 
 use crate::bundle::Bundle;
 use crate::context::{context_at, is_context_word};
 use crate::heading::heading_at;
 use crate::patches::{Start, patches_at};
 use dm_named::text::{skip, word_at};
-use dm_named::{FaultKind, ReadFault};
+use dm_named::{FaultKind, Limits, ReadFault};
 use std::alloc::Allocator;
-
-/// The most bytes that a text may have.
-pub const MOST_BYTES: usize = 4_194_304;
 
 /// The bundle of the text after the heading.
 fn sections_at<A: Allocator + Copy>(
     alloc: A,
     text: &[u8],
     new: usize,
+    limits: Limits,
 ) -> Result<Bundle<A>, ReadFault>
     requires { new ≤ length text.now }
     ensures ok { IfOk result (λ b. Sections (drop new text.now) b) }
-    ensures few { IfOk result (λ b. AreFew b.patches) }
-    ensures err { IfErr result (λ e. AfterHeadingFaultAt e.kind (drop new text.now) (drop e.at text.now)) }
+    ensures few { IfOk result (λ b. AreFewWithin limits b.patches) }
+    ensures err { IfErr result (λ e. AfterHeadingFaultWithin limits e.kind (drop new text.now) (drop e.at text.now)) }
     ensures place { IfErr result (λ e. e.at ≤ length text.now) }
 {
     let Start {
         patches,
         known,
         end,
-    } = patches_at(alloc, text, new)?;
+    } = patches_at(alloc, text, new, limits)?;
     let here = skip(text, end);
     let (word, after_word) = word_at(text, here);
     if !is_context_word(word) {
@@ -46,18 +45,22 @@ fn sections_at<A: Allocator + Copy>(
 }
 
 /// The bundle of a text, or the text's fault.
-fn bundle_of<A: Allocator + Copy>(alloc: A, text: &[u8]) -> Result<Bundle<A>, ReadFault>
+fn bundle_of<A: Allocator + Copy>(
+    alloc: A,
+    text: &[u8],
+    limits: Limits,
+) -> Result<Bundle<A>, ReadFault>
     ensures ok { IfOk result (λ b. BundleText text.now b) }
-    ensures few { IfOk result (λ b. AreFew b.patches) }
-    ensures err { IfErr result (λ e. e.kind ≢ FaultKind.NoMemory → FaultAt text.now e.kind e.at) }
-    ensures too_large { most_bytes < length text.now → IsErrOf result (record { kind = FaultKind.TooLarge; at = most_bytes }) }
-    ensures no_heading { length text.now ≤ most_bytes → HasNoHeading text.now
+    ensures few { IfOk result (λ b. AreFewWithin limits b.patches) }
+    ensures err { IfErr result (λ e. e.kind ≢ FaultKind.NoMemory → FaultWithin limits text.now e.kind e.at) }
+    ensures too_large { limits.bytes < length text.now → IsErrOf result (record { kind = FaultKind.TooLarge; at = limits.bytes }) }
+    ensures no_heading { IsWithinSizeOf limits text.now → HasNoHeading text.now
         → IsErrOf result (record { kind = FaultKind.NoNewPatches; at = length text.now }) }
 {
-    if text.len() > MOST_BYTES {
+    if text.len() > limits.bytes {
         return Err(ReadFault {
             kind: FaultKind::TooLarge,
-            at: MOST_BYTES,
+            at: limits.bytes,
         });
     }
     let Some(new) = heading_at(text) else {
@@ -66,7 +69,7 @@ fn bundle_of<A: Allocator + Copy>(alloc: A, text: &[u8]) -> Result<Bundle<A>, Re
             at: text.len(),
         });
     };
-    let bundle = sections_at(alloc, text, new)?;
+    let bundle = sections_at(alloc, text, new, limits)?;
     Ok(bundle)
 }
 
@@ -74,11 +77,46 @@ fn bundle_of<A: Allocator + Copy>(alloc: A, text: &[u8]) -> Result<Bundle<A>, Re
 ///
 /// The fault is the first from left to right, with its place. `NoMemory` is returned if an allocation
 /// failed, and never for a text that is too large or has no heading.
+pub fn read_bundle_within<A: Allocator + Copy>(
+    alloc: A,
+    text: &[u8],
+    limits: Limits,
+) -> Result<Bundle<A>, ReadFault>
+    // The text stands for the bundle that is returned, and for no other.
+    ensures ok { IfOk result (λ b. BundleText text.now b) }
+    ensures only { IfOk result (λ b. (c : Contents) → BundleText text.now c → b ≡ c) }
+    // It has no more new patches than the limits allow, each of no more primitives.
+    ensures few { IfOk result (λ b. AreFewWithin limits b.patches) }
+    // A bundle is read if it and its text are within the limits, unless memory runs out.
+    ensures within_limits { (b : Contents) → BundleText text.now b → IsWithinSizeOf limits text.now → AreFewWithin limits b.patches
+        → MatchResult result (λ found. found ≡ b) (λ e. e.kind ≡ FaultKind.NoMemory) }
+    // So is a valid bundle from its canonical text.
+    ensures canonical { (b : Contents) → IsValidBundle b → text.now ≡ bundle_text b → IsWithinSizeOf limits text.now → AreFewWithin limits b.patches
+        → MatchResult result (λ found. found ≡ b) (λ e. e.kind ≡ FaultKind.NoMemory) }
+    // What is wrong, and where.
+    ensures err { IfErr result (λ e. e.kind ≢ FaultKind.NoMemory → FaultWithin limits text.now e.kind e.at) }
+    // A text with a fault stands for no bundle, unless it is too large, has too many parts, or memory ran out.
+    ensures none { IfErr result (λ e. ExcludesBundle e.kind → (b : Contents) → BundleText text.now b → ⊥) }
+    // To find these two faults takes no memory.
+    ensures too_large { limits.bytes < length text.now → IsErrOf result (record { kind = FaultKind.TooLarge; at = limits.bytes }) }
+    ensures no_heading { IsWithinSizeOf limits text.now → HasNoHeading text.now
+        → IsErrOf result (record { kind = FaultKind.NoNewPatches; at = length text.now }) }
+{
+    match bundle_of(alloc, text, limits) {
+        Ok(bundle) => Ok(bundle),
+        Err(e) => Err(e),
+    }
+}
+
+/// The bundle that a text stands for, read within [`Limits::STANDARD`]. What follows the context is not read.
+///
+/// The fault is the first from left to right, with its place. `NoMemory` is returned if an allocation
+/// failed, and never for a text that is too large or has no heading.
 pub fn read_bundle<A: Allocator + Copy>(alloc: A, text: &[u8]) -> Result<Bundle<A>, ReadFault>
     // The text stands for the bundle that is returned, and for no other.
     ensures ok { IfOk result (λ b. BundleText text.now b) }
     ensures only { IfOk result (λ b. (c : Contents) → BundleText text.now c → b ≡ c) }
-    // It has at most 1,000 new patches, each of at most 10,000 primitives.
+    // It has no more new patches than the standard limits allow, each of no more primitives.
     ensures few { IfOk result (λ b. AreFew b.patches) }
     // A bundle is read if it and its text are within the limits, unless memory runs out.
     ensures within_limits { (b : Contents) → BundleText text.now b → IsWithinSize text.now → AreFew b.patches
@@ -92,8 +130,5 @@ pub fn read_bundle<A: Allocator + Copy>(alloc: A, text: &[u8]) -> Result<Bundle<
     ensures no_heading { length text.now ≤ most_bytes → HasNoHeading text.now
         → IsErrOf result (record { kind = FaultKind.NoNewPatches; at = length text.now }) }
 {
-    match bundle_of(alloc, text) {
-        Ok(bundle) => Ok(bundle),
-        Err(e) => Err(e),
-    }
+    read_bundle_within(alloc, text, Limits::STANDARD)
 }

@@ -13,9 +13,10 @@ use Rattle.dm_named.specs.Words.{skipped, Word, Among, WordAmong, Begins, LineGr
 use Rattle.dm_named.specs.Paths.{NextPath, PathWord}
 use Rattle.dm_named.specs.Many.{Many}
 use Rattle.dm_named.specs.Patches.{WordAndPath, HunkBody, PrimText, NextPrim, NextInfo, Dependencies, Body, RunEnds, prim_words, unsupported_words, Patch, PatchText}
-use Rattle.dm_named.specs.Faults.{InfoFaultAt, PathFaultAt, NoChange, HunkFaultAt, PrimFaultAt, path, second, hunk, CountFaultAt, BraceFaultAt, RunFaultAt, DependsFaultAt, AfterPrims, PrimsFaultAt, BodyFaultAt, in_braces, in_run, InfosFaultAt, OpenFaultAt, DepsFaultAt, PatchFaultAt, info, deps, body, ExcludesPatch}
+use Rattle.dm_named.specs.Faults.{InfoFaultAt, PathFaultAt, NoChange, HunkFaultAt, PrimFaultAt, path, second, hunk, CountFaultWithin, BraceFaultAt, RunFaultAt, DependsFaultAt, AfterPrimsWithin, PrimsFaultWithin, BodyFaultWithin, in_braces, in_run, InfosFaultAt, OpenFaultAt, DepsFaultAt, PatchFaultWithin, info, deps, body, ExcludesPatch}
 use Rattle.dm_named.specs.declared.fault.FaultKind.{FaultKind}
 use Rattle.dm_named.specs.declared.fault.FaultKind.TheVariants as K
+use Rattle.dm_named.specs.declared.limits.Limits.{Limits}
 use Rattle.dm_named.proofs.WordLemmas.{one_word}
 use Rattle.dm_named.proofs.GroupLemmas.{one_group, one_number_line}
 use Rattle.dm_named.proofs.ManyLemmas.{many_follows}
@@ -143,27 +144,27 @@ ahead text ps qs mid s a b closed =
     let m = many_follows NextPrim one_next text ps qs mid s a b (no_next s closed) in
     split mid s m.0 m.2
 
-no_next_fault : (kind : FaultKind) (count : ℕ) (text here : List ℕ) → ExcludesPatch kind → CountFaultAt kind count text here → ⊥
-no_next_fault K.TooMany count text here k f = k.count refl
-no_next_fault K.NoMemory count text here k f = k.memory refl
-no_next_fault K.TooLarge count text here k f = elim f [ ]
-no_next_fault K.NoNewPatches count text here k f = elim f [ ]
-no_next_fault K.BadInfo count text here k f = elim f [ ]
-no_next_fault K.Inverted count text here k f = elim f [ ]
-no_next_fault K.BadDepends count text here k f = elim f [ ]
-no_next_fault K.BadPatch count text here k f = elim f [ ]
-no_next_fault K.Unsupported count text here k f = elim f [ ]
-no_next_fault K.BadPath count text here k f = elim f [ ]
-no_next_fault K.BadNumber count text here k f = elim f [ ]
-no_next_fault K.EmptyHunk count text here k f = elim f [ ]
-no_next_fault K.Unclosed count text here k f = elim f [ ]
-no_next_fault K.NoContext count text here k f = elim f [ ]
-no_next_fault K.Doubled count text here k f = elim f [ ]
+no_next_fault : (limits : Limits) (kind : FaultKind) (count : ℕ) (text here : List ℕ) → ExcludesPatch kind → CountFaultWithin limits kind count text here → ⊥
+no_next_fault limits K.TooMany count text here k f = k.count refl
+no_next_fault limits K.NoMemory count text here k f = k.memory refl
+no_next_fault limits K.TooLarge count text here k f = elim f [ ]
+no_next_fault limits K.NoNewPatches count text here k f = elim f [ ]
+no_next_fault limits K.BadInfo count text here k f = elim f [ ]
+no_next_fault limits K.Inverted count text here k f = elim f [ ]
+no_next_fault limits K.BadDepends count text here k f = elim f [ ]
+no_next_fault limits K.BadPatch count text here k f = elim f [ ]
+no_next_fault limits K.Unsupported count text here k f = elim f [ ]
+no_next_fault limits K.BadPath count text here k f = elim f [ ]
+no_next_fault limits K.BadNumber count text here k f = elim f [ ]
+no_next_fault limits K.EmptyHunk count text here k f = elim f [ ]
+no_next_fault limits K.Unclosed count text here k f = elim f [ ]
+no_next_fault limits K.NoContext count text here k f = elim f [ ]
+no_next_fault limits K.Doubled count text here k f = elim f [ ]
 
-no_prims : (kind : FaultKind) (text here : List ℕ) → ExcludesPatch kind → PrimsFaultAt kind text here → (qs : List Prim) (s : List ℕ) → Many NextPrim text qs s → (WordAmong prim_words (skipped s) → ⊥) → ⊥
-no_prims kind text here k f qs s r closed =
+no_prims : (limits : Limits) (kind : FaultKind) (text here : List ℕ) → ExcludesPatch kind → PrimsFaultWithin limits kind text here → (qs : List Prim) (s : List ℕ) → Many NextPrim text qs s → (WordAmong prim_words (skipped s) → ⊥) → ⊥
+no_prims limits kind text here k f qs s r closed =
     elim f.wrong [
-      | inl n ↦ no_next_fault kind (length f.prims) (skipped f.mid) here k n
+      | inl n ↦ no_next_fault limits kind (length f.prims) (skipped f.mid) here k n
       | inr w ↦ elim (ahead text f.prims qs f.mid s f.read r closed) [
         | inl e ↦ closed (subst (λ (t : List ℕ). WordAmong prim_words (skipped t)) e (prim_due kind (skipped f.mid) here w.1))
         | inr q ↦ no_prim kind (skipped f.mid) here k.memory w.1 q.0 q.1 q.2
@@ -282,8 +283,8 @@ not_prim K.Doubled text here f w = elim f [ ]
 not_prim K.TooMany text here f w = elim f [ ]
 not_prim K.NoMemory text here f w = elim f [ ]
 
-no_brace : (kind : FaultKind) (inside here : List ℕ) → AfterPrims (λ _. BraceFaultAt kind) inside here → (qs : List Prim) (s r : List ℕ) → Many NextPrim inside qs s → skipped s ≡ 125 ∷ r → ⊥
-no_brace kind inside here f qs s r q closes =
+no_brace : (limits : Limits) (kind : FaultKind) (inside here : List ℕ) → AfterPrimsWithin limits (λ _. BraceFaultAt kind) inside here → (qs : List Prim) (s r : List ℕ) → Many NextPrim inside qs s → skipped s ≡ 125 ∷ r → ⊥
+no_brace limits kind inside here f qs s r q closes =
     elim (ahead inside f.prims qs f.mid s f.read q (no_lead 125 prim_words (skipped s) r refl closes)) [
       | inl e ↦ not_closed kind (skipped f.mid) here r f.wrong (ap skipped e ∙ closes)
       | inr p ↦ not_prim kind (skipped f.mid) here f.wrong (prim_a_word (skipped f.mid) p.0 p.1 p.2)
@@ -323,8 +324,8 @@ run_no_prim K.Doubled text here f w = elim f [ ]
 run_no_prim K.TooMany text here f w = elim f [ ]
 run_no_prim K.NoMemory text here f w = elim f [ ]
 
-no_run : (kind : FaultKind) (text here : List ℕ) → AfterPrims (λ _. RunFaultAt kind) text here → (qs : List Prim) (s : List ℕ) → Many NextPrim text qs s → RunEnds (skipped s) → ⊥
-no_run kind text here f qs s q ends =
+no_run : (limits : Limits) (kind : FaultKind) (text here : List ℕ) → AfterPrimsWithin limits (λ _. RunFaultAt kind) text here → (qs : List Prim) (s : List ℕ) → Many NextPrim text qs s → RunEnds (skipped s) → ⊥
+no_run limits kind text here f qs s q ends =
     elim (ahead text f.prims qs f.mid s f.read q ends.prims) [
       | inl e ↦ run_goes_on kind (skipped f.mid) here f.wrong (subst (λ (t : List ℕ). RunEnds (skipped t)) (sym e) ends)
       | inr p ↦ run_no_prim kind (skipped f.mid) here f.wrong (prim_a_word (skipped f.mid) p.0 p.1 p.2)
@@ -333,19 +334,19 @@ no_run kind text here f qs s q ends =
 pub tail_same : (b : ℕ) (text x y : List ℕ) → text ≡ b ∷ x → text ≡ b ∷ y → x ≡ y
 tail_same b text x y e f = let both : b ∷ x ≡ b ∷ y = sym e ∙ f in cc
 
-no_a_body : (kind : FaultKind) (text here : List ℕ) → ExcludesPatch kind → BodyFaultAt kind text here → (qs : List Prim) (r : List ℕ) → Body text qs r → ⊥
-no_a_body kind text here k (in_braces inside opens f) qs r b =
+no_a_body : (limits : Limits) (kind : FaultKind) (text here : List ℕ) → ExcludesPatch kind → BodyFaultWithin limits kind text here → (qs : List Prim) (r : List ℕ) → Body text qs r → ⊥
+no_a_body limits kind text here k (in_braces inside opens f) qs r b =
     elim b [
       | inl x ↦
           let same = tail_same 123 (skipped text) x.inside inside x.opens opens in
           let read = subst (λ (t : List ℕ). Many NextPrim t qs x.mid) same x.read in
-          elim f [ inl g ↦ no_prims kind inside here k g qs x.mid read (no_lead 125 prim_words (skipped x.mid) r refl x.closes) | inr g ↦ no_brace kind inside here g qs x.mid r read x.closes ]
+          elim f [ inl g ↦ no_prims limits kind inside here k g qs x.mid read (no_lead 125 prim_words (skipped x.mid) r refl x.closes) | inr g ↦ no_brace limits kind inside here g qs x.mid r read x.closes ]
       | inr x ↦ x.bare (inside, opens)
     ]
-no_a_body kind text here k (in_run bare f) qs r b =
+no_a_body limits kind text here k (in_run bare f) qs r b =
     elim b [
       | inl x ↦ bare (x.inside, x.opens)
-      | inr x ↦ elim f [ inl g ↦ no_prims kind text here k g qs r x.read x.ends.prims | inr g ↦ no_run kind text here g qs r x.read x.ends ]
+      | inr x ↦ elim f [ inl g ↦ no_prims limits kind text here k g qs r x.read x.ends.prims | inr g ↦ no_run limits kind text here g qs r x.read x.ends ]
     ]
 
 -- ---- dependencies
@@ -424,12 +425,12 @@ no_deps kind text here k f ds r d =
 one_deps : (text : List ℕ) (ds es : List PatchInfo) (r s : List ℕ) → Dependencies text ds r → Dependencies text es s → (ds ≡ es) × (r ≡ s)
 one_deps = one_depends
 
-pub no_patch : (kind : FaultKind) (text here : List ℕ) → ExcludesPatch kind → PatchFaultAt kind text here → (p : Patch) (r : List ℕ) → PatchText text p r → ⊥
-no_patch kind text here k (info f) p r t = no_info kind text here k.memory f p.info t.after t.info
-no_patch kind text here k (deps i after s f) p r t =
+pub no_patch : (limits : Limits) (kind : FaultKind) (text here : List ℕ) → ExcludesPatch kind → PatchFaultWithin limits kind text here → (p : Patch) (r : List ℕ) → PatchText text p r → ⊥
+no_patch limits kind text here k (info f) p r t = no_info kind text here k.memory f p.info t.after t.info
+no_patch limits kind text here k (deps i after s f) p r t =
     let one = one_info text p.info i t.after after t.info s in
     no_deps kind after here k.memory f p.deps t.body (subst (λ (x : List ℕ). Dependencies x p.deps t.body) one.1 t.deps)
-no_patch kind text here k (body i ds after start s d f) p r t =
+no_patch limits kind text here k (body i ds after start s d f) p r t =
     let one = one_info text p.info i t.after after t.info s in
     let two = one_deps after p.deps ds t.body start (subst (λ (x : List ℕ). Dependencies x p.deps t.body) one.1 t.deps) d in
-    no_a_body kind start here k f p.prims r (subst (λ (x : List ℕ). Body x p.prims r) two.1 t.prims)
+    no_a_body limits kind start here k f p.prims r (subst (λ (x : List ℕ). Body x p.prims r) two.1 t.prims)

@@ -12,9 +12,10 @@ use Rattle.dm_named.specs.Words.{skipped, WordAmong, Begins, NumberLine}
 use Rattle.dm_named.specs.Paths.{NextPath}
 use Rattle.dm_named.specs.Many.{Many}
 use Rattle.dm_named.specs.Patches.{WordAndPath, PrimText, NextPrim, NextInfo, Dependencies, prim_words, unsupported_words, RunEnds}
-use Rattle.dm_named.specs.Faults.{InfoFaultAt, PathFaultAt, NoChange, HunkFaultAt, PrimFaultAt, path, second, hunk, CountFaultAt, BraceFaultAt, RunFaultAt, DependsFaultAt, AfterPrims, PrimsFaultAt, BodyFaultAt, in_braces, in_run, InfosFaultAt, OpenFaultAt, DepsFaultAt, PatchFaultAt, info, deps, body}
+use Rattle.dm_named.specs.Faults.{InfoFaultAt, PathFaultAt, NoChange, HunkFaultAt, PrimFaultAt, path, second, hunk, CountFaultWithin, BraceFaultAt, RunFaultAt, DependsFaultAt, AfterPrimsWithin, PrimsFaultWithin, BodyFaultWithin, in_braces, in_run, InfosFaultAt, OpenFaultAt, DepsFaultAt, PatchFaultWithin, info, deps, body}
 use Rattle.dm_named.specs.declared.fault.FaultKind.{FaultKind}
 use Rattle.dm_named.specs.declared.fault.FaultKind.TheVariants as K
+use Rattle.dm_named.specs.declared.limits.Limits.{Limits}
 use Rattle.dm_named.proofs.WordLemmas.{one_word}
 use Rattle.dm_named.proofs.ManyLemmas.{meet}
 use Rattle.dm_named.proofs.OnePatch.{one_single, one_next, one_depends, prim_a_word}
@@ -111,11 +112,11 @@ abbrev pub Wrongs : Type 1
 Wrongs = ℕ → List ℕ → List ℕ → Type 0
 
 -- it leaves no place for a further one, within the count
-abbrev NoFurther : Wrongs → List ℕ → Type 0
-NoFurther W x = (count : ℕ) (text : List ℕ) → count < 10000 → W count text x → (p : Prim) (r : List ℕ) → PrimText text p r → ⊥
+abbrev NoFurther : Limits → Wrongs → List ℕ → Type 0
+NoFurther limits W x = (count : ℕ) (text : List ℕ) → count < limits.prims → W count text x → (p : Prim) (r : List ℕ) → PrimText text p r → ⊥
 
-one_after : (W V : Wrongs) (text x y : List ℕ) (Goal : Type 0) → NoFurther W x → NoFurther V y → ((count : ℕ) (next : List ℕ) → W count next x → V count next y → Goal) → AfterPrims W text x → AfterPrims V text y → Goal
-one_after W V text x y Goal no_w no_v same a b =
+one_after : (limits : Limits) (W V : Wrongs) (text x y : List ℕ) (Goal : Type 0) → NoFurther limits W x → NoFurther limits V y → ((count : ℕ) (next : List ℕ) → W count next x → V count next y → Goal) → AfterPrimsWithin limits W text x → AfterPrimsWithin limits V text y → Goal
+one_after limits W V text x y Goal no_w no_v same a b =
     elim (meet NextPrim one_next text a.prims b.prims a.mid b.mid a.read b.read) [
       | inl e ↦ same (length b.prims) (skipped b.mid) (subst (λ (t : List ℕ). W (length b.prims) (skipped t) x) e.1 (subst (λ (ps : List Prim). W (length ps) (skipped a.mid) x) e.0 a.wrong)) b.wrong
       | inr o ↦ elim o [
@@ -124,30 +125,30 @@ one_after W V text x y Goal no_w no_v same a b =
       ]
     ]
 
-count_kind : (k : FaultKind) (count : ℕ) (text x : List ℕ) → k ≢ K.NoMemory → CountFaultAt k count text x → (k ≡ K.TooMany) × (x ≡ text) × (count ≡ 10000) × WordAmong prim_words text
-count_kind K.TooMany count text x m f = (refl, f.0, f.1, f.2)
-count_kind K.NoMemory count text x m f = absurd (m refl)
-count_kind k count text x m f = absurd f
+count_kind : (limits : Limits) (k : FaultKind) (count : ℕ) (text x : List ℕ) → k ≢ K.NoMemory → CountFaultWithin limits k count text x → (k ≡ K.TooMany) × (x ≡ text) × (count ≡ limits.prims) × WordAmong prim_words text
+count_kind limits K.TooMany count text x m f = (refl, f.0, f.1, f.2)
+count_kind limits K.NoMemory count text x m f = absurd (m refl)
+count_kind limits k count text x m f = absurd f
 
 -- one of the primitives is wrong, by their count or by itself
-abbrev Next : FaultKind → Wrongs
-Next k count next x = CountFaultAt k count next x ⊎ ((count < 10000) × PrimFaultAt k next x)
+abbrev Next : Limits → FaultKind → Wrongs
+Next limits k count next x = CountFaultWithin limits k count next x ⊎ ((count < limits.prims) × PrimFaultAt k next x)
 
-next_no_further : (k : FaultKind) (x : List ℕ) → k ≢ K.NoMemory → NoFurther (Next k) x
-next_no_further k x m count text lt f p r s =
-    elim f [ inl a ↦ (let c = count_kind k count text x m a in omega (arith, lt, c.2)) | inr a ↦ no_prim k text x m a.1 p r s ]
+next_no_further : (limits : Limits) (k : FaultKind) (x : List ℕ) → k ≢ K.NoMemory → NoFurther limits (Next limits k) x
+next_no_further limits k x m count text lt f p r s =
+    elim f [ inl a ↦ (let c = count_kind limits k count text x m a in omega (arith, lt, c.2)) | inr a ↦ no_prim k text x m a.1 p r s ]
 
-next_due : (k : FaultKind) (count : ℕ) (text x : List ℕ) → k ≢ K.NoMemory → Next k count text x → WordAmong prim_words text
-next_due k count text x m f = elim f [ inl a ↦ (count_kind k count text x m a).3 | inr a ↦ prim_due k text x a.1 ]
+next_due : (limits : Limits) (k : FaultKind) (count : ℕ) (text x : List ℕ) → k ≢ K.NoMemory → Next limits k count text x → WordAmong prim_words text
+next_due limits k count text x m f = elim f [ inl a ↦ (count_kind limits k count text x m a).3 | inr a ↦ prim_due k text x a.1 ]
 
-one_next_fault : (k l : FaultKind) (x y : List ℕ) (count : ℕ) (text : List ℕ) → k ≢ K.NoMemory → l ≢ K.NoMemory → Next k count text x → Next l count text y → Same k l x y
-one_next_fault k l x y count text m n f g =
+one_next_fault : (limits : Limits) (k l : FaultKind) (x y : List ℕ) (count : ℕ) (text : List ℕ) → k ≢ K.NoMemory → l ≢ K.NoMemory → Next limits k count text x → Next limits l count text y → Same k l x y
+one_next_fault limits k l x y count text m n f g =
     elim f [
       | inl a ↦
-          let c = count_kind k count text x m a in
-          elim g [ inl b ↦ (let d = count_kind l count text y n b in both (c.0, c.1) (d.0, d.1)) | inr b ↦ absurd (let lt = b.0 in omega (arith, lt, c.2)) ]
+          let c = count_kind limits k count text x m a in
+          elim g [ inl b ↦ (let d = count_kind limits l count text y n b in both (c.0, c.1) (d.0, d.1)) | inr b ↦ absurd (let lt = b.0 in omega (arith, lt, c.2)) ]
       | inr a ↦ elim g [
-        | inl b ↦ absurd (let d = count_kind l count text y n b in let lt = a.0 in omega (arith, lt, d.2))
+        | inl b ↦ absurd (let d = count_kind limits l count text y n b in let lt = a.0 in omega (arith, lt, d.2))
         | inr b ↦ one_prim_fault k l text x y m n a.1 b.1
       ]
     ]
@@ -186,45 +187,45 @@ run_kind : (k : FaultKind) (text x : List ℕ) → RunFaultAt k text x → (k �
 run_kind K.Unsupported text x f = (refl, f.0)
 run_kind k text x f = absurd f
 
-brace_no_further : (k : FaultKind) (x : List ℕ) → NoFurther (λ _. BraceFaultAt k) x
-brace_no_further k x count text lt f p r s = not_prim k text x f (prim_a_word text p r s)
+brace_no_further : (limits : Limits) (k : FaultKind) (x : List ℕ) → NoFurther limits (λ _. BraceFaultAt k) x
+brace_no_further limits k x count text lt f p r s = not_prim k text x f (prim_a_word text p r s)
 
-run_no_further : (k : FaultKind) (x : List ℕ) → NoFurther (λ _. RunFaultAt k) x
-run_no_further k x count text lt f p r s = run_no_prim k text x f (prim_a_word text p r s)
+run_no_further : (limits : Limits) (k : FaultKind) (x : List ℕ) → NoFurther limits (λ _. RunFaultAt k) x
+run_no_further limits k x count text lt f p r s = run_no_prim k text x f (prim_a_word text p r s)
 
-one_in_braces : (k l : FaultKind) (text x y : List ℕ) → k ≢ K.NoMemory → l ≢ K.NoMemory → PrimsFaultAt k text x ⊎ AfterPrims (λ _. BraceFaultAt k) text x → PrimsFaultAt l text y ⊎ AfterPrims (λ _. BraceFaultAt l) text y → Same k l x y
-one_in_braces k l text x y m n f g =
+one_in_braces : (limits : Limits) (k l : FaultKind) (text x y : List ℕ) → k ≢ K.NoMemory → l ≢ K.NoMemory → PrimsFaultWithin limits k text x ⊎ AfterPrimsWithin limits (λ _. BraceFaultAt k) text x → PrimsFaultWithin limits l text y ⊎ AfterPrimsWithin limits (λ _. BraceFaultAt l) text y → Same k l x y
+one_in_braces limits k l text x y m n f g =
     elim f [
       | inl a ↦ elim g [
-        | inl b ↦ one_after (Next k) (Next l) text x y (Same k l x y) (next_no_further k x m) (next_no_further l y n) (λ count next u v. one_next_fault k l x y count next m n u v) a b
-        | inr b ↦ one_after (Next k) (λ _. BraceFaultAt l) text x y (Same k l x y) (next_no_further k x m) (brace_no_further l y) (λ count next u v. absurd (not_prim l next y v (next_due k count next x m u))) a b
+        | inl b ↦ one_after limits (Next limits k) (Next limits l) text x y (Same k l x y) (next_no_further limits k x m) (next_no_further limits l y n) (λ count next u v. one_next_fault limits k l x y count next m n u v) a b
+        | inr b ↦ one_after limits (Next limits k) (λ _. BraceFaultAt l) text x y (Same k l x y) (next_no_further limits k x m) (brace_no_further limits l y) (λ count next u v. absurd (not_prim l next y v (next_due limits k count next x m u))) a b
       ]
       | inr a ↦ elim g [
-        | inl b ↦ one_after (λ _. BraceFaultAt k) (Next l) text x y (Same k l x y) (brace_no_further k x) (next_no_further l y n) (λ count next u v. absurd (not_prim k next x u (next_due l count next y n v))) a b
-        | inr b ↦ one_after (λ _. BraceFaultAt k) (λ _. BraceFaultAt l) text x y (Same k l x y) (brace_no_further k x) (brace_no_further l y) (λ count next u v. one_brace_fault k l next x y u v) a b
+        | inl b ↦ one_after limits (λ _. BraceFaultAt k) (Next limits l) text x y (Same k l x y) (brace_no_further limits k x) (next_no_further limits l y n) (λ count next u v. absurd (not_prim k next x u (next_due limits l count next y n v))) a b
+        | inr b ↦ one_after limits (λ _. BraceFaultAt k) (λ _. BraceFaultAt l) text x y (Same k l x y) (brace_no_further limits k x) (brace_no_further limits l y) (λ count next u v. one_brace_fault k l next x y u v) a b
       ]
     ]
 
-one_in_run : (k l : FaultKind) (text x y : List ℕ) → k ≢ K.NoMemory → l ≢ K.NoMemory → PrimsFaultAt k text x ⊎ AfterPrims (λ _. RunFaultAt k) text x → PrimsFaultAt l text y ⊎ AfterPrims (λ _. RunFaultAt l) text y → Same k l x y
-one_in_run k l text x y m n f g =
+one_in_run : (limits : Limits) (k l : FaultKind) (text x y : List ℕ) → k ≢ K.NoMemory → l ≢ K.NoMemory → PrimsFaultWithin limits k text x ⊎ AfterPrimsWithin limits (λ _. RunFaultAt k) text x → PrimsFaultWithin limits l text y ⊎ AfterPrimsWithin limits (λ _. RunFaultAt l) text y → Same k l x y
+one_in_run limits k l text x y m n f g =
     elim f [
       | inl a ↦ elim g [
-        | inl b ↦ one_after (Next k) (Next l) text x y (Same k l x y) (next_no_further k x m) (next_no_further l y n) (λ count next u v. one_next_fault k l x y count next m n u v) a b
-        | inr b ↦ one_after (Next k) (λ _. RunFaultAt l) text x y (Same k l x y) (next_no_further k x m) (run_no_further l y) (λ count next u v. absurd (run_no_prim l next y v (next_due k count next x m u))) a b
+        | inl b ↦ one_after limits (Next limits k) (Next limits l) text x y (Same k l x y) (next_no_further limits k x m) (next_no_further limits l y n) (λ count next u v. one_next_fault limits k l x y count next m n u v) a b
+        | inr b ↦ one_after limits (Next limits k) (λ _. RunFaultAt l) text x y (Same k l x y) (next_no_further limits k x m) (run_no_further limits l y) (λ count next u v. absurd (run_no_prim l next y v (next_due limits k count next x m u))) a b
       ]
       | inr a ↦ elim g [
-        | inl b ↦ one_after (λ _. RunFaultAt k) (Next l) text x y (Same k l x y) (run_no_further k x) (next_no_further l y n) (λ count next u v. absurd (run_no_prim k next x u (next_due l count next y n v))) a b
-        | inr b ↦ one_after (λ _. RunFaultAt k) (λ _. RunFaultAt l) text x y (Same k l x y) (run_no_further k x) (run_no_further l y) (λ count next u v. both (run_kind k next x u) (run_kind l next y v)) a b
+        | inl b ↦ one_after limits (λ _. RunFaultAt k) (Next limits l) text x y (Same k l x y) (run_no_further limits k x) (next_no_further limits l y n) (λ count next u v. absurd (run_no_prim k next x u (next_due limits l count next y n v))) a b
+        | inr b ↦ one_after limits (λ _. RunFaultAt k) (λ _. RunFaultAt l) text x y (Same k l x y) (run_no_further limits k x) (run_no_further limits l y) (λ count next u v. both (run_kind k next x u) (run_kind l next y v)) a b
       ]
     ]
 
-one_body_fault : (k l : FaultKind) (text x y : List ℕ) → k ≢ K.NoMemory → l ≢ K.NoMemory → BodyFaultAt k text x → BodyFaultAt l text y → Same k l x y
-one_body_fault k l text x y m n (in_braces inside opens f) (in_braces inside' opens' g) =
+one_body_fault : (limits : Limits) (k l : FaultKind) (text x y : List ℕ) → k ≢ K.NoMemory → l ≢ K.NoMemory → BodyFaultWithin limits k text x → BodyFaultWithin limits l text y → Same k l x y
+one_body_fault limits k l text x y m n (in_braces inside opens f) (in_braces inside' opens' g) =
     let same = tail_same 123 (skipped text) inside inside' opens opens' in
-    one_in_braces k l inside' x y m n (subst (λ (t : List ℕ). PrimsFaultAt k t x ⊎ AfterPrims (λ _. BraceFaultAt k) t x) same f) g
-one_body_fault k l text x y m n (in_braces inside opens f) (in_run bare g) = absurd (bare (inside, opens))
-one_body_fault k l text x y m n (in_run bare f) (in_braces inside opens g) = absurd (bare (inside, opens))
-one_body_fault k l text x y m n (in_run bare f) (in_run bare' g) = one_in_run k l text x y m n f g
+    one_in_braces limits k l inside' x y m n (subst (λ (t : List ℕ). PrimsFaultWithin limits k t x ⊎ AfterPrimsWithin limits (λ _. BraceFaultAt k) t x) same f) g
+one_body_fault limits k l text x y m n (in_braces inside opens f) (in_run bare g) = absurd (bare (inside, opens))
+one_body_fault limits k l text x y m n (in_run bare f) (in_braces inside opens g) = absurd (bare (inside, opens))
+one_body_fault limits k l text x y m n (in_run bare f) (in_run bare' g) = one_in_run limits k l text x y m n f g
 
 -- ---- dependencies
 
@@ -285,18 +286,18 @@ deps_or_body k text x i j after after' start ds m s f t d =
     let one = one_info text i j after after' s t in
     no_deps k after' x m (subst (λ (u : List ℕ). DepsFaultAt k u x) one.1 f) ds start d
 
-pub one_patch_fault : (k l : FaultKind) (text x y : List ℕ) → k ≢ K.NoMemory → l ≢ K.NoMemory → PatchFaultAt k text x → PatchFaultAt l text y → Same k l x y
-one_patch_fault k l text x y m n (info f) (info g) = one_info_fault k l text x y m n f g
-one_patch_fault k l text x y m n (info f) (deps j after t g) = absurd (no_info k text x m f j after t)
-one_patch_fault k l text x y m n (info f) (body j es after start t e g) = absurd (no_info k text x m f j after t)
-one_patch_fault k l text x y m n (deps i after s f) (info g) = absurd (no_info l text y n g i after s)
-one_patch_fault k l text x y m n (deps i after s f) (deps j after' t g) =
+pub one_patch_fault : (limits : Limits) (k l : FaultKind) (text x y : List ℕ) → k ≢ K.NoMemory → l ≢ K.NoMemory → PatchFaultWithin limits k text x → PatchFaultWithin limits l text y → Same k l x y
+one_patch_fault limits k l text x y m n (info f) (info g) = one_info_fault k l text x y m n f g
+one_patch_fault limits k l text x y m n (info f) (deps j after t g) = absurd (no_info k text x m f j after t)
+one_patch_fault limits k l text x y m n (info f) (body j es after start t e g) = absurd (no_info k text x m f j after t)
+one_patch_fault limits k l text x y m n (deps i after s f) (info g) = absurd (no_info l text y n g i after s)
+one_patch_fault limits k l text x y m n (deps i after s f) (deps j after' t g) =
     let one = one_info text i j after after' s t in
     one_deps_fault k l after' x y m n (subst (λ (u : List ℕ). DepsFaultAt k u x) one.1 f) g
-one_patch_fault k l text x y m n (deps i after s f) (body j es after' start t e g) = absurd (deps_or_body k text x i j after after' start es m s f t e)
-one_patch_fault k l text x y m n (body i ds after start s d f) (info g) = absurd (no_info l text y n g i after s)
-one_patch_fault k l text x y m n (body i ds after start s d f) (deps j after' t g) = absurd (deps_or_body l text y j i after' after start ds n t g s d)
-one_patch_fault k l text x y m n (body i ds after start s d f) (body j es after' start' t e g) =
+one_patch_fault limits k l text x y m n (deps i after s f) (body j es after' start t e g) = absurd (deps_or_body k text x i j after after' start es m s f t e)
+one_patch_fault limits k l text x y m n (body i ds after start s d f) (info g) = absurd (no_info l text y n g i after s)
+one_patch_fault limits k l text x y m n (body i ds after start s d f) (deps j after' t g) = absurd (deps_or_body l text y j i after' after start ds n t g s d)
+one_patch_fault limits k l text x y m n (body i ds after start s d f) (body j es after' start' t e g) =
     let one = one_info text i j after after' s t in
     let two = one_depends after' ds es start start' (subst (λ (u : List ℕ). Dependencies u ds start) one.1 d) e in
-    one_body_fault k l start' x y m n (subst (λ (u : List ℕ). BodyFaultAt k u x) two.1 f) g
+    one_body_fault limits k l start' x y m n (subst (λ (u : List ℕ). BodyFaultWithin limits k u x) two.1 f) g

@@ -6,9 +6,10 @@ use Rattle.dm_prim.specs.Primitives.{Prim}
 use Rattle.dm_named.specs.Words.{skipped, WordAmong}
 use Rattle.dm_named.specs.Many.{Many}
 use Rattle.dm_named.specs.Patches.{NextPrim, Dependencies, Body, prim_words, Patch, PatchText}
-use Rattle.dm_named.specs.Faults.{PrimFaultAt, path, second, hunk, PrimsFaultAt, BodyFaultAt, in_braces, in_run, DepsFaultAt, PatchFaultAt, info, deps, body}
+use Rattle.dm_named.specs.Faults.{PrimFaultAt, path, second, hunk, PrimsFaultWithin, BodyFaultWithin, in_braces, in_run, DepsFaultAt, PatchFaultWithin, info, deps, body}
 use Rattle.dm_named.specs.declared.fault.FaultKind.{FaultKind}
 use Rattle.dm_named.specs.declared.fault.FaultKind.TheVariants as K
+use Rattle.dm_named.specs.declared.limits.Limits.{Limits}
 use Rattle.dm_named.proofs.ManyLemmas.{many_follows}
 use Rattle.dm_named.proofs.OnePatch.{one_next, no_next, one_depends}
 use Rattle.dm_named.proofs.NoPatch.{no_lead, no_patch, tail_same}
@@ -18,47 +19,47 @@ not_in_prim text here (path stands f) = f
 not_in_prim text here (second p mid s f) = f
 not_in_prim text here (hunk p mid s f) = f
 
-goes_on : (ps more qs : List Prim) (mid rest : List ℕ) → qs ≡ ps ++ more → length ps ≡ 10000 → Many NextPrim mid more rest → (mid ≡ rest → ⊥) → 10000 < length qs
-goes_on ps [] qs mid rest e n r other = absurd (other r)
-goes_on ps (p ∷ more) qs mid rest e n r other = rw e (omega (arith, length-append ps (p ∷ more)))
+goes_on : (most : ℕ) (ps more qs : List Prim) (mid rest : List ℕ) → qs ≡ ps ++ more → length ps ≡ most → Many NextPrim mid more rest → (mid ≡ rest → ⊥) → most < length qs
+goes_on most ps [] qs mid rest e n r other = absurd (other r)
+goes_on most ps (p ∷ more) qs mid rest e n r other = rw e (omega (arith, length-append ps (p ∷ more)))
 
 -- where one is too many, more stand there than there may be
-past_prims : (text here : List ℕ) → PrimsFaultAt K.TooMany text here → (qs : List Prim) (s : List ℕ) → Many NextPrim text qs s → (WordAmong prim_words (skipped s) → ⊥) → 10000 < length qs
-past_prims text here f qs s r closed =
+past_prims : (limits : Limits) (text here : List ℕ) → PrimsFaultWithin limits K.TooMany text here → (qs : List Prim) (s : List ℕ) → Many NextPrim text qs s → (WordAmong prim_words (skipped s) → ⊥) → limits.prims < length qs
+past_prims limits text here f qs s r closed =
     elim f.wrong [
       | inl n ↦
           let m = many_follows NextPrim one_next text f.prims qs f.mid s f.read r (no_next s closed) in
-          goes_on f.prims m.0 qs f.mid s m.1 n.1 m.2 (λ e. closed (subst (λ (t : List ℕ). WordAmong prim_words (skipped t)) e n.2))
+          goes_on limits.prims f.prims m.0 qs f.mid s m.1 n.1 m.2 (λ e. closed (subst (λ (t : List ℕ). WordAmong prim_words (skipped t)) e n.2))
       | inr w ↦ absurd (not_in_prim (skipped f.mid) here w.1)
     ]
 
-past_body : (text here : List ℕ) → BodyFaultAt K.TooMany text here → (qs : List Prim) (r : List ℕ) → Body text qs r → 10000 < length qs
-past_body text here (in_braces inside opens f) qs r b =
+past_body : (limits : Limits) (text here : List ℕ) → BodyFaultWithin limits K.TooMany text here → (qs : List Prim) (r : List ℕ) → Body text qs r → limits.prims < length qs
+past_body limits text here (in_braces inside opens f) qs r b =
     elim b [
       | inl x ↦
           let same = tail_same 123 (skipped text) x.inside inside x.opens opens in
           let read = subst (λ (t : List ℕ). Many NextPrim t qs x.mid) same x.read in
-          elim f [ inl g ↦ past_prims inside here g qs x.mid read (no_lead 125 prim_words (skipped x.mid) r refl x.closes) | inr g ↦ absurd g.wrong ]
+          elim f [ inl g ↦ past_prims limits inside here g qs x.mid read (no_lead 125 prim_words (skipped x.mid) r refl x.closes) | inr g ↦ absurd g.wrong ]
       | inr x ↦ absurd (x.bare (inside, opens))
     ]
-past_body text here (in_run bare f) qs r b =
+past_body limits text here (in_run bare f) qs r b =
     elim b [
       | inl x ↦ absurd (bare (x.inside, x.opens))
-      | inr x ↦ elim f [ inl g ↦ past_prims text here g qs r x.read x.ends.prims | inr g ↦ absurd g.wrong ]
+      | inr x ↦ elim f [ inl g ↦ past_prims limits text here g qs r x.read x.ends.prims | inr g ↦ absurd g.wrong ]
     ]
 
 not_in_deps : (text here : List ℕ) → DepsFaultAt K.TooMany text here → ⊥
 not_in_deps text here f = elim f.wrong [ inl g ↦ g.wrong | inr g ↦ g.wrong ]
 
-pub past_patch : (text here : List ℕ) → PatchFaultAt K.TooMany text here → (p : Patch) (r : List ℕ) → PatchText text p r → 10000 < length p.prims
-past_patch text here (info f) p r t = absurd f
-past_patch text here (deps i after s f) p r t = absurd (not_in_deps after here f)
-past_patch text here (body i ds after start s d f) p r t =
+pub past_patch : (limits : Limits) (text here : List ℕ) → PatchFaultWithin limits K.TooMany text here → (p : Patch) (r : List ℕ) → PatchText text p r → limits.prims < length p.prims
+past_patch limits text here (info f) p r t = absurd f
+past_patch limits text here (deps i after s f) p r t = absurd (not_in_deps after here f)
+past_patch limits text here (body i ds after start s d f) p r t =
     let one = one_info text p.info i t.after after t.info s in
     let two = one_depends after p.deps ds t.body start (subst (λ (x : List ℕ). Dependencies x p.deps t.body) one.1 t.deps) d in
-    past_body start here f p.prims r (subst (λ (x : List ℕ). Body x p.prims r) two.1 t.prims)
+    past_body limits start here f p.prims r (subst (λ (x : List ℕ). Body x p.prims r) two.1 t.prims)
 
-pub memory_alone : (kind : FaultKind) (text here : List ℕ) → PatchFaultAt kind text here → (p : Patch) (r : List ℕ) → PatchText text p r → length p.prims ≤ 10000 → kind ≡ K.NoMemory
-memory_alone K.NoMemory text here f p r t few = refl
-memory_alone K.TooMany text here f p r t few = let more = past_patch text here f p r t in absurd (omega arith)
-memory_alone kind text here f p r t few = absurd (no_patch kind text here (record { memory = λ e. cc; count = λ e. cc }) f p r t)
+pub memory_alone : (limits : Limits) (kind : FaultKind) (text here : List ℕ) → PatchFaultWithin limits kind text here → (p : Patch) (r : List ℕ) → PatchText text p r → length p.prims ≤ limits.prims → kind ≡ K.NoMemory
+memory_alone limits K.NoMemory text here f p r t few = refl
+memory_alone limits K.TooMany text here f p r t few = let more = past_patch limits text here f p r t in absurd (omega arith)
+memory_alone limits kind text here f p r t few = absurd (no_patch limits kind text here (record { memory = λ e. cc; count = λ e. cc }) f p r t)

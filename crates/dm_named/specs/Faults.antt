@@ -7,11 +7,13 @@ use Rattle.dm_info.specs.Spelling.{open_bracket, Stands, NoneStands, StandsInver
 use Rattle.dm_tree.specs.Paths.{Path}
 use Rattle.dm_prim.specs.Primitives.{Prim}
 use Rattle.dm_named.specs.Many.{Many}
+use Rattle.dm_named.specs.Limits.{standard}
 use Rattle.dm_named.specs.Words.{skipped, Begins, NextByte, WordAmong, LineGroup, NumberLine}
 use Rattle.dm_named.specs.Paths.{PathWord}
 use Rattle.dm_named.specs.Patches.{WordAndPath, NextPrim, NextInfo, Dependencies, prim_words, unsupported_words, RunEnds}
 use Rattle.dm_info.specs.declared.fault.InfoReadFault.{InfoReadFault}
 use Rattle.dm_info.specs.declared.fault.InfoReadFault.TheVariants as in_info
+use Rattle.dm_named.specs.declared.limits.Limits.{Limits}
 use Rattle.dm_named.specs.declared.reading.names.NameFault.{NameFault}
 use Rattle.dm_named.specs.declared.reading.names.NameFault.TheVariants as in_name
 use Rattle.dm_named.specs.declared.fault.FaultKind.{FaultKind}
@@ -66,11 +68,11 @@ pub data PrimFaultAt (kind : FaultKind) (text here : List ℕ) : Type 0 where
   second : (p : Path) (mid : List ℕ) → WordAndPath (codes "move") text p mid → PathFaultAt kind mid here → PrimFaultAt kind text here
   hunk : (p : Path) (mid : List ℕ) → WordAndPath (codes "hunk") text p mid → HunkFaultAt kind text mid here → PrimFaultAt kind text here
 
--- after so many primitives, the next one is one too many
-abbrev pub CountFaultAt : FaultKind → ℕ → List ℕ → List ℕ → Type 0
-CountFaultAt TooMany count text here = (here ≡ text) × (count ≡ 10000) × WordAmong prim_words text
-CountFaultAt NoMemory count text here = Unit {0}
-CountFaultAt _ count text here = ⊥
+-- after so many primitives, the next one is one more than the limits allow
+abbrev pub CountFaultWithin : Limits → FaultKind → ℕ → List ℕ → List ℕ → Type 0
+CountFaultWithin limits TooMany count text here = (here ≡ text) × (count ≡ limits.prims) × WordAmong prim_words text
+CountFaultWithin limits NoMemory count text here = Unit {0}
+CountFaultWithin limits _ count text here = ⊥
 
 -- after the primitives in braces
 abbrev pub BraceFaultAt : FaultKind → List ℕ → List ℕ → Type 0
@@ -89,24 +91,25 @@ abbrev pub DependsFaultAt : FaultKind → List ℕ → List ℕ → Type 0
 DependsFaultAt BadDepends text here = (here ≡ text) × (Begins open_bracket text → ⊥) × (Begins 62 text → ⊥)
 DependsFaultAt _ text here = ⊥
 
--- after primitives, of which there are not too many, something is wrong
-pub record AfterPrims (Wrong : ℕ → List ℕ → List ℕ → Type 0) (text here : List ℕ) : Type 0 where
+-- after primitives, no more than the limits allow, something is wrong
+pub record AfterPrimsWithin (limits : Limits) (Wrong : ℕ → List ℕ → List ℕ → Type 0) (text here : List ℕ) : Type 0 where
   pub prims : List Prim
   pub mid : List ℕ
   pub read : Many NextPrim text prims mid
-  pub few : length prims ≤ 10000
+  pub few : length prims ≤ limits.prims
   pub wrong : Wrong (length prims) (skipped mid) here
 
 -- one of the primitives: it is one too many, or there is a fault in it
-abbrev pub PrimsFaultAt : FaultKind → List ℕ → List ℕ → Type 0
-PrimsFaultAt kind text here =
-    AfterPrims (λ count next place. CountFaultAt kind count next place ⊎ ((count < 10000) × PrimFaultAt kind next place)) text here
+abbrev pub PrimsFaultWithin : Limits → FaultKind → List ℕ → List ℕ → Type 0
+PrimsFaultWithin limits kind text here =
+    AfterPrimsWithin limits (λ count next place. CountFaultWithin limits kind count next place ⊎ ((count < limits.prims) × PrimFaultAt kind next place)) text here
 
 -- the body: a fault in one of its primitives, or in what follows them
-pub data BodyFaultAt (kind : FaultKind) (text here : List ℕ) : Type 0 where
-  in_braces : (inside : List ℕ) → NextByte 123 text inside → PrimsFaultAt kind inside here ⊎ AfterPrims (λ _. BraceFaultAt kind) inside here
-      → BodyFaultAt kind text here
-  in_run : (Begins 123 (skipped text) → ⊥) → PrimsFaultAt kind text here ⊎ AfterPrims (λ _. RunFaultAt kind) text here → BodyFaultAt kind text here
+pub data BodyFaultWithin (limits : Limits) (kind : FaultKind) (text here : List ℕ) : Type 0 where
+  in_braces : (inside : List ℕ) → NextByte 123 text inside → PrimsFaultWithin limits kind inside here ⊎ AfterPrimsWithin limits (λ _. BraceFaultAt kind) inside here
+      → BodyFaultWithin limits kind text here
+  in_run : (Begins 123 (skipped text) → ⊥) → PrimsFaultWithin limits kind text here ⊎ AfterPrimsWithin limits (λ _. RunFaultAt kind) text here
+      → BodyFaultWithin limits kind text here
 
 -- after patch infos, there is a fault in the next one
 pub record InfosFaultAt (kind : FaultKind) (text here : List ℕ) : Type 0 where
@@ -129,12 +132,16 @@ pub record DepsFaultAt (kind : FaultKind) (text here : List ℕ) : Type 0 where
   pub opens : NextByte 60 text inside
   pub wrong : InfosFaultAt kind inside here ⊎ OpenFaultAt kind inside here
 
--- a named patch: a fault in its patch info, its dependencies or its body
-pub data PatchFaultAt (kind : FaultKind) (text here : List ℕ) : Type 0 where
-  info : InfoFaultAt kind text here → PatchFaultAt kind text here
-  deps : (i : PatchInfo) (after : List ℕ) → Stands text i after → DepsFaultAt kind after here → PatchFaultAt kind text here
-  body : (i : PatchInfo) (ds : List PatchInfo) (after body : List ℕ) → Stands text i after → Dependencies after ds body → BodyFaultAt kind body here
-      → PatchFaultAt kind text here
+-- a named patch, read within these limits: a fault in its patch info, its dependencies or its body
+pub data PatchFaultWithin (limits : Limits) (kind : FaultKind) (text here : List ℕ) : Type 0 where
+  info : InfoFaultAt kind text here → PatchFaultWithin limits kind text here
+  deps : (i : PatchInfo) (after : List ℕ) → Stands text i after → DepsFaultAt kind after here → PatchFaultWithin limits kind text here
+  body : (i : PatchInfo) (ds : List PatchInfo) (after body : List ℕ) → Stands text i after → Dependencies after ds body
+      → BodyFaultWithin limits kind body here → PatchFaultWithin limits kind text here
+
+-- a named patch, read within the standard limits
+abbrev pub PatchFaultAt : FaultKind → List ℕ → List ℕ → Type 0
+PatchFaultAt kind text here = PatchFaultWithin standard kind text here
 
 -- a fault of this kind says that no named patch stands there: out of memory and too many primitives don't
 pub record ExcludesPatch (kind : FaultKind) : Type 0 where

@@ -4,13 +4,15 @@ use Rattle.dm_tree.specs.Paths.{Path}
 use Rattle.dm_tree.specs.Validity.{IsValidPath}
 use Rattle.dm_prim.specs.Primitives.{Prim, inv_all}
 use Rattle.dm_prim.specs.Commuting.{IsValidPrim, ListsCommute}
+use Rattle.dm_named.specs.Limits.{standard}
 use Rattle.dm_named.specs.Words.{skipped, Begins, EndsWord}
 use Rattle.dm_named.specs.Paths.{PathWord}
 use Rattle.dm_named.specs.Patches.{PrimText, Patch, PatchText, IsValidPatch, RunEnds}
 use Rattle.dm_named.specs.Canonical.{path_text, prim_text, patch_text}
-use Rattle.dm_named.specs.Faults.{PatchFaultAt, ExcludesPatch}
+use Rattle.dm_named.specs.Faults.{PatchFaultWithin, ExcludesPatch}
 use Rattle.dm_named.specs.declared.fault.FaultKind.{FaultKind}
 use Rattle.dm_named.specs.declared.fault.FaultKind.TheVariants.{NoMemory}
+use Rattle.dm_named.specs.declared.limits.Limits.{Limits}
 
 -- no further line of a hunk begins here
 pub record NoLine (rest : List ℕ) : Type 0 where
@@ -34,20 +36,32 @@ pub record ReadsPatch (text : List ℕ) (p : Patch) (rest : List ℕ) : Type 0 w
 abbrev pub OnePatch : Type 0
 OnePatch = (text : List ℕ) (p q : Patch) (r s : List ℕ) → PatchText text p r → PatchText text q s → (p ≡ q) × (r ≡ s)
 
--- a text with a fault that says so has no named patch at its front
+-- within these limits, a text with a fault that says so has no named patch at its front
+abbrev pub FaultExcludesPatchWithin : Limits → Type 0
+FaultExcludesPatchWithin limits = (kind : FaultKind) (text here : List ℕ) → ExcludesPatch kind →
+    PatchFaultWithin limits kind text here → (p : Patch) (r : List ℕ) → PatchText text p r → ⊥
+
+-- the same within the standard limits
 abbrev pub FaultExcludesPatch : Type 0
-FaultExcludesPatch = (kind : FaultKind) (text here : List ℕ) → ExcludesPatch kind → PatchFaultAt kind text here →
-    (p : Patch) (r : List ℕ) → PatchText text p r → ⊥
+FaultExcludesPatch = FaultExcludesPatchWithin standard
 
--- a text has at most one fault of a named patch, at one place, apart from out of memory
+-- within these limits, a text has at most one fault of a named patch, at one place, apart from out of memory
+abbrev pub OneFaultWithin : Limits → Type 0
+OneFaultWithin limits = (kind other : FaultKind) (text here there : List ℕ) → kind ≢ NoMemory → other ≢ NoMemory →
+    PatchFaultWithin limits kind text here → PatchFaultWithin limits other text there → (kind ≡ other) × (here ≡ there)
+
+-- the same within the standard limits
 abbrev pub OneFault : Type 0
-OneFault = (kind other : FaultKind) (text here there : List ℕ) → kind ≢ NoMemory → other ≢ NoMemory →
-    PatchFaultAt kind text here → PatchFaultAt other text there → (kind ≡ other) × (here ≡ there)
+OneFault = OneFaultWithin standard
 
--- a text with a named patch of at most 10,000 primitives at its front has no fault but out of memory
+-- a text with a named patch at its front, of no more primitives than these limits allow, has no fault but out of memory
+abbrev pub NoFaultWithinCountOf : Limits → Type 0
+NoFaultWithinCountOf limits = (kind : FaultKind) (text here : List ℕ) → PatchFaultWithin limits kind text here →
+    (p : Patch) (r : List ℕ) → PatchText text p r → length p.prims ≤ limits.prims → kind ≡ NoMemory
+
+-- the same within the standard limits
 abbrev pub NoFaultWithinCount : Type 0
-NoFaultWithinCount = (kind : FaultKind) (text here : List ℕ) → PatchFaultAt kind text here →
-    (p : Patch) (r : List ℕ) → PatchText text p r → length p.prims ≤ 10000 → kind ≡ NoMemory
+NoFaultWithinCount = NoFaultWithinCountOf standard
 
 -- the canonical text of a valid path is read back as that path, before anything that ends a word
 abbrev pub PathRoundTrip : Type 0

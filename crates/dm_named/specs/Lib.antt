@@ -3,6 +3,7 @@ pub mod Words
 pub mod Paths
 pub mod Patches
 pub mod Canonical
+pub mod Limits
 pub mod Faults
 pub mod FaultWords
 pub mod BodyWords

@@ -1,26 +1,41 @@
 //! Laws of the text of paths, primitives and named patches, and of two patches that start at one state. A call does
 //! nothing: its contract is the law.
 
-ghost use Rattle.dm_named.specs.Laws.{OnePatch, FaultExcludesPatch, OneFault, NoFaultWithinCount, PathRoundTrip, PrimRoundTrip, PatchRoundTrip, SquaresTurn};
+ghost use Rattle.std.specs.Prelude.{◌≡◌};
+ghost use Rattle.dm_named.specs.Limits.{standard, own};
+ghost use Rattle.dm_named.specs.Laws.{OnePatch, FaultExcludesPatch, FaultExcludesPatchWithin, OneFault, OneFaultWithin, NoFaultWithinCount, NoFaultWithinCountOf, PathRoundTrip, PrimRoundTrip, PatchRoundTrip, SquaresTurn};
+
+use crate::limits::Limits;
 
 /// A text has at most one named patch at its front.
 pub fn one_patch()
     ensures { OnePatch }
 {}
 
-/// A text with a fault has no named patch at its front, unless the fault is `NoMemory` or `TooMany`.
+/// A text with a fault has no named patch at its front, unless the fault is `NoMemory` or `TooMany`. This holds within any
+/// limits, so within the standard ones.
 pub fn fault_excludes_patch()
-    ensures { FaultExcludesPatch }
+    ensures standard { FaultExcludesPatch }
+    ensures within { (limits : Limits) → FaultExcludesPatchWithin limits }
 {}
 
-/// A text has at most one fault, at one place, apart from `NoMemory`.
+/// A text has at most one fault, at one place, apart from `NoMemory`: within any limits, so within the standard ones.
 pub fn one_fault()
-    ensures { OneFault }
+    ensures standard { OneFault }
+    ensures within { (limits : Limits) → OneFaultWithin limits }
 {}
 
-/// A text with a named patch of at most 10,000 primitives at its front has no fault but `NoMemory`.
+/// A text with a named patch at its front, of no more primitives than the limits allow, has no fault but `NoMemory`: within
+/// any limits, so within the standard ones.
 pub fn no_fault_within_count()
-    ensures { NoFaultWithinCount }
+    ensures standard { NoFaultWithinCount }
+    ensures within { (limits : Limits) → NoFaultWithinCountOf limits }
+{}
+
+/// The named limits are those of the definitions.
+pub fn limits_as_defined()
+    ensures standard { Limits.STANDARD ≡ standard }
+    ensures own { Limits.OWN ≡ own }
 {}
 
 /// The canonical text of a valid path is read back as that path.

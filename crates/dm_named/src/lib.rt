@@ -4,15 +4,16 @@
 //! primitive patches. This crate uses `dm_info` for patch infos, `dm_prim` for primitives, and `dm_tree` for paths
 //! and lines.
 //!
-//! What is proved: [`read_named`] returns a named patch only if its text is at that place, and then no other patch can
-//! be read there. It returns a fault only if the text has that fault at that place. [`write_named`] appends the
-//! canonical text, which is read back as the same patch. [`commute_named`] returns a pair exactly if the two named
-//! patches commute.
+//! What is proved: [`read_named_within`] returns a named patch only if its text is at that place, and then no other patch
+//! can be read there. It returns a fault only if the text, read within the limits given, has that fault at that place;
+//! [`read_named`] reads within [`Limits::STANDARD`]. [`write_named`] appends the canonical text, which is read back as the
+//! same patch. [`commute_named`] returns a pair exactly if the two named patches commute.
 #![tactic(auto)]
 
 mod commuting;
 mod fault;
 pub mod laws;
+mod limits;
 mod named;
 mod passing;
 mod reading;
@@ -21,7 +22,8 @@ mod writing;
 
 pub use commuting::commute_named;
 pub use fault::{FaultKind, ReadFault};
+pub use limits::Limits;
 pub use named::Named;
 pub use passing::{Passing, are_apart, commute_named_in_place, commute_prims_in_place};
-pub use reading::read_named;
+pub use reading::{read_named, read_named_within};
 pub use writing::{push_named, write_named, write_path};

@@ -4,9 +4,10 @@ ghost use Rattle.std.specs.Prelude.{◌≤◌, ◌⊎◌, length, drop, IfOk, If
 ghost use Rattle.dm_prim.specs.Prims.{prims_of};
 ghost use Rattle.dm_named.specs.Words.{WordAmong, Begins};
 ghost use Rattle.dm_named.specs.Patches.{Body, prim_words, unsupported_words};
-ghost use Rattle.dm_named.specs.Faults.{BraceFaultAt, BodyFaultAt};
+ghost use Rattle.dm_named.specs.Faults.{BraceFaultAt, BodyFaultWithin};
 
 use crate::fault::{FaultKind, ReadFault};
+use crate::limits::Limits;
 use crate::reading::primitives::prims_at;
 use crate::reading::words::{BodyWord, body_word};
 use crate::text::{begins_at, skip, word_at};
@@ -55,18 +56,19 @@ pub(crate) fn body_at<A: Allocator + Copy>(
     alloc: A,
     text: &[u8],
     start: usize,
+    limits: Limits,
 ) -> Result<(Vec<Prim<A>, A>, usize), ReadFault>
     requires { start ≤ length text.now }
     ensures ok { IfOk result (λ x. Body (drop start text.now) (prims_of x.0.items) (drop x.1 text.now)) }
-    ensures few { IfOk result (λ x. length (prims_of x.0.items) ≤ 10000) }
+    ensures few { IfOk result (λ x. length (prims_of x.0.items) ≤ limits.prims) }
     ensures within { IfOk result (λ x. x.1 ≤ length text.now) }
     ensures forward { IfOk result (λ x. start ≤ x.1) }
-    ensures err { IfErr result (λ e. BodyFaultAt e.kind (drop start text.now) (drop e.at text.now)) }
+    ensures err { IfErr result (λ e. BodyFaultWithin limits e.kind (drop start text.now) (drop e.at text.now)) }
     ensures place { IfErr result (λ e. e.at ≤ length text.now) }
 {
     let here = skip(text, start);
     if begins_at(text, here, b'{') {
-        let (prims, end) = prims_at(alloc, text, here + 1)?;
+        let (prims, end) = prims_at(alloc, text, here + 1, limits)?;
         let close = skip(text, end);
         if begins_at(text, close, b'}') {
             return Ok((prims, close + 1));
@@ -76,7 +78,7 @@ pub(crate) fn body_at<A: Allocator + Copy>(
             at: close,
         });
     }
-    let (prims, end) = prims_at(alloc, text, start)?;
+    let (prims, end) = prims_at(alloc, text, start, limits)?;
     let next = skip(text, end);
     if is_unsupported_at(text, next) {
         return Err(ReadFault {

@@ -5,18 +5,16 @@ ghost use Rattle.dm_prim.specs.Prims.{prim_of, prims_of};
 ghost use Rattle.dm_named.specs.Many.{Many};
 ghost use Rattle.dm_named.specs.Words.{skipped, Word, WordAmong};
 ghost use Rattle.dm_named.specs.Patches.{PrimText, NextPrim, prim_words};
-ghost use Rattle.dm_named.specs.Faults.{PrimFaultAt, PrimsFaultAt};
+ghost use Rattle.dm_named.specs.Faults.{PrimFaultAt, PrimsFaultWithin};
 ghost use Rattle.dm_named.specs.BodyWords.{word_of};
 
 use crate::fault::{FaultKind, ReadFault};
+use crate::limits::Limits;
 use crate::reading::hunks::hunk_at;
 use crate::reading::paths::path_at;
 use crate::reading::words::{PrimWord, prim_word_at};
 use dm_prim::Prim;
 use std::alloc::Allocator;
-
-/// The most primitives that a named patch may have.
-const MOST_PRIMS: usize = 10000;
 
 /// A primitive whose word is at `start` and ends at `at`, and the place after it.
 fn prim_at<A: Allocator + Copy>(
@@ -57,20 +55,21 @@ pub(crate) fn prims_at<A: Allocator + Copy>(
     alloc: A,
     text: &[u8],
     start: usize,
+    limits: Limits,
 ) -> Result<(Vec<Prim<A>, A>, usize), ReadFault>
     requires { start ≤ length text.now }
     ensures ok { IfOk result (λ x. Many NextPrim (drop start text.now) (prims_of x.0.items) (drop x.1 text.now)) }
     ensures closed { IfOk result (λ x. WordAmong prim_words (skipped (drop x.1 text.now)) → ⊥) }
-    ensures few { IfOk result (λ x. length (prims_of x.0.items) ≤ 10000) }
+    ensures few { IfOk result (λ x. length (prims_of x.0.items) ≤ limits.prims) }
     ensures within { IfOk result (λ x. x.1 ≤ length text.now) }
     ensures forward { IfOk result (λ x. start ≤ x.1) }
-    ensures err { IfErr result (λ e. PrimsFaultAt e.kind (drop start text.now) (drop e.at text.now)) }
+    ensures err { IfErr result (λ e. PrimsFaultWithin limits e.kind (drop start text.now) (drop e.at text.now)) }
     ensures place { IfErr result (λ e. e.at ≤ length text.now) }
 {
     let mut prims = Vec::new(alloc);
     let mut end = start;
     while let Some((word, here, next)) = prim_word_at(text, end) {
-        if prims.len() >= MOST_PRIMS {
+        if prims.len() >= limits.prims {
             return Err(ReadFault {
                 kind: FaultKind::TooMany,
                 at: here,

@@ -13,7 +13,7 @@ patch_at-requires-clause-known g c = rw c.deref.ensures.value c.loop-alloc.invar
 pub loop-alloc-smaller : goal.loop-alloc-smaller
 loop-alloc-smaller g c =
     let pushed : c.push.new.self.items ≡ c.loop-alloc.patches.items ++ c.in_ok-patch.patch ∷ [] = c.in_default.ensures.items in
-    let room : length c.loop-alloc.patches.items < 1000 = rw (← c.deref.ensures.value) c.in_ok-patch.ensures.room in
+    let room : length c.loop-alloc.patches.items < c.args.limits.patches = rw (← c.deref.ensures.value) c.in_ok-patch.ensures.room in
     rw pushed (omega (arith, room, length-append c.loop-alloc.patches.items (c.in_ok-patch.patch ∷ [])))
 
 pub loop-alloc-preserved : goal.loop-alloc-preserved
@@ -25,14 +25,14 @@ loop-alloc-preserved g c =
     let pushed : c.push.new.self.items ≡ ps ++ p ∷ [] = c.in_default.ensures.items in
     let is_new : Contains (infos_of ps) p.info → ⊥ = rw (← c.deref.ensures.value) c.in_ok-patch.ensures.is_new in
     let noted : SameMembers c.patch_at.new.known (infos_of ps ++ p.info ∷ []) = rw (← c.deref.ensures.value) c.in_ok-patch.ensures.noted in
-    let room : length ps < 1000 = rw (← c.deref.ensures.value) c.in_ok-patch.ensures.room in
+    let room : length ps < c.args.limits.patches = rw (← c.deref.ensures.value) c.in_ok-patch.ensures.room in
     record {
       end = c.in_ok-patch.ensures.within;
       here = c.skip-here-in-loop-alloc.ensures.within;
       place = c.skip-here-in-loop-alloc.ensures.rest;
       read = rw pushed (new_more (drop c.args.start text) ps (drop c.loop-alloc.end text) (drop c.loop-alloc.here text) p (drop c.in_ok-patch.next text) l.read l.place c.in_ok-patch.ensures.ok is_new);
       known = rw (pushed, infos_more ps p) noted;
-      few = rw pushed (few_more ps p l.few room c.in_ok-patch.ensures.few);
+      few = rw pushed (few_more c.args.limits ps p l.few room c.in_ok-patch.ensures.few);
     }
 
 pub returns-in_err-patch-clause-err : goal.returns-in_err-patch-clause-err
@@ -40,4 +40,4 @@ returns-in_err-patch-clause-err g c =
     let text = c.args.text.now in
     let p = err_from_is_err_and c.from_residual.result c.from_residual.ensures.1 in
     let l = c.loop-alloc.invariant in
-    rw (p.1, p.2) (new_wrong c.in_err-patch.field-0.0.kind (drop c.args.start text) (drop c.loop-alloc.end text) (drop c.loop-alloc.here text) (drop c.in_err-patch.field-0.0.at text) c.loop-alloc.patches.items l.read l.few l.place (rw (← c.deref.ensures.value) c.in_err-patch.ensures.err))
+    rw (p.1, p.2) (new_wrong c.args.limits c.in_err-patch.field-0.0.kind (drop c.args.start text) (drop c.loop-alloc.end text) (drop c.loop-alloc.here text) (drop c.in_err-patch.field-0.0.at text) c.loop-alloc.patches.items l.read l.few l.place (rw (← c.deref.ensures.value) c.in_err-patch.ensures.err))

@@ -1,6 +1,6 @@
-use Rattle.std.proofs.Common.{length, ◌-◌, ◌≤◌, ◌≡◌, drop}
+use Rattle.std.proofs.Common.{length, ◌+◌, ◌-◌, ◌≤◌, ◌≡◌, drop}
 use Rattle.dm_named.specs.Words.{skipped}
-use Rattle.dm_bundle.specs.Patches.{infos_of, SameMembers, NewPatches, AreFew}
+use Rattle.dm_bundle.specs.Patches.{infos_of, SameMembers, NewPatches, AreFewWithin}
 use Rattle.dm_bundle.proofs.patches.patches_at.Given as goal
 
 abbrev pub invariant-loop-alloc : goal.invariant-loop-alloc
@@ -10,8 +10,8 @@ invariant-loop-alloc g l = record {
   place : drop l.here l.text ≡ skipped (drop l.end l.text);
   read : NewPatches (drop l.start l.text) l.patches.items (drop l.end l.text);
   known : SameMembers l.known (infos_of l.patches.items);
-  few : AreFew l.patches.items;
+  few : AreFewWithin l.limits l.patches.items;
 }
 
 abbrev pub decreases-loop-alloc : goal.decreases-loop-alloc
-decreases-loop-alloc g l = 1001 - length l.patches.items
+decreases-loop-alloc g l = l.limits.patches + 1 - length l.patches.items

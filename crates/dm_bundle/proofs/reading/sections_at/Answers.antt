@@ -11,7 +11,7 @@ returns-then-not-is_context_word-clause-err g c =
     let text = c.args.text.now in
     let s = c.in_ok-patches.field-0 in
     let here = drop c.skip-here.result text in
-    in_new (new_wrong _ (drop c.args.new text) (drop s.end text) here here s.patches.items c.in_ok-patches.ensures.ok c.in_ok-patches.ensures.few c.skip-here.ensures.rest
+    in_new (new_wrong c.args.limits _ (drop c.args.new text) (drop s.end text) here here s.patches.items c.in_ok-patches.ensures.ok c.in_ok-patches.ensures.few c.skip-here.ensures.rest
     (no_context refl refl (rw c.skip-here.ensures.rest c.in_ok-patches.ensures.closed) (other_word here c.word_at-after_word.result.0.now (drop c.word_at-after_word.result.1 text) c.word_at-after_word.ensures.word c.if-not-is_context_word.ensures)))
 
 pub returns-in_err-context-clause-err : goal.returns-in_err-context-clause-err

@@ -14,12 +14,12 @@ returns-in_err-prims-clause-err g c =
 pub returns-then-begins_at-clause-err : goal.returns-then-begins_at-clause-err
 returns-then-begins_at-clause-err g c =
     let text = c.args.text.now in
-    brace_wrong c.brace_fault.result (drop c.args.start text) (drop (c.skip-here.result + 1) text) (drop c.in_ok-prims.end text) (drop c.skip-close.result text) (prims_of c.in_ok-prims.prims.items) (sym c.skip-here.ensures.rest ∙ c.if-begins_at.ensures.0) c.in_ok-prims.ensures.ok c.in_ok-prims.ensures.few c.skip-close.ensures.rest c.brace_fault.ensures
+    brace_wrong c.args.limits c.brace_fault.result (drop c.args.start text) (drop (c.skip-here.result + 1) text) (drop c.in_ok-prims.end text) (drop c.skip-close.result text) (prims_of c.in_ok-prims.prims.items) (sym c.skip-here.ensures.rest ∙ c.if-begins_at.ensures.0) c.in_ok-prims.ensures.ok c.in_ok-prims.ensures.few c.skip-close.ensures.rest c.brace_fault.ensures
 
 pub returns-then-is_unsupported_at-clause-err : goal.returns-then-is_unsupported_at-clause-err
 returns-then-is_unsupported_at-clause-err g c =
     let text = c.args.text.now in
-    run_wrong (drop c.args.start text) (drop c.in_ok-prims-2.end text) (drop c.skip-next.result text) (prims_of c.in_ok-prims-2.prims.items) (rw (← c.skip-here.ensures.rest) c.if-begins_at.ensures) c.in_ok-prims-2.ensures.ok c.in_ok-prims-2.ensures.few c.skip-next.ensures.rest (refl, c.if-is_unsupported_at.ensures)
+    run_wrong c.args.limits (drop c.args.start text) (drop c.in_ok-prims-2.end text) (drop c.skip-next.result text) (prims_of c.in_ok-prims-2.prims.items) (rw (← c.skip-here.ensures.rest) c.if-begins_at.ensures) c.in_ok-prims-2.ensures.ok c.in_ok-prims-2.ensures.few c.skip-next.ensures.rest (refl, c.if-is_unsupported_at.ensures)
 
 pub returns-clause-ok : goal.returns-clause-ok
 returns-clause-ok g c =

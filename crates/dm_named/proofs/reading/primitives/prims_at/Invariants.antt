@@ -9,7 +9,7 @@ invariant-loop-word g l =
     record {
       forward : l.start ≤ l.end;
       within : l.end ≤ length l.text;
-      few : length (prims_of l.prims.items) ≤ 10000;
+      few : length (prims_of l.prims.items) ≤ l.limits.prims;
       read : Many NextPrim (drop l.start l.text) (prims_of l.prims.items) (drop l.end l.text);
     }
 

@@ -1,0 +1,30 @@
+//! The limits of reading.
+
+/// How much of a text is read: the reader reports a fault where there is more.
+#[derive(Clone, Copy, Debug, PartialEq, Eq)]
+pub struct Limits {
+    /// The most bytes of a text.
+    pub bytes: usize,
+    /// The most new patches of a bundle.
+    pub patches: usize,
+    /// The most primitives of a named patch.
+    pub prims: usize,
+}
+
+impl Limits {
+    /// For a text that somebody else wrote: 4 MiB, 1,000 new patches, and 10,000 primitives in each. They bound what such a
+    /// text can ask for.
+    pub const STANDARD: Limits = Limits {
+        bytes: 4_194_304,
+        patches: 1000,
+        prims: 10_000,
+    };
+
+    /// For the text of a repository of one's own: 1 GiB, 100,000 patches, as many as a repository can hold, and in each as many
+    /// primitives as in a patch of somebody else.
+    pub const OWN: Limits = Limits {
+        bytes: 1_073_741_824,
+        patches: 100_000,
+        prims: Limits::STANDARD.prims,
+    };
+}
