@@ -1,0 +1,6 @@
+mod Blocks
+mod Crash
+mod Kept
+mod Moments
+mod Once
+mod Ranges

@@ -1,0 +1,9 @@
+pub mod Device
+pub mod Faults
+pub mod Journal
+pub mod Laws
+pub mod Memory
+pub mod Past
+pub mod Reading
+pub mod Ready
+pub mod Texts

@@ -1,0 +1,30 @@
+-- When a journal may take a text, what it is to have afterwards, and what an opening leaves alone.
+use Rattle.std.specs.Prelude.{◌≡◌, ◌⊎◌, ℕ, ◌+◌, ◌<◌, ◌^◌, List, [], ◌∷◌, ◌++◌, length}
+use Rattle.dm_journal.specs.Device.{IsDurable, LeavesOnly}
+use Rattle.dm_journal.specs.Journal.{Begins, StandsFor}
+use Rattle.dm_journal.specs.declared.journal.Journal.{Journal}
+
+-- the journal has these texts, all of them on the disk, and knows the place of the closed gate behind them
+pub record HasTexts {D : Type 0} (seen : D → List ℕ) (may_leave file_may_leave : D → List ℕ → Type 0) (journal : Journal D) (texts : List (List ℕ)) : Type 0 where
+  pub rest : List ℕ
+  pub begins : Begins (seen journal.device) texts (0 ∷ rest)
+  pub place : journal.gate + length (0 ∷ rest) ≡ length (seen journal.device)
+  pub durable : IsDurable seen may_leave file_may_leave journal.device
+
+-- the text has more than 2 ^ 40 bytes
+abbrev pub IsTooLong : List ℕ → Type 0
+IsTooLong text = 2 ^ 40 < length text
+
+-- the file stands for the texts, with one more or without it
+abbrev pub StandsWithOrWithout : List (List ℕ) → List ℕ → List ℕ → Type 0
+StandsWithOrWithout texts text file = StandsFor file texts ⊎ StandsFor file (texts ++ text ∷ [])
+
+-- the file stands for the old texts or for the new ones
+abbrev pub StandsForEither : List (List ℕ) → List (List ℕ) → List ℕ → Type 0
+StandsForEither old new file = StandsFor file old ⊎ StandsFor file new
+
+-- the device reads as before, and a crash at any moment since leaves just that
+pub record IsUntouched {D : Type 0} (seen : D → List ℕ) (may_leave file_may_leave : D → List ℕ → Type 0) (moment : D → ℕ) (left_since : D → ℕ → List ℕ → Type 0) (old new : D) : Type 0 where
+  pub same : seen new ≡ seen old
+  pub durable : IsDurable seen may_leave file_may_leave new
+  pub any_moment : LeavesOnly moment left_since old new (λ c. c ≡ seen old)
