@@ -1,13 +1,14 @@
 -- What a plan holds, and why there may be none.
 use Rattle.std.specs.Prelude.{◌≡◌, ◌≢◌, ◌⊎◌, ◌<◌, ◌≤◌, ℕ, List, [], ◌∷◌, length, map, slice_get, Some}
 use Rattle.std.specs.List.{AllByRecursion}
+use Rattle.dm_named.specs.declared.limits.Limits.{Limits}
 use Rattle.dm_named.specs.Patches.{Patch}
 use Rattle.dm_repo.specs.declared.policy.Policy.{Policy}
 use Rattle.dm_repo.specs.declared.policy.Policy.TheVariants.{Refuse}
 use Rattle.dm_repo.specs.declared.refusal.Refusal.TheVariants as refusals
 use Rattle.dm_scratch.specs.declared.verdict.Verdict.{Verdict}
 use Rattle.dm_scratch.specs.declared.verdict.Verdict.TheVariants.{Refused}
-use Rattle.dm_scratch.specs.Taking.{Takes, IsAccepted}
+use Rattle.dm_scratch.specs.Taking.{TakesWithin, IsAccepted}
 use Rattle.dm_mirror.specs.declared.plan.Plan.{Plan}
 use Rattle.dm_mirror.specs.declared.plan.PlanFault.{PlanFault}
 use Rattle.dm_mirror.specs.declared.plan.PlanFault.TheVariants.{Posters, Mirrors, Bound, TooManyBundles, BadBase, NoMemory}
@@ -28,43 +29,44 @@ plan_policies plan = plan.policies.items
 abbrev pub plan_bound : Plan → ℕ
 plan_bound plan = plan.bound
 
--- the repository that a base's text makes: an empty one of an empty text, else the one that has taken the text, where conflicts are refused
-pub data IsStart (base : List ℕ) (repo : List Patch) : Type 0 where
-  empty : base ≡ [] → repo ≡ [] → IsStart base repo
-  taken : (verdict : Verdict) → IsAccepted verdict → Takes [] base Refuse verdict repo → IsStart base repo
+-- the repository that a base's text makes: an empty one of an empty text, else the one that has taken the text, read within these limits, where
+-- conflicts are refused
+pub data IsStart (limits : Limits) (base : List ℕ) (repo : List Patch) : Type 0 where
+  empty : base ≡ [] → repo ≡ [] → IsStart limits base repo
+  taken : (verdict : Verdict) → IsAccepted verdict → TakesWithin limits [] base Refuse verdict repo → IsStart limits base repo
 
 -- so it is for each mirror
-abbrev pub AreStarts : List (List ℕ) → List (List Patch) → Type 0
-AreStarts [] [] = Unit {0}
-AreStarts [] (r ∷ rs) = ⊥
-AreStarts (b ∷ bs) [] = ⊥
-AreStarts (b ∷ bs) (r ∷ rs) = IsStart b r × AreStarts bs rs
+abbrev pub AreStarts : Limits → List (List ℕ) → List (List Patch) → Type 0
+AreStarts limits [] [] = Unit {0}
+AreStarts limits [] (r ∷ rs) = ⊥
+AreStarts limits (b ∷ bs) [] = ⊥
+AreStarts limits (b ∷ bs) (r ∷ rs) = IsStart limits b r × AreStarts limits bs rs
 
--- the base's text isn't taken, with this verdict, which isn't that memory ran out
-pub record IsBadBase (base : List ℕ) (verdict : Verdict) : Type 0 where
+-- the base's text, read within these limits, isn't taken, with this verdict, which isn't that memory ran out
+pub record IsBadBase (limits : Limits) (base : List ℕ) (verdict : Verdict) : Type 0 where
   pub filled : base ≢ []
   pub refused : IsAccepted verdict → ⊥
   pub by_itself : verdict ≢ Refused refusals.NoMemory
-  pub takes : Takes [] base Refuse verdict []
+  pub takes : TakesWithin limits [] base Refuse verdict []
 
 -- the base of this mirror makes no repository: memory ran out, or its verdict
-abbrev pub RefusesStart : ℕ → List ℕ → PlanFault → Type 0
-RefusesStart mirror base NoMemory = Unit {0}
-RefusesStart mirror base (BadBase m verdict) = (m ≡ mirror) × IsBadBase base verdict
-RefusesStart mirror base other = ⊥
+abbrev pub RefusesStart : Limits → ℕ → List ℕ → PlanFault → Type 0
+RefusesStart limits mirror base NoMemory = Unit {0}
+RefusesStart limits mirror base (BadBase m verdict) = (m ≡ mirror) × IsBadBase limits base verdict
+RefusesStart limits mirror base other = ⊥
 
 -- each base before this mirror's makes a repository, and this one doesn't
-pub record IsFirstBadBase (bases : List (List ℕ)) (mirror : ℕ) (verdict : Verdict) : Type 0 where
+pub record IsFirstBadBase (limits : Limits) (bases : List (List ℕ)) (mirror : ℕ) (verdict : Verdict) : Type 0 where
   pub base : List ℕ
   pub is_base : slice_get bases mirror ≡ Some base
-  pub bad : IsBadBase base verdict
-  pub first : (m : ℕ) (earlier : List ℕ) → m < mirror → slice_get bases m ≡ Some earlier → (repo : List Patch) × IsStart earlier repo
+  pub bad : IsBadBase limits base verdict
+  pub first : (m : ℕ) (earlier : List ℕ) → m < mirror → slice_get bases m ≡ Some earlier → (repo : List Patch) × IsStart limits earlier repo
 
 -- one of the bases makes no repository: memory ran out, or it is the first such one with its verdict
-abbrev pub IsBadStart : List (List ℕ) → PlanFault → Type 0
-IsBadStart bases NoMemory = Unit {0}
-IsBadStart bases (BadBase mirror verdict) = IsFirstBadBase bases mirror verdict
-IsBadStart bases other = ⊥
+abbrev pub IsBadStart : Limits → List (List ℕ) → PlanFault → Type 0
+IsBadStart limits bases NoMemory = Unit {0}
+IsBadStart limits bases (BadBase mirror verdict) = IsFirstBadBase limits bases mirror verdict
+IsBadStart limits bases other = ⊥
 
 -- there are as many as a plan may have: one to eight
 abbrev pub IsCount : ℕ → Type 0
@@ -91,10 +93,10 @@ abbrev pub IsPlannable : List (List (List ℕ)) → List (List ℕ) → List Pol
 IsPlannable posters bases policies bound = IsShaped posters bases policies bound × AreFew posters
 
 -- the fault is the first that there is; memory may run out once a plan can be
-abbrev pub IsFirstFault : List (List (List ℕ)) → List (List ℕ) → List Policy → ℕ → PlanFault → Type 0
-IsFirstFault posters bases policies bound Posters = IsNoCount (length posters)
-IsFirstFault posters bases policies bound Mirrors = IsCount (length posters) × (IsNoCount (length bases) ⊎ (length policies ≢ length bases))
-IsFirstFault posters bases policies bound Bound = IsCount (length posters) × AreMirrors bases policies × ((bound ≡ 0) ⊎ (64 < bound))
-IsFirstFault posters bases policies bound TooManyBundles = IsShaped posters bases policies bound × (AreFew posters → ⊥)
-IsFirstFault posters bases policies bound (BadBase mirror verdict) = IsPlannable posters bases policies bound × IsFirstBadBase bases mirror verdict
-IsFirstFault posters bases policies bound NoMemory = IsPlannable posters bases policies bound
+abbrev pub IsFirstFault : Limits → List (List (List ℕ)) → List (List ℕ) → List Policy → ℕ → PlanFault → Type 0
+IsFirstFault limits posters bases policies bound Posters = IsNoCount (length posters)
+IsFirstFault limits posters bases policies bound Mirrors = IsCount (length posters) × (IsNoCount (length bases) ⊎ (length policies ≢ length bases))
+IsFirstFault limits posters bases policies bound Bound = IsCount (length posters) × AreMirrors bases policies × ((bound ≡ 0) ⊎ (64 < bound))
+IsFirstFault limits posters bases policies bound TooManyBundles = IsShaped posters bases policies bound × (AreFew posters → ⊥)
+IsFirstFault limits posters bases policies bound (BadBase mirror verdict) = IsPlannable posters bases policies bound × IsFirstBadBase limits bases mirror verdict
+IsFirstFault limits posters bases policies bound NoMemory = IsPlannable posters bases policies bound

@@ -16,6 +16,7 @@ use crate::plan::posters::{are_few, count_mails, posters_of};
 use crate::plan::starts::starts_of;
 use crate::poster::Poster;
 use dm_mail::{MOST_POSTERS, MOST_WAITING};
+use dm_named::Limits;
 use dm_repo::{Policy, Refusal, Repo};
 use dm_scratch::Verdict;
 use std::alloc::{AllocError, Global};
@@ -51,23 +52,24 @@ impl Plan {
 
     /// A plan for these posters, each with the texts of its bundles, and these mirrors, each with the text of its base and its
     /// policy; an empty text is an empty repository. There are one to eight of each. At most `bound` mails wait at a mirror.
-    /// The bases are taken here, where a conflict refuses them whatever the policy; each text is copied once, and all memory
-    /// for the record of the run is taken, so that a run never grows it.
+    /// The bases are read within `limits` and taken here, where a conflict refuses them whatever the policy; each text is copied
+    /// once, and all memory for the record of the run is taken, so that a run never grows it.
     ///
     /// Errors: see [`PlanFault`]. A base that was refused for memory is [`PlanFault::NoMemory`].
     pub fn build(
         alloc: Global,
         posters: &[&[&[u8]]],
         bases: &[&[u8]],
+        limits: Limits,
         policies: &[Policy],
         bound: usize,
     ) -> Result<Plan, PlanFault>
         ensures texts { IfOk result (λ plan. plan_texts plan ≡ map (λ texts. map (λ text. text.now) texts.now) posters.now) }
-        ensures starts { IfOk result (λ plan. AreStarts (map (λ base. base.now) bases.now) (plan_starts plan)) }
+        ensures starts { IfOk result (λ plan. AreStarts limits (map (λ base. base.now) bases.now) (plan_starts plan)) }
         ensures policies { IfOk result (λ plan. plan_policies plan ≡ policies.now) }
         ensures bound { IfOk result (λ plan. plan_bound plan ≡ bound) }
         ensures valid { OnOk result (IsPlannable (map (λ texts. map (λ text. text.now) texts.now) posters.now) (map (λ base. base.now) bases.now) policies.now bound) }
-        ensures fault { IfErr result (IsFirstFault (map (λ texts. map (λ text. text.now) texts.now) posters.now) (map (λ base. base.now) bases.now) policies.now bound) }
+        ensures fault { IfErr result (IsFirstFault limits (map (λ texts. map (λ text. text.now) texts.now) posters.now) (map (λ base. base.now) bases.now) policies.now bound) }
     {
         if posters.is_empty() || posters.len() > MOST_POSTERS {
             return Err(PlanFault::Posters);
@@ -84,7 +86,7 @@ impl Plan {
         if !are_few(posters) {
             return Err(PlanFault::TooManyBundles);
         }
-        let repos = starts_of(alloc, bases)?;
+        let repos = starts_of(alloc, bases, limits)?;
         Ok(Plan::of_repos(alloc, posters, repos, policies, bound)?)
     }
 

@@ -2,6 +2,7 @@
 
 use crate::asking::took;
 use dm_mirror::{Gate, Plan, WriteFault, write_report};
+use dm_named::Limits;
 use dm_repo::Policy;
 use std::io::{ErrorKind, Write};
 use std::sync::atomic::{AtomicUsize, Ordering};
@@ -60,7 +61,14 @@ fn mirrors_take_side_by_side(rt: HostRuntime) {
     let texts = [ADDS_D];
     let lists: [&[&[u8]]; 2] = [&texts, &[]];
     let bases: [&[u8]; 2] = [b"", b""];
-    let count = match Plan::build(rt.alloc(), &lists, &bases, &[Policy::Refuse; 2], 1) {
+    let count = match Plan::build(
+        rt.alloc(),
+        &lists,
+        &bases,
+        Limits::STANDARD,
+        &[Policy::Refuse; 2],
+        1,
+    ) {
         Ok(plan) => took(&rt, rt.alloc(), plan, &gate),
         Err(_) => 0,
     };

@@ -3,6 +3,7 @@
 use Rattle.std.specs.Prelude.{◌≡◌, ℕ, ◌+◌, ◌≤◌, ◌<◌, List, ◌∷◌, ◌++◌, length, ◌⊎◌}
 use Rattle.dm_prim.specs.InTurn.{InTurn}
 use Rattle.dm_prim.specs.Primitives.{Prim, LawfulMap}
+use Rattle.dm_named.specs.Limits.{own}
 use Rattle.dm_named.specs.Patches.{Patch}
 use Rattle.dm_bundle.specs.Bundles.{Contents}
 use Rattle.dm_repo.specs.declared.policy.Policy.{Policy}
@@ -25,9 +26,9 @@ IsCommon repo b x = Common repo b x.1.info
 abbrev pub IsHeld : List Patch → Placed → Type 0
 IsHeld repo x = Holds repo x.1.info
 
--- a repository of more patches is full
+-- a repository of more patches is full: the text of any other is within the limits for one's own
 abbrev pub most_patches : ℕ
-most_patches = 100000
+most_patches = own.patches
 
 -- the context is held, something is new, and no dependency is missing
 pub record HasPrerequisites (repo : List Patch) (b : Contents) : Type 0 where

@@ -20,12 +20,12 @@ use crate::repo::Repo;
 use crate::sifting::{first_conflict, is_all_skipped, sift};
 use crate::stop::Blocked;
 use crate::weighed::Merged;
-use dm_named::{Named, Passing};
+use dm_named::{Limits, Named, Passing};
 use dm_tree::Tree;
 use std::alloc::{AllocError, Allocator};
 
-/// A repository holds at most so many patches.
-const MOST_PATCHES: usize = 100_000;
+/// A repository holds at most so many patches: as many as can be read again.
+const MOST_PATCHES: usize = Limits::OWN.patches;
 
 /// Patches as they are once they are merged with the rest of a repository, and how many others are skipped.
 #[derive(Drop)]

@@ -200,6 +200,25 @@ impl<A: Allocator + Copy> Repo<A> {
             tree,
         })
     }
+
+    /// The same as [`Repo::prepare`] of what was merged in the repository's own memory and is given up: its patches and its
+    /// tree are moved, and the names alone are copied.
+    pub fn prepare_owned(&mut self, merged: Merged<A>) -> Result<Ready<A>, AllocError>
+        ensures same { self.new.patches ≡ self.old.patches }
+        ensures ready { IfOk result (λ ready. ready.patches ≡ merged.patches.items) }
+        ensures tree { IfOk result (λ ready. ready.tree ≡ merged.tree) }
+        ensures room { IfOk result (λ ready. length ready.patches ≤ self.new.room) }
+    {
+        let alloc = *self.patches.allocator();
+        let names = copy_names(alloc, &merged.patches)?;
+        self.patches.reserve(names.len())?;
+        self.names.reserve(names.len())?;
+        Ok(Ready {
+            patches: merged.patches,
+            names,
+            tree: merged.tree,
+        })
+    }
 }
 
 /// Copies of patches, under another allocator.

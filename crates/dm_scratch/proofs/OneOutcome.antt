@@ -1,5 +1,6 @@
 -- Taking has one outcome: one verdict, and one repository afterwards.
 use Rattle.std.proofs.Common.{◌≡◌, arith, ℕ, zero, suc, ◌<◌, List, [], ◌∷◌, ◌++◌, length, refl, sym, subst, ap, ap₂, ◌∙◌}
+use Rattle.dm_named.specs.Limits.{standard}
 use Rattle.dm_named.specs.declared.fault.ReadFault.{ReadFault}
 use Rattle.dm_named.specs.Patches.{Patch}
 use Rattle.dm_bundle.specs.Bundles.{Contents}
@@ -58,15 +59,15 @@ same_fault : (f g : ReadFault) → (f.kind ≡ g.kind) × (f.at ≡ g.at) → f 
 same_fault f g (e, h) = λ i. record { kind = e i; at = h i }
 
 pub taking_one : TakingHasOneOutcome
-taking_one repo text policy v w after later m n (no_memory p a) t = absurd (m p)
-taking_one repo text policy v w after later m n s (no_memory p a) = absurd (n p)
-taking_one repo text policy v w after later m n (bundle b r s) (bundle c q t) =
+taking_one limits repo text policy v w after later m n (no_memory p a) t = absurd (m p)
+taking_one limits repo text policy v w after later m n s (no_memory p a) = absurd (n p)
+taking_one limits repo text policy v w after later m n (bundle b r s) (bundle c q t) =
     let e : b ≡ c = one_bundle text b c r.stands q.stands in
     taking_a_bundle_one repo b policy v w after later m n s (subst (λ (d : Contents). TakesBundle repo d policy w later) (sym e) t)
-taking_one repo text policy v w after later m n (bundle b r s) (malformed f at p a) = absurd (no_fault text f.kind f.at at b r.stands r.small r.few)
-taking_one repo text policy v w after later m n (malformed f at p a) (bundle b r s) = absurd (no_fault text f.kind f.at at b r.stands r.small r.few)
-taking_one repo text policy v w after later m n (malformed f at p a) (malformed g there q c) =
-    (p ∙ ap Malformed (same_fault f g (one_fault text f.kind g.kind f.at g.at at there)) ∙ sym q, a ∙ sym c)
+taking_one limits repo text policy v w after later m n (bundle b r s) (malformed f at p a) = absurd (no_fault limits text f.kind f.at at b r.stands r.small r.few)
+taking_one limits repo text policy v w after later m n (malformed f at p a) (bundle b r s) = absurd (no_fault limits text f.kind f.at at b r.stands r.small r.few)
+taking_one limits repo text policy v w after later m n (malformed f at p a) (malformed g there q c) =
+    (p ∙ ap Malformed (same_fault f g (one_fault limits text f.kind g.kind f.at g.at at there)) ∙ sym q, a ∙ sym c)
 
 pub taking_each_one : TakingEachHasOneOutcome
 taking_each_one repo [] policy [] [] after later m n s t = (refl, s ∙ sym t)
@@ -75,6 +76,6 @@ taking_each_one repo [] policy (v ∷ vs) ws after later m n s t = absurd s
 taking_each_one repo (x ∷ xs) policy [] ws after later m n s t = absurd s
 taking_each_one repo (x ∷ xs) policy (v ∷ vs) [] after later m n s t = absurd t
 taking_each_one repo (x ∷ xs) policy (v ∷ vs) (w ∷ ws) after later m n s t =
-    let e = taking_one repo x policy v w s.0 t.0 m.0 n.0 s.1 t.1 in
+    let e = taking_one standard repo x policy v w s.0 t.0 m.0 n.0 s.1 t.1 in
     let r = taking_each_one s.0 xs policy vs ws after later m.1 n.1 s.2 (subst (λ (next : List Patch). TakesEach next xs policy ws later) (sym e.1) t.2) in
     (ap₂ (λ a b. a ∷ b) e.0 r.0, r.1)

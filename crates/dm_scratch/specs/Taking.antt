@@ -1,22 +1,28 @@
 -- What taking a text does to a repository (`darcs apply --no-allow-conflicts`, where a conflict is refused).
-use Rattle.std.specs.Prelude.{◌≡◌, ◌≢◌, ◌≤◌, ◌<◌, ◌⊎◌, ℕ, List, [], ◌∷◌, ◌++◌, length}
+use Rattle.std.specs.Prelude.{◌≡◌, ◌≢◌, ◌<◌, ◌⊎◌, ℕ, List, [], ◌∷◌, ◌++◌, length}
+use Rattle.dm_named.specs.Limits.{standard}
+use Rattle.dm_named.specs.declared.limits.Limits.{Limits}
 use Rattle.dm_named.specs.declared.fault.FaultKind.TheVariants as kind
 use Rattle.dm_named.specs.declared.fault.ReadFault.{ReadFault}
 use Rattle.dm_named.specs.Patches.{Patch}
-use Rattle.dm_bundle.specs.Patches.{AreFew}
+use Rattle.dm_bundle.specs.Patches.{AreFewWithin}
 use Rattle.dm_bundle.specs.Bundles.{Contents, BundleText}
-use Rattle.dm_bundle.specs.Faults.{FaultAt, most_bytes}
+use Rattle.dm_bundle.specs.Faults.{FaultWithin, IsWithinSizeOf}
 use Rattle.dm_repo.specs.declared.policy.Policy.{Policy}
 use Rattle.dm_repo.specs.declared.refusal.Refusal.TheVariants.{NoMemory}
 use Rattle.dm_repo.specs.Weighing.{IsNothingNew, IsMergeOf, RefusesBundle}
 use Rattle.dm_scratch.specs.declared.verdict.Verdict.{Verdict}
 use Rattle.dm_scratch.specs.declared.verdict.Verdict.TheVariants.{Taken, TakenSome, NothingNew, Malformed, Refused}
 
--- the text stands for the bundle, and both are within the limits
-pub record Reads (text : List ℕ) (b : Contents) : Type 0 where
+-- the text stands for the bundle, and both are within these limits
+pub record ReadsWithin (limits : Limits) (text : List ℕ) (b : Contents) : Type 0 where
   pub stands : BundleText text b
-  pub small : length text ≤ most_bytes
-  pub few : AreFew b.patches
+  pub small : IsWithinSizeOf limits text
+  pub few : AreFewWithin limits b.patches
+
+-- the text stands for the bundle, and both are within the standard limits
+abbrev pub Reads : List ℕ → Contents → Type 0
+Reads text b = ReadsWithin standard text b
 
 -- the merged patches are appended, and so many others are skipped
 pub record Appended (repo : List Patch) (b : Contents) (policy : Policy) (count skipped : ℕ) (after : List Patch) : Type 0 where
@@ -34,11 +40,17 @@ TakesBundle repo b policy NothingNew after = IsNothingNew repo b × (after ≡ r
 TakesBundle repo b policy (Refused why) after = RefusesBundle repo b policy why × (after ≡ repo)
 TakesBundle repo b policy (Malformed fault) after = ⊥
 
--- What taking a text does: its bundle is taken; or it has a fault, or memory runs out, and the repository stays as it was.
-pub data Takes (repo : List Patch) (text : List ℕ) (policy : Policy) (verdict : Verdict) (after : List Patch) : Type 0 where
-  bundle : (b : Contents) → Reads text b → TakesBundle repo b policy verdict after → Takes repo text policy verdict after
-  malformed : (fault : ReadFault) → FaultAt text fault.kind fault.at → verdict ≡ Malformed fault → after ≡ repo → Takes repo text policy verdict after
-  no_memory : verdict ≡ Refused NoMemory → after ≡ repo → Takes repo text policy verdict after
+-- What taking a text does that is read within these limits: its bundle is taken; or it has a fault, or memory runs out, and the
+-- repository stays as it was.
+pub data TakesWithin (limits : Limits) (repo : List Patch) (text : List ℕ) (policy : Policy) (verdict : Verdict) (after : List Patch) : Type 0 where
+  bundle : (b : Contents) → ReadsWithin limits text b → TakesBundle repo b policy verdict after → TakesWithin limits repo text policy verdict after
+  malformed : (fault : ReadFault) → FaultWithin limits text fault.kind fault.at → verdict ≡ Malformed fault → after ≡ repo
+      → TakesWithin limits repo text policy verdict after
+  no_memory : verdict ≡ Refused NoMemory → after ≡ repo → TakesWithin limits repo text policy verdict after
+
+-- what taking a text does that is read within the standard limits
+abbrev pub Takes : List Patch → List ℕ → Policy → Verdict → List Patch → Type 0
+Takes repo text policy verdict after = TakesWithin standard repo text policy verdict after
 
 -- texts are taken under one policy, one after the other, each into the repository that the one before it left
 abbrev pub TakesEach : List Patch → List (List ℕ) → Policy → List Verdict → List Patch → Type 0

@@ -1,10 +1,11 @@
 //! Taking texts into a repository.
 ghost use Rattle.std.specs.Prelude.{◌≡◌, IfOk, IfErr, length, map};
-ghost use Rattle.dm_scratch.specs.Taking.{Takes, TakesBundle, TakesEach};
+ghost use Rattle.dm_scratch.specs.Taking.{Takes, TakesBundle, TakesEach, TakesWithin};
 
 use crate::verdict::Verdict;
 use bumpalo::Bump;
-use dm_bundle::{Bundle, read_bundle};
+use dm_bundle::{Bundle, read_bundle, read_bundle_within};
+use dm_named::Limits;
 use dm_repo::{Policy, Refusal, Repo, Weighed, weigh_owned};
 use std::alloc::Allocator;
 
@@ -24,6 +25,50 @@ fn take_bundle<A: Allocator + Copy, B: Allocator + Copy>(
             let ready = repo.prepare(&merged)?;
             Ok(Verdict::of_counts(repo.commit(ready), merged.skipped))
         }
+    }
+}
+
+/// The same of a bundle that was read in the repository's own memory: its patches are moved.
+fn take_owned<A: Allocator + Copy>(
+    repo: &mut Repo<A>,
+    alloc: A,
+    bundle: Bundle<A>,
+    policy: Policy,
+) -> Result<Verdict, Refusal>
+    ensures ok { IfOk result (λ verdict. TakesBundle repo.old.patches bundle policy verdict repo.new.patches) }
+    ensures err { IfErr result (λ why. TakesBundle repo.old.patches bundle policy (Verdict.Refused why) repo.new.patches) }
+{
+    match weigh_owned(alloc, repo, bundle, policy)? {
+        Weighed::NothingNew => Ok(Verdict::NothingNew),
+        Weighed::Merged(merged) => {
+            let skipped = merged.skipped;
+            let ready = repo.prepare_owned(merged)?;
+            Ok(Verdict::of_counts(repo.commit(ready), skipped))
+        }
+    }
+}
+
+/// Takes the bundle of a text that is read within these limits, without an arena: all that the text and the trial need is made
+/// in the memory of the repository, whose allocator `alloc` is.
+///
+/// So no patch is held twice, which counts for a text as long as a repository. [`take`] is for texts that come one after the
+/// other: there the arena's memory is used again.
+pub fn take_within<A: Allocator + Copy>(
+    repo: &mut Repo<A>,
+    alloc: A,
+    text: &[u8],
+    limits: Limits,
+    policy: Policy,
+) -> Verdict
+    ensures { TakesWithin limits repo.old.patches text.now policy result repo.new.patches }
+{
+    let bundle = match read_bundle_within(alloc, text, limits) {
+        Ok(bundle) => bundle,
+        Err(fault) => return Verdict::unread(fault),
+    };
+    match take_owned(repo, alloc, bundle, policy) {
+        Ok(verdict) => verdict,
+        Err(refusal) => Verdict::Refused(refusal),
     }
 }
 

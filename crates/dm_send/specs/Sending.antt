@@ -111,12 +111,12 @@ pub record SendsMinimal (repo : List Patch) (theirs : List PatchInfo) (most : �
   -- a repository of exactly what is shared takes it, and has then the same patches behind that
   pub is_taken : TakesAs shared b new
 
--- it can't be divided: a shared patch depends on one that isn't, or the shared ones by themselves make a path too deep; memory may run out at any time
+-- it can't be divided: a shared patch depends on one that isn't, or an empty repository refuses the shared ones; memory may run out at any time
 abbrev pub RefusesToDivide : List Patch → List PatchInfo → Refusal → Type 0
 RefusesToDivide repo theirs Full = (front : List Placed) × (rest : List Placed) × IsSplitFor repo theirs front rest × IsRefused [] (just (patches front))
 RefusesToDivide repo theirs why = RefusesToSplitFor repo theirs why
 
--- nothing is sent: it can't be divided; or a path goes too deep, so that a repository of the shared patches refuses the bundle
+-- nothing is sent: it can't be divided; or a repository of the shared patches refuses the bundle
 abbrev pub RefusesToSend : List Patch → List PatchInfo → ℕ → Refusal → Type 0
 RefusesToSend repo theirs most Full =
     RefusesToDivide repo theirs Full ⊎

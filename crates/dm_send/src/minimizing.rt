@@ -12,7 +12,7 @@ use std::alloc::{AllocError, Allocator};
 /// New patches, and what they need.
 #[derive(Drop)]
 pub(crate) struct Minimal<A: Allocator> {
-    /// The shared patches that the new ones can't do without, as they stand alone.
+    /// The shared patches that can't pass what is needed behind them and the new ones, as they stand alone.
     pub(crate) needed: Vec<Named<A>, A>,
     /// The new patches, as they stand behind these.
     pub(crate) sent: Vec<Named<A>, A>,
@@ -50,7 +50,7 @@ fn pass_unchanged<A: Allocator + Copy>(
     Ok(unchanged)
 }
 
-/// Whether `patch` passes `next`, which stands behind it, and stays as it is.
+/// Whether `patch` passes `next`, which stands behind it. `next` stays as it is; `patch` is then as it stands behind `next`.
 fn would_pass<A: Allocator + Copy>(
     alloc: A,
     patch: &mut Passing<A>,
@@ -69,7 +69,7 @@ fn would_pass<A: Allocator + Copy>(
     Ok(passes)
 }
 
-/// Whether `patch` passes all of `row`, which stands behind it, and stays as it is.
+/// Whether `patch` passes all of `row`, which stands behind it. `row` stays as it is; `patch` is then as it stands behind it.
 fn would_pass_all<A: Allocator + Copy>(
     alloc: A,
     patch: &mut Passing<A>,

@@ -134,7 +134,8 @@ fn accepted<B: Allocator + Copy>(
 ///
 /// What both hold are the patches of these names, and what those name as dependencies; a name that isn't held is passed over.
 /// It refuses with [`Refusal::ContextDepends`] where such a patch can't do without one that they don't hold, and with
-/// [`Refusal::Full`] where a path gets too many names: then a repository of what both hold refuses the bundle too.
+/// [`Refusal::Full`] where a repository of what both hold can't be made, or refuses the bundle. The contract doesn't say why it
+/// would; the one cause that we know is a path of too many names.
 pub fn send<A: Allocator + Copy, B: Allocator + Copy>(
     alloc: B,
     repo: &Repo<A>,
@@ -151,8 +152,8 @@ pub fn send<A: Allocator + Copy, B: Allocator + Copy>(
 }
 
 /// The same bundle, with no more context than it needs (`darcs send --minimize`): of the shared patches, from the last to the
-/// first, each is left out that passes those kept behind it and the new ones; so none is that one of these names. The new
-/// patches are as they stand behind what is kept.
+/// first, each is left out that passes those kept behind it and the new ones. One that any of these names as a dependency
+/// passes none of them, so it is kept. The new patches are as they stand behind what is kept.
 ///
 /// It refuses as [`send`] does.
 pub fn send_minimal<A: Allocator + Copy, B: Allocator + Copy>(

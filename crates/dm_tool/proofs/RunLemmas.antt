@@ -1,6 +1,7 @@
 -- What is printed of a run's posters.
 use Rattle.std.proofs.Common.{◌≡◌, ℕ, suc, ◌+◌, List, [], ◌∷◌, ◌++◌, length, map, take, slice_index_or, length-take-le, ◌<◌, sym, ap, ◌∙◌, arith, subst, ◌⊎◌, inl, inr, append_assoc, append-nil}
 use Rattle.std.proofs.lemmas.List.{length-map, map_more}
+use Rattle.dm_named.specs.declared.limits.Limits.{Limits}
 use Rattle.dm_repo.specs.declared.policy.Policy.{Policy}
 use Rattle.dm_mirror.specs.declared.plan.PlanFault.{PlanFault}
 use Rattle.dm_mirror.specs.Plans.{IsFirstFault}
@@ -43,6 +44,6 @@ posters_step name out before new xs i d l so_far is =
     is ∙ (ap (λ t. t ++ poster_line i x) so_far ∙ (append_assoc out (posters_text 0 names) (poster_line i x) ∙ ap (λ t. out ++ t) line))
 
 -- the fault of a plan that is reported is the first of the texts that were handed in
-pub bad_plan : (ts us : List (List (List ℕ))) (bases : List (List ℕ)) (policies : List Policy) (bound : ℕ) (f : PlanFault) (e : ToolFault) → ts ≡ us → IsFirstFault ts bases policies bound f → (e ≡ NoMemory) ⊎ (e ≡ BadPlan f) →
-    (fault : PlanFault) → e ≡ BadPlan fault → IsFirstFault us bases policies bound fault
-bad_plan ts us bases policies bound f e same is from = of_plan (IsFirstFault us bases policies bound) f e (subst (λ t. IsFirstFault t bases policies bound f) same is) from
+pub bad_plan : (limits : Limits) (ts us : List (List (List ℕ))) (bases : List (List ℕ)) (policies : List Policy) (bound : ℕ) (f : PlanFault) (e : ToolFault) → ts ≡ us → IsFirstFault limits ts bases policies bound f → (e ≡ NoMemory) ⊎ (e ≡ BadPlan f) →
+    (fault : PlanFault) → e ≡ BadPlan fault → IsFirstFault limits us bases policies bound fault
+bad_plan limits ts us bases policies bound f e same is from = of_plan (IsFirstFault limits us bases policies bound) f e (subst (λ t. IsFirstFault limits t bases policies bound f) same is) from

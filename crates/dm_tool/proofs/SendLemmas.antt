@@ -3,6 +3,7 @@ use Rattle.std.proofs.Common.{◌≡◌, ◌≢◌, ◌⊎◌, ◌+◌, ℕ, Boo
 use Rattle.dm_info.specs.PatchInfo.{PatchInfo}
 use Rattle.dm_named.specs.declared.fault.FaultKind.TheVariants as kind
 use Rattle.dm_named.specs.declared.fault.ReadFault.{ReadFault}
+use Rattle.dm_named.specs.declared.limits.Limits.{Limits}
 use Rattle.dm_named.specs.Patches.{Patch}
 use Rattle.dm_repo.specs.Repositories.{Holds}
 use Rattle.dm_send.specs.Sending.{Parts, no_names, inside, outside}
@@ -40,19 +41,19 @@ pub unheld_more : (repo : List Patch) (names : List PatchInfo) (i : PatchInfo) (
 unheld_more repo names i count h c = (c.0, c.1 ++ i ∷ [], outside_more i h c.2, omega (arith, c.3, length-append c.1 (i ∷ [])))
 
 -- why there is no answer, by why there are no names, or no bundle
-pub by_names : (is_minimal : Bool) (mine theirs : List ℕ) (most : ℕ) (e : ToolFault) (repo : List Patch) → IsBase mine repo → RefusesNames theirs e
-    → RefusesTexts is_minimal mine theirs most e
-by_names is_minimal mine theirs most NoMemory repo base h = tt
-by_names is_minimal mine theirs most (BadNames fault) repo base h = (repo, base, h)
-by_names is_minimal mine theirs most Read repo base h = absurd h
-by_names is_minimal mine theirs most Write repo base h = absurd h
-by_names is_minimal mine theirs most (BadBase v) repo base h = absurd h
-by_names is_minimal mine theirs most TooManyToSend repo base h = absurd h
-by_names is_minimal mine theirs most (BadPlan fault) repo base h = absurd h
-by_names is_minimal mine theirs most NoThread repo base h = absurd h
+pub by_names : (is_minimal : Bool) (limits : Limits) (mine theirs : List ℕ) (most : ℕ) (e : ToolFault) (repo : List Patch) → IsBase limits mine repo → RefusesNames theirs e
+    → RefusesTexts is_minimal limits mine theirs most e
+by_names is_minimal limits mine theirs most NoMemory repo base h = tt
+by_names is_minimal limits mine theirs most (BadNames fault) repo base h = (repo, base, h)
+by_names is_minimal limits mine theirs most Read repo base h = absurd h
+by_names is_minimal limits mine theirs most Write repo base h = absurd h
+by_names is_minimal limits mine theirs most (BadBase v) repo base h = absurd h
+by_names is_minimal limits mine theirs most TooManyToSend repo base h = absurd h
+by_names is_minimal limits mine theirs most (BadPlan fault) repo base h = absurd h
+by_names is_minimal limits mine theirs most NoThread repo base h = absurd h
 
-pub by_bundle : (is_minimal : Bool) (mine theirs : List ℕ) (most : ℕ) (e : ToolFault) (repo : List Patch) (names : List PatchInfo)
-    → IsBase mine repo → TellsNames theirs names → (e ≡ NoMemory) ⊎ ((e ≡ TooManyToSend) × IsPastLimits is_minimal repo names most)
-    → RefusesTexts is_minimal mine theirs most e
-by_bundle is_minimal mine theirs most e repo names base tells (inl x) = rw x tt
-by_bundle is_minimal mine theirs most e repo names base tells (inr x) = rw x.0 (repo, names, base, tells, x.1)
+pub by_bundle : (is_minimal : Bool) (limits : Limits) (mine theirs : List ℕ) (most : ℕ) (e : ToolFault) (repo : List Patch) (names : List PatchInfo)
+    → IsBase limits mine repo → TellsNames theirs names → (e ≡ NoMemory) ⊎ ((e ≡ TooManyToSend) × IsPastLimits is_minimal repo names most)
+    → RefusesTexts is_minimal limits mine theirs most e
+by_bundle is_minimal limits mine theirs most e repo names base tells (inl x) = rw x tt
+by_bundle is_minimal limits mine theirs most e repo names base tells (inr x) = rw x.0 (repo, names, base, tells, x.1)

@@ -1,7 +1,7 @@
 -- What `dm apply` answers.
 use Rattle.std.specs.Prelude.{◌≡◌, ◌≢◌, ℕ, Bool, true, false, List, [], ◌++◌, Option, MatchOption}
-use Rattle.std.specs.Borrow.{Bor}
 use Rattle.dm_tree.specs.Trees.{Tree}
+use Rattle.dm_named.specs.declared.limits.Limits.{Limits}
 use Rattle.dm_named.specs.Patches.{Patch}
 use Rattle.dm_bundle.specs.Canonical.{bundle_text}
 use Rattle.dm_repo.specs.declared.policy.Policy.{Policy}
@@ -10,30 +10,36 @@ use Rattle.dm_repo.specs.declared.refusal.Refusal.TheVariants as refusals
 use Rattle.dm_repo.specs.Repositories.{IsTreeOf}
 use Rattle.dm_scratch.specs.declared.verdict.Verdict.{Verdict}
 use Rattle.dm_scratch.specs.declared.verdict.Verdict.TheVariants.{Refused}
-use Rattle.dm_scratch.specs.Taking.{Takes, IsAccepted}
+use Rattle.dm_scratch.specs.Taking.{Takes, TakesWithin, IsAccepted}
 use Rattle.dm_scratch.specs.Words.{verdict_text}
 use Rattle.dm_tool.specs.declared.apply.Applied.{Applied}
+use Rattle.dm_tool.specs.declared.base.Base.{Base}
 use Rattle.dm_tool.specs.declared.fault.ToolFault.{ToolFault}
 use Rattle.dm_tool.specs.declared.fault.ToolFault.TheVariants.{NoMemory, BadBase}
 use Rattle.dm_scratch.specs.Printing.{line_of, listing_text}
 use Rattle.dm_tool.specs.Streams.{Gives}
 use Rattle.dm_tool.specs.Printing.{status_of}
 
--- the base's text is taken into an empty repository, where conflicts are refused, and that then holds these patches
-pub record IsBase (text : List ℕ) (repo : List Patch) : Type 0 where
+-- the base's text, read within these limits, is taken into an empty repository, where conflicts are refused, and that then holds these patches
+pub record IsBase (limits : Limits) (text : List ℕ) (repo : List Patch) : Type 0 where
   pub verdict : Verdict
   pub accepted : IsAccepted verdict
-  pub takes : Takes [] text Refuse verdict repo
+  pub takes : TakesWithin limits [] text Refuse verdict repo
 
 -- the repository that is begun with: an empty one where there is no base, else the one that has taken its text
-abbrev pub IsStart : Option (Bor (List ℕ)) → List Patch → Type 0
-IsStart base repo = MatchOption base (repo ≡ []) (λ b. IsBase b.now repo)
+abbrev pub IsStart : Option Base → List Patch → Type 0
+IsStart base repo = MatchOption base (repo ≡ []) (λ b. IsBase b.limits b.text.now repo)
 
--- the base's text isn't taken: memory ran out, or this verdict
-abbrev pub RefusesBase : List ℕ → ToolFault → Type 0
-RefusesBase text NoMemory = Unit {0}
-RefusesBase text (BadBase verdict) = (IsAccepted verdict → ⊥) × (verdict ≢ Refused refusals.NoMemory) × Takes [] text Refuse verdict []
-RefusesBase text other = ⊥
+-- the base's text, read within these limits, isn't taken: memory ran out, or this verdict
+abbrev pub RefusesBase : Limits → List ℕ → ToolFault → Type 0
+RefusesBase limits text NoMemory = Unit {0}
+RefusesBase limits text (BadBase verdict) =
+    (IsAccepted verdict → ⊥) × (verdict ≢ Refused refusals.NoMemory) × TakesWithin limits [] text Refuse verdict []
+RefusesBase limits text other = ⊥
+
+-- there is a base, and it isn't taken
+abbrev pub RefusesStart : Option Base → ToolFault → Type 0
+RefusesStart base e = MatchOption base ⊥ (λ b. RefusesBase b.limits b.text.now e)
 
 -- what is shown of a repository: its canonical bundle with an empty context, or the listing of its tree
 abbrev pub Shows : Bool → List Patch → List ℕ → Type 0
@@ -55,7 +61,7 @@ pub record Answers (repo : List Patch) (as_bundle : Bool) (policy : Policy) (tex
   pub exit : status ≡ status_of verdict
 
 -- so is the text that the reader gave, taken into the repository that this base makes
-pub record AnswersInput (base : Option (Bor (List ℕ))) (as_bundle : Bool) (policy : Policy) (before after : Option (List ℕ)) (out : List ℕ) (status : ℕ) : Type 0 where
+pub record AnswersInput (base : Option Base) (as_bundle : Bool) (policy : Policy) (before after : Option (List ℕ)) (out : List ℕ) (status : ℕ) : Type 0 where
   pub start : List Patch
   pub text : List ℕ
   pub is_start : IsStart base start
@@ -63,7 +69,7 @@ pub record AnswersInput (base : Option (Bor (List ℕ))) (as_bundle : Bool) (pol
   pub answers : Answers start as_bundle policy text out status
 
 -- what is told of it: the text that the reader gave was taken into the repository that this base makes, with this verdict, and left this repository
-pub record IsApplied (base : Option (Bor (List ℕ))) (policy : Policy) (before after : Option (List ℕ)) (applied : Applied) : Type 0 where
+pub record IsApplied (base : Option Base) (policy : Policy) (before after : Option (List ℕ)) (applied : Applied) : Type 0 where
   pub start : List Patch
   pub is_start : IsStart base start
   pub gives : Gives before after applied.text.items

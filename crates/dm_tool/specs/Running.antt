@@ -2,6 +2,7 @@
 use Rattle.std.specs.Prelude.{◌≡◌, ◌⊎◌, ℕ, suc, List, [], ◌∷◌, ◌++◌, codes, map}
 use Rattle.std.specs.Borrow.{Bor}
 use Rattle.std.specs.Fmt.{decimal}
+use Rattle.dm_named.specs.declared.limits.Limits.{Limits}
 use Rattle.dm_named.specs.Patches.{Patch}
 use Rattle.dm_repo.specs.declared.policy.Policy.{Policy}
 use Rattle.dm_scratch.specs.Printing.{line_of}
@@ -40,12 +41,12 @@ posters_text n (name ∷ names) = poster_line n name ++ posters_text (suc n) nam
 abbrev pub IsStatusOf : Outcome → ℕ → Type 0
 IsStatusOf o status = (AllAccepted o × (status ≡ 0)) ⊎ ((AllAccepted o → ⊥) × (status ≡ 1))
 
--- a run of posters of these names, which send these texts, to mirrors of these bases and policies, at each of which so many mails may wait, is
--- answered by these bytes and this exit status
-pub record RunsTo (names : List (List ℕ)) (texts : List (List (List ℕ))) (bases : List (List ℕ)) (policies : List Policy) (bound : ℕ) (out : List ℕ) (status : ℕ) : Type 0 where
+-- a run of posters of these names, which send these texts, to mirrors of these bases, read within these limits, and of these policies, at each of
+-- which so many mails may wait, is answered by these bytes and this exit status
+pub record RunsTo (names : List (List ℕ)) (texts : List (List (List ℕ))) (bases : List (List ℕ)) (limits : Limits) (policies : List Policy) (bound : ℕ) (out : List ℕ) (status : ℕ) : Type 0 where
   pub plannable : IsPlannable texts bases policies bound
   pub starts : List (List Patch)
-  pub are_starts : AreStarts bases starts
+  pub are_starts : AreStarts limits bases starts
   pub outcome : Outcome
   pub is_run : IsRunOf texts starts policies outcome
   pub report : List ℕ
@@ -53,9 +54,10 @@ pub record RunsTo (names : List (List ℕ)) (texts : List (List (List ℕ))) (ba
   pub bytes : out ≡ posters_text 0 names ++ report
   pub exit : IsStatusOf outcome status
 
--- what is told of it: a run of posters that send these texts, to mirrors of these bases and policies, left this outcome
-pub record IsRan (texts : List (List (List ℕ))) (bases : List (List ℕ)) (policies : List Policy) (ran : Ran) : Type 0 where
+-- what is told of it: a run of posters that send these texts, to mirrors of these bases, read within these limits, and of these policies, left this
+-- outcome
+pub record IsRan (texts : List (List (List ℕ))) (bases : List (List ℕ)) (limits : Limits) (policies : List Policy) (ran : Ran) : Type 0 where
   pub starts : List (List Patch)
-  pub are_starts : AreStarts bases starts
+  pub are_starts : AreStarts limits bases starts
   pub is_run : IsRunOf texts starts policies ran.outcome
   pub exit : IsStatusOf ran.outcome ran.status

@@ -1,6 +1,7 @@
 -- What `dm send` answers.
 use Rattle.std.specs.Prelude.{◌≡◌, ◌≢◌, ℕ, Bool, true, false, List, length, Option, MatchOption}
 use Rattle.dm_info.specs.PatchInfo.{PatchInfo}
+use Rattle.dm_named.specs.declared.limits.Limits.{Limits}
 use Rattle.dm_named.specs.Patches.{Patch}
 use Rattle.dm_bundle.specs.Bundles.{Contents}
 use Rattle.dm_bundle.specs.Canonical.{bundle_text}
@@ -47,11 +48,11 @@ pub data AnswersNames (is_minimal : Bool) (repo : List Patch) (names : List Patc
   refused : (why : Refusal) → IsRefusedFor is_minimal repo names most why → out ≡ line_of (verdict_text (Refused why)) → status ≡ 1
       → AnswersNames is_minimal repo names most out status
 
--- so is it to somebody of whom a text tells what they hold, from the repository that a base's text makes
-pub record AnswersTexts (is_minimal : Bool) (mine theirs : List ℕ) (most : ℕ) (out : List ℕ) (status : ℕ) : Type 0 where
+-- so is it to somebody of whom a text tells what they hold, from the repository that a base's text makes, read within these limits
+pub record AnswersTexts (is_minimal : Bool) (limits : Limits) (mine theirs : List ℕ) (most : ℕ) (out : List ℕ) (status : ℕ) : Type 0 where
   pub repo : List Patch
   pub names : List PatchInfo
-  pub is_base : IsBase mine repo
+  pub is_base : IsBase limits mine repo
   pub tells : TellsNames theirs names
   pub answers : AnswersNames is_minimal repo names most out status
 
@@ -71,10 +72,10 @@ pub record TellsNumbers (is_minimal : Bool) (repo : List Patch) (names : List Pa
   pub unheld : CountsUnheld repo names sent.unheld
 
 -- so it is of the answer to two texts
-pub record TellsTexts (is_minimal : Bool) (mine theirs : List ℕ) (most : ℕ) (sent : Sent) : Type 0 where
+pub record TellsTexts (is_minimal : Bool) (limits : Limits) (mine theirs : List ℕ) (most : ℕ) (sent : Sent) : Type 0 where
   pub repo : List Patch
   pub names : List PatchInfo
-  pub is_base : IsBase mine repo
+  pub is_base : IsBase limits mine repo
   pub tells : TellsNames theirs names
   pub numbers : TellsNumbers is_minimal repo names most sent
 
@@ -89,10 +90,10 @@ abbrev pub IsPastLimits : Bool → List Patch → List PatchInfo → ℕ → Typ
 IsPastLimits is_minimal repo names most = (b : Contents) × SendsFor is_minimal repo names most b × (IsWithinLimits b → ⊥)
 
 -- Why there is no answer to two texts: memory ran out; or the base isn't taken; or it is, and then the other tells no names, or the bundle is past a limit.
-abbrev pub RefusesTexts : Bool → List ℕ → List ℕ → ℕ → ToolFault → Type 0
-RefusesTexts is_minimal mine theirs most NoMemory = Unit {0}
-RefusesTexts is_minimal mine theirs most (BadBase verdict) = RefusesBase mine (BadBase verdict)
-RefusesTexts is_minimal mine theirs most (BadNames fault) = (repo : List Patch) × IsBase mine repo × IsNamesFault theirs fault
-RefusesTexts is_minimal mine theirs most TooManyToSend =
-    (repo : List Patch) × (names : List PatchInfo) × IsBase mine repo × TellsNames theirs names × IsPastLimits is_minimal repo names most
-RefusesTexts is_minimal mine theirs most other = ⊥
+abbrev pub RefusesTexts : Bool → Limits → List ℕ → List ℕ → ℕ → ToolFault → Type 0
+RefusesTexts is_minimal limits mine theirs most NoMemory = Unit {0}
+RefusesTexts is_minimal limits mine theirs most (BadBase verdict) = RefusesBase limits mine (BadBase verdict)
+RefusesTexts is_minimal limits mine theirs most (BadNames fault) = (repo : List Patch) × IsBase limits mine repo × IsNamesFault theirs fault
+RefusesTexts is_minimal limits mine theirs most TooManyToSend =
+    (repo : List Patch) × (names : List PatchInfo) × IsBase limits mine repo × TellsNames theirs names × IsPastLimits is_minimal repo names most
+RefusesTexts is_minimal limits mine theirs most other = ⊥

@@ -1,11 +1,12 @@
 //! The command `dm apply`.
-ghost use Rattle.std.specs.Prelude.{◌≡◌, ◌≢◌, ◌⊎◌, List, IfOk, IfErr, MatchOption};
+ghost use Rattle.std.specs.Prelude.{◌≡◌, ◌≢◌, ◌⊎◌, List, IfOk, IfErr};
 ghost use Rattle.std.specs.Io.KnownBytes.{Keeps};
 ghost use Rattle.dm_named.specs.Patches.{Patch};
 ghost use Rattle.dm_scratch.specs.declared.verdict.Verdict.{Verdict};
 ghost use Rattle.dm_tool.specs.Streams.{Writes, WritesPrefix};
-ghost use Rattle.dm_tool.specs.Applying.{AnswersInput, IsApplied, IsStart, RefusesBase};
+ghost use Rattle.dm_tool.specs.Applying.{AnswersInput, IsApplied, IsStart, RefusesStart};
 
+use crate::base::{Base, repo_of};
 use crate::fault::ToolFault;
 use crate::print::answer_text;
 use crate::status::status_of;
@@ -15,26 +16,6 @@ use dm_repo::{Policy, Repo};
 use dm_scratch::{Verdict, take};
 use std::alloc::Global;
 use std::io::{Read, Write};
-
-/// The repository that a base's text makes, where a conflict refuses it, or an empty one.
-pub(crate) fn repo_of(
-    alloc: Global,
-    arena: &mut Bump,
-    base: Option<&[u8]>,
-) -> Result<Repo<Global>, ToolFault>
-    ensures ok { IfOk result (λ repo. IsStart base.entry repo.patches) }
-    ensures err { IfErr result (λ e. MatchOption base.entry ⊥ (λ text. RefusesBase text.now e)) }
-{
-    let mut repo = Repo::new(alloc);
-    let Some(text) = base else {
-        return Ok(repo);
-    };
-    let verdict = take(&mut repo, arena, text, Policy::Refuse);
-    if verdict.is_accepted() {
-        return Ok(repo);
-    }
-    Err(ToolFault::of_base(verdict))
-}
 
 /// What `dm apply` answered.
 #[derive(Drop)]
@@ -49,7 +30,7 @@ pub struct Applied {
     pub repo: Repo<Global>,
 }
 
-/// Reads a bundle, takes it under a policy into the repository that a base's text makes, or into an empty one, and writes the
+/// Reads a bundle, takes it under a policy into the repository that a base makes, or into an empty one, and writes the
 /// verdict's line with the listing of the repository's tree, or `as_bundle` with the canonical bundle of all its patches.
 /// Returns the exit status, 0 where all of the bundle was taken or it brought nothing new, else 1, with what it tells.
 ///
@@ -58,7 +39,7 @@ pub struct Applied {
 /// [`ToolFault::Write`]. Only after the last has anything been written, which is a prefix of the output.
 pub fn apply_over<R: Read, W: Write>(
     alloc: Global,
-    base: Option<&[u8]>,
+    base: Option<Base<'_>>,
     as_bundle: bool,
     policy: Policy,
     reader: &mut R,
@@ -69,15 +50,15 @@ pub fn apply_over<R: Read, W: Write>(
     ensures told { IfOk result (IsApplied base.entry policy (R.remaining reader.old) (R.remaining reader.new)) }
     ensures base_first { IfErr result (λ e. ((e ≢ ToolFault.Read) × (R.remaining reader.new ≡ R.remaining reader.old)) ⊎
         ((start : List Patch) × IsStart base.entry start)) }
-    ensures bad_base { IfErr result (λ e. (v : Verdict) → (e ≡ ToolFault.BadBase v) → MatchOption base.entry ⊥ (λ b. RefusesBase b.now e)) }
+    ensures bad_base { IfErr result (λ e. (v : Verdict) → (e ≡ ToolFault.BadBase v) → RefusesStart base.entry e) }
     ensures unread { IfErr result (λ e. (v : Verdict) → (e ≡ ToolFault.BadBase v) → R.remaining reader.new ≡ R.remaining reader.old) }
     ensures silent { IfErr result (λ e. (e ≢ ToolFault.Write) → Keeps (W.contents writer.old) (W.contents writer.new)) }
     ensures prefix { IfErr result (λ e. (e ≡ ToolFault.Write) →
         WritesPrefix (AnswersInput base.entry as_bundle policy (R.remaining reader.old) (R.remaining reader.new))
         (W.contents writer.old) (W.contents writer.new)) }
 {
+    let mut repo = repo_of(alloc, base)?;
     let mut arena = Bump::new(alloc);
-    let mut repo = repo_of(alloc, &mut arena, base)?;
     let text = read_text(alloc, reader)?;
     let verdict = take(&mut repo, &mut arena, &text, policy);
     let answer = answer_text(alloc, verdict, &repo, as_bundle)?;

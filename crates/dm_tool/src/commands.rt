@@ -1,14 +1,16 @@
 //! The words of the command line, and what they start.
 use crate::apply::apply_over;
+use crate::base::Base;
 use crate::check::check_over;
 use crate::colour::{Colour, colour_of};
 use crate::explaining::{explain_applied, explain_unread};
 use crate::fault::ToolFault;
-use crate::files::{WordFault, read_file};
+use crate::files::{BaseFile, WordFault, read_base, read_file};
 use crate::plan_words::{policy_of, run_plan};
 use crate::send::{Sent, send_over};
 use clap::error::ErrorKind;
 use clap::{Arg, ArgAction, ArgMatches, Command, Error, value_parser};
+use dm_named::Limits;
 use std::alloc::{AllocError, Global};
 use std::rt::Runtime;
 use std::sync::Wait;
@@ -27,6 +29,16 @@ fn file<'a>(alloc: Global, name: &'a str, help: &'a str) -> Arg<'a> {
         .long(name)
         .value_name("FILE")
         .help(help)
+}
+
+/// The word that names a repository of one's own.
+fn repository<'a>(alloc: Global) -> Result<Arg<'a>, AllocError> {
+    file(
+        alloc,
+        "repository",
+        "The same for a repository of your own: up to 100,000 patches in 1 GiB",
+    )
+    .conflicts_with("base")
 }
 
 /// The word that asks for a bundle.
@@ -99,6 +111,7 @@ fn apply_words<'a>(alloc: Global) -> Result<Command<'a>, AllocError> {
             "Take the patch bundle on standard input; print the verdict and the listing of the tree",
         )
         .arg(file(alloc, "base", "Take the bundle of FILE first"))?
+        .arg(repository(alloc)?)?
         .arg(bundle(alloc))?
         .arg(explain(alloc))?
         .arg(skip(alloc))
@@ -129,6 +142,7 @@ fn run_words<'a>(alloc: Global) -> Result<Command<'a>, AllocError> {
         ))?
         .arg(number(alloc, "bound", "B", waiting))?
         .arg(file(alloc, "base", start))?
+        .arg(repository(alloc)?)?
         .arg(explain(alloc))?
         .arg(skip(alloc))?
         .arg(posters(alloc))
@@ -141,7 +155,8 @@ fn send_words<'a>(alloc: Global) -> Result<Command<'a>, AllocError> {
     let theirs = "What they hold: the patches that the bundle or the context of FILE names";
     Command::new(alloc, "send")
         .about("Print the bundle of the patches that somebody lacks")
-        .arg(file(alloc, "base", mine).required(true))?
+        .arg(file(alloc, "base", mine).required_unless_present("repository")?)?
+        .arg(repository(alloc)?)?
         .arg(first(alloc))?
         .arg(minimal(alloc))?
         .arg(file(alloc, "to", theirs).required(true))
@@ -192,36 +207,40 @@ fn check<'a, R: Runtime + AllocGlobal>(
     Ok(checked.status)
 }
 
+/// The base that a file is, if there is one.
+fn base_of(file: &Option<BaseFile>) -> Option<Base<'_>> {
+    match file {
+        Some(file) => Some(file.base()),
+        None => None,
+    }
+}
+
 /// `dm apply`: the base is read before standard input.
 fn apply<'a, R: Runtime + AllocGlobal>(
     rt: &R,
     colour: Colour,
     words: &ArgMatches<'a>,
 ) -> Result<u8, WordFault<'a>> {
-    let base = match words.get_str("base") {
-        Some(name) => Some(read_file(rt, name)?),
-        None => None,
-    };
+    let file = read_base(rt, words)?;
     let as_bundle = words.get_flag("bundle");
     let policy = policy_of(words);
     let mut reader = rt.reader();
     let mut writer = io::writer(rt);
     let applied = apply_over(
         rt.alloc(),
-        base.as_deref(),
+        base_of(&file),
         as_bundle,
         policy,
         &mut reader,
         &mut writer,
     )?;
     if words.get_flag("explain") {
-        let base = base.as_deref().unwrap_or(&[]);
-        explain_applied(rt, colour, base, policy, &applied);
+        explain_applied(rt, colour, base_of(&file), policy, &applied);
     }
     Ok(applied.status)
 }
 
-/// Says on standard error how many names of theirs were passed over, and that nothing is sent.
+/// Says on standard error how many names of theirs were passed over, and that nothing is sent or that a refusal was printed.
 fn say_sent<R: Runtime + AllocGlobal>(rt: &R, sent: &Sent) {
     let unheld = sent.unheld;
     let _ = match unheld {
@@ -229,22 +248,33 @@ fn say_sent<R: Runtime + AllocGlobal>(rt: &R, sent: &Sent) {
         1 => eprintln!(rt; "dm: passed over 1 patch that isn't held here"),
         _ => eprintln!(rt; "dm: passed over {unheld} patches that aren't held here"),
     };
-    if sent.new == Some(0) {
-        let _ = eprintln!(rt; "dm: nothing to send");
-    }
+    let _ = match sent.new {
+        Some(0) => eprintln!(rt; "dm: nothing to send"),
+        Some(_) => Ok(()),
+        None => eprintln!(rt; "dm: no bundle was made"),
+    };
 }
 
 /// `dm send`: the base is read before what they hold.
 fn send<'a, R: Runtime + AllocGlobal>(rt: &R, words: &ArgMatches<'a>) -> Result<u8, WordFault<'a>> {
-    let mine = read_file(rt, words.get_str("base").unwrap_or(""))?;
-    let theirs = read_file(rt, words.get_str("to").unwrap_or(""))?;
+    let Some(mine) = read_base(rt, words)? else {
+        return Ok(NO_ANSWER);
+    };
+    let theirs = read_file(rt, words.get_str("to").unwrap_or(""), Limits::STANDARD)?;
     let most = match words.get_one::<u32>("first") {
         Some(most) => most as usize,
         None => usize::MAX,
     };
     let is_minimal = words.get_flag("minimal");
     let mut writer = io::writer(rt);
-    let sent = send_over(rt.alloc(), &mine, &theirs, most, is_minimal, &mut writer)?;
+    let sent = send_over(
+        rt.alloc(),
+        mine.base(),
+        &theirs,
+        most,
+        is_minimal,
+        &mut writer,
+    )?;
     say_sent(rt, &sent);
     Ok(sent.status)
 }

@@ -4,6 +4,7 @@ ghost use Rattle.std.specs.Prelude.{◌<◌};
 ghost use Rattle.dm_mirror.specs.Runs.{mirror_count};
 
 use crate::apply::Applied;
+use crate::base::{Base, repo_of};
 use crate::check::Unread;
 use crate::colour::{Colour, say};
 use bumpalo::Bump;
@@ -24,19 +25,6 @@ pub fn explain_unread<R: Runtime + AllocGlobal>(rt: &R, colour: Colour, unread: 
     }
     let malformed = Malformed::new(&unread.text, unread.fault);
     say(rt, colour, &malformed);
-}
-
-/// Takes the text of a base, unless it is empty, into a repository that is empty.
-fn take_base<R: Runtime + AllocGlobal>(
-    rt: &R,
-    arena: &mut Bump,
-    base: &[u8],
-) -> Option<Repo<Global>> {
-    let mut repo = Repo::new(rt.alloc());
-    if base.is_empty() || take(&mut repo, arena, base, Policy::Refuse).is_accepted() {
-        return Some(repo);
-    }
-    None
 }
 
 /// Which patches of a text are skipped, and why, where some were. The repository is the one that the text wasn't taken into yet.
@@ -61,15 +49,16 @@ fn skips_in<R: Runtime + AllocGlobal>(
 /// The same after a base, which is taken once more.
 fn skips_after<R: Runtime + AllocGlobal>(
     rt: &R,
-    base: &[u8],
+    base: Option<Base<'_>>,
     text: &[u8],
     verdict: Verdict,
 ) -> Option<Vec<Skip>> {
     let Verdict::TakenSome(_, _) = verdict else {
         return None;
     };
-    let mut arena = Bump::new(rt.alloc());
-    let before = take_base(rt, &mut arena, base)?;
+    let Ok(before) = repo_of(rt.alloc(), base) else {
+        return None;
+    };
     skips_in(rt, &before, text, verdict)
 }
 
@@ -117,11 +106,11 @@ fn explain_verdict<R: Runtime + AllocGlobal>(
     print_account(rt, colour, repo, &bundle, &account, skips);
 }
 
-/// Says whom the verdict of `dm apply` is about, after the text of its base, or an empty one.
+/// Says whom the verdict of `dm apply` is about, after its base, if there is one.
 pub fn explain_applied<R: Runtime + AllocGlobal>(
     rt: &R,
     colour: Colour,
-    base: &[u8],
+    base: Option<Base<'_>>,
     policy: Policy,
     applied: &Applied,
 ) {
@@ -173,15 +162,15 @@ fn explain_mirror<R: Runtime + AllocGlobal>(
     colour: Colour,
     outcome: &Outcome,
     mirror: usize,
-    base: &[u8],
+    base: Option<Base<'_>>,
     policy: Policy,
 )
     requires { mirror < mirror_count outcome.now }
 {
-    let mut arena = Bump::new(rt.alloc());
-    let Some(mut repo) = take_base(rt, &mut arena, base) else {
+    let Ok(mut repo) = repo_of(rt.alloc(), base) else {
         return;
     };
+    let mut arena = Bump::new(rt.alloc());
     let mails = outcome.mails(mirror);
     for k in 0..mails.len() {
         let Some(verdict) = outcome.verdict(mirror, k) else {
@@ -201,7 +190,7 @@ pub fn explain_run<R: Runtime + AllocGlobal>(
     rt: &R,
     colour: Colour,
     outcome: &Outcome,
-    base: &[u8],
+    base: Option<Base<'_>>,
     policy: Policy,
 ) {
     for mirror in 0..outcome.mirrors() {

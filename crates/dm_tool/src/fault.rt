@@ -27,8 +27,8 @@ pub enum ToolFault {
     /// The text of what somebody holds tells no names. Nothing was written.
     #[error("theirs malformed {} {}", .0.kind.word(), .0.at)]
     BadNames(ReadFault),
-    /// A bundle would have more than 1,000 new patches, or more than 10,000 primitives in one, or its text more bytes than a
-    /// bundle may have. Nothing was written.
+    /// A bundle would have more new patches than `Limits::STANDARD` allows, or more primitives in one, or its text more bytes.
+    /// Nothing was written.
     #[error("too many patches to send; --first N sends the first N")]
     TooManyToSend,
     /// There is no plan of these posters, bases and bound. Nothing was written.

@@ -16,6 +16,7 @@
 #![tactic(auto)]
 
 mod apply;
+mod base;
 mod check;
 mod colour;
 mod commands;

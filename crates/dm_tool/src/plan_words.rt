@@ -1,10 +1,12 @@
 //! The words of `dm run`, and what they start.
+use crate::base::Base;
 use crate::colour::Colour;
 use crate::explaining::explain_run;
 use crate::fault::ToolFault;
-use crate::files::{WordFault, read_file};
-use crate::running::{Ran, run_over};
+use crate::files::{BaseFile, WordFault, read_base, read_file};
+use crate::running::{Bases, Ran, run_over};
 use clap::ArgMatches;
+use dm_named::Limits;
 use dm_repo::Policy;
 use indexmap::IndexMap;
 use memchr::memchr;
@@ -53,7 +55,7 @@ fn read_posters<'a, R: Runtime + AllocGlobal>(
     for word in words {
         let texts = posters.entry(word.0)?.or_insert(Vec::new(rt.alloc()));
         if !word.1.is_empty() {
-            texts.push(read_file(rt, word.1)?)?;
+            texts.push(read_file(rt, word.1, Limits::STANDARD)?)?;
         }
     }
     Ok(posters)
@@ -122,7 +124,7 @@ fn bases_of<'t>(alloc: Global, base: &'t [u8], mirrors: u32) -> Result<Vec<&'t [
 fn run_texts<'a, R: Runtime + AllocGlobal + Threads + Wait + Sync>(
     rt: &R,
     posters: &Posters<'a>,
-    base: &[u8],
+    base: Base<'_>,
     policy: Policy,
     mirrors: u32,
     bound: u32,
@@ -130,29 +132,41 @@ fn run_texts<'a, R: Runtime + AllocGlobal + Threads + Wait + Sync>(
     let alloc = rt.alloc();
     let lists = lists_of(alloc, posters)?;
     let named = named_lists(alloc, &lists)?;
-    let bases = bases_of(alloc, base, mirrors)?;
-    let policies = policies_of(alloc, policy, bases.len())?;
+    let texts = bases_of(alloc, base.text, mirrors)?;
+    let policies = policies_of(alloc, policy, texts.len())?;
+    let bases = Bases {
+        texts: &texts,
+        limits: base.limits,
+    };
     let mut writer = io::writer(rt);
     run_over(
         rt,
         alloc,
         &named,
-        &bases,
+        bases,
         &policies,
         bound as usize,
         &mut writer,
     )
 }
 
-/// The bytes of the base that the words name, or an empty text.
-fn read_base<'a, R: Runtime + AllocGlobal>(
-    rt: &R,
-    words: &ArgMatches<'a>,
-) -> Result<Vec<u8>, WordFault<'a>> {
-    match words.get_str("base") {
-        Some(name) => read_file(rt, name),
-        None => Ok(Vec::new(rt.alloc())),
+/// The base that a file is, or an empty text.
+fn base_or_empty(file: &Option<BaseFile>) -> Base<'_> {
+    match file {
+        Some(file) => file.base(),
+        None => Base {
+            text: &[],
+            limits: Limits::STANDARD,
+        },
     }
+}
+
+/// The base that a mirror takes: none where its text is empty.
+fn taken(base: Base<'_>) -> Option<Base<'_>> {
+    if base.text.is_empty() {
+        return None;
+    }
+    Some(base)
 }
 
 /// Runs the plan that the words name: the base is read first, then the files in the order of the words. Returns the exit
@@ -163,14 +177,15 @@ pub fn run_plan<'a, R: Runtime + AllocGlobal + Threads + Wait + Sync>(
     words: &ArgMatches<'a>,
 ) -> Result<u8, WordFault<'a>> {
     let files = split_words(rt.alloc(), words.get_strs("posters").unwrap_or(&[]))?;
-    let base = read_base(rt, words)?;
+    let file = read_base(rt, words)?;
     let posters = read_posters(rt, &files)?;
     let mirrors = words.get_one::<u32>("mirrors").unwrap_or(0);
     let bound = words.get_one::<u32>("bound").unwrap_or(0);
     let policy = policy_of(words);
-    let ran = run_texts(rt, &posters, &base, policy, mirrors, bound)?;
+    let base = base_or_empty(&file);
+    let ran = run_texts(rt, &posters, base, policy, mirrors, bound)?;
     if words.get_flag("explain") {
-        explain_run(rt, colour, &ran.outcome, &base, policy);
+        explain_run(rt, colour, &ran.outcome, taken(base), policy);
     }
     Ok(ran.status)
 }

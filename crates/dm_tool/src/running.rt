@@ -11,6 +11,7 @@ ghost use Rattle.dm_tool.specs.Running.{IsRan, IsStatusOf, RunsTo, bytes_of, nam
 use crate::fault::ToolFault;
 use crate::streams::write_text;
 use dm_mirror::{Open, Outcome, Plan, report_text, run};
+use dm_named::Limits;
 use dm_repo::Policy;
 use std::alloc::{AllocError, Global};
 use std::io::Write;
@@ -72,6 +73,15 @@ fn status_of_run(outcome: &Outcome) -> u8
     if outcome.all_accepted() { 0 } else { 1 }
 }
 
+/// The base of each mirror.
+#[derive(Clone, Copy, Debug)]
+pub struct Bases<'a> {
+    /// The text of each, where an empty one is an empty repository.
+    pub texts: &'a [&'a [u8]],
+    /// The limits within which they are read.
+    pub limits: Limits,
+}
+
 /// What `dm run` answered.
 #[derive(Drop)]
 pub struct Ran {
@@ -86,29 +96,29 @@ fn answer_of<R: Threads + Wait + Sync>(
     rt: &R,
     alloc: Global,
     posters: &[(&str, &[&[u8]])],
-    bases: &[&[u8]],
+    bases: Bases<'_>,
     policies: &[Policy],
     bound: usize,
 ) -> Result<(Vec<u8>, Ran), ToolFault>
-    ensures ok { IfOk result (λ x. RunsTo (names_in posters.now) (texts_in posters.now) (bytes_of bases.now) policies.now bound x.0.items x.1.status) }
-    ensures told { IfOk result (λ x. IsRan (texts_in posters.now) (bytes_of bases.now) policies.now x.1) }
+    ensures ok { IfOk result (λ x. RunsTo (names_in posters.now) (texts_in posters.now) (bytes_of bases.entry.texts.now) bases.entry.limits policies.now bound x.0.items x.1.status) }
+    ensures told { IfOk result (λ x. IsRan (texts_in posters.now) (bytes_of bases.entry.texts.now) bases.entry.limits policies.now x.1) }
     ensures bad_plan { IfErr result (λ e. (fault : PlanFault) → (e ≡ ToolFault.BadPlan fault) →
-        IsFirstFault (texts_in posters.now) (bytes_of bases.now) policies.now bound fault) }
+        IsFirstFault bases.entry.limits (texts_in posters.now) (bytes_of bases.entry.texts.now) policies.now bound fault) }
     ensures unwritten { IfErr result (λ e. e ≢ ToolFault.Write) }
     ensures unread { IfErr result (λ e. e ≢ ToolFault.Read) }
     ensures no_base { IfErr result (λ e. (v : Verdict) → e ≢ ToolFault.BadBase v) }
 {
     let texts = texts_of(alloc, posters)?;
-    let plan = Plan::build(alloc, &texts, bases, policies, bound)?;
+    let plan = Plan::build(alloc, &texts, bases.texts, bases.limits, policies, bound)?;
     let outcome = run(rt, alloc, plan, &Open)?;
     let text = run_text(alloc, posters, &outcome)?;
     let status = status_of_run(&outcome);
     Ok((text, Ran { status, outcome }))
 }
 
-/// Runs a plan of posters, each with its name and the texts of its bundles, and of mirrors, each with the text of its base,
-/// where an empty text is an empty repository, and with its policy. Writes a line for each poster and then the report. Returns
-/// the exit status, 0 where each mirror took all of every bundle or had its patches already, else 1, with what the run left.
+/// Runs a plan of posters, each with its name and the texts of its bundles, and of mirrors, each with its base and its policy.
+/// Writes a line for each poster and then the report. Returns the exit status, 0 where each mirror took all of every bundle or
+/// had its patches already, else 1, with what the run left.
 ///
 /// Errors: [`ToolFault::BadPlan`] where there is no such plan; [`ToolFault::NoThread`]; [`ToolFault::NoMemory`];
 /// [`ToolFault::Write`]. Only after the last has anything been written, which is a prefix of the output.
@@ -116,19 +126,19 @@ pub fn run_over<R: Threads + Wait + Sync, W: Write>(
     rt: &R,
     alloc: Global,
     posters: &[(&str, &[&[u8]])],
-    bases: &[&[u8]],
+    bases: Bases<'_>,
     policies: &[Policy],
     bound: usize,
     writer: &mut W,
 ) -> Result<Ran, ToolFault>
-    ensures ok { IfOk result (λ ran. Writes (RunsTo (names_in posters.now) (texts_in posters.now) (bytes_of bases.now) policies.now bound)
+    ensures ok { IfOk result (λ ran. Writes (RunsTo (names_in posters.now) (texts_in posters.now) (bytes_of bases.entry.texts.now) bases.entry.limits policies.now bound)
         (W.contents writer.old) (W.contents writer.new) ran.status) }
-    ensures told { IfOk result (IsRan (texts_in posters.now) (bytes_of bases.now) policies.now) }
+    ensures told { IfOk result (IsRan (texts_in posters.now) (bytes_of bases.entry.texts.now) bases.entry.limits policies.now) }
     ensures bad_plan { IfErr result (λ e. (fault : PlanFault) → (e ≡ ToolFault.BadPlan fault) →
-        IsFirstFault (texts_in posters.now) (bytes_of bases.now) policies.now bound fault) }
+        IsFirstFault bases.entry.limits (texts_in posters.now) (bytes_of bases.entry.texts.now) policies.now bound fault) }
     ensures silent { IfErr result (λ e. (e ≢ ToolFault.Write) → Keeps (W.contents writer.old) (W.contents writer.new)) }
     ensures prefix { IfErr result (λ e. (e ≡ ToolFault.Write) →
-        WritesPrefix (RunsTo (names_in posters.now) (texts_in posters.now) (bytes_of bases.now) policies.now bound)
+        WritesPrefix (RunsTo (names_in posters.now) (texts_in posters.now) (bytes_of bases.entry.texts.now) bases.entry.limits policies.now bound)
         (W.contents writer.old) (W.contents writer.new)) }
     ensures unread { IfErr result (λ e. e ≢ ToolFault.Read) }
     ensures no_base { IfErr result (λ e. (v : Verdict) → e ≢ ToolFault.BadBase v) }

@@ -4,35 +4,28 @@ ghost use Rattle.std.specs.Io.KnownBytes.{Keeps};
 ghost use Rattle.std.specs.List.{AllByRecursion};
 ghost use Rattle.dm_bundle.specs.Canonical.{bundle_text};
 ghost use Rattle.dm_bundle.specs.Patches.{AreFew};
+ghost use Rattle.dm_named.specs.Limits.{standard};
 ghost use Rattle.dm_scratch.specs.declared.verdict.Verdict.TheVariants.{Refused};
 ghost use Rattle.dm_scratch.specs.Printing.{line_of};
 ghost use Rattle.dm_scratch.specs.Taking.{Reads};
 ghost use Rattle.dm_scratch.specs.Words.{verdict_text};
 ghost use Rattle.dm_send.specs.Telling.{TellsNames};
 ghost use Rattle.dm_tool.specs.Streams.{Writes, WritesPrefix};
-ghost use Rattle.dm_tool.specs.Applying.{IsBase, RefusesBase};
 ghost use Rattle.dm_tool.specs.Sending.{AnswersNames, AnswersTexts, CountsUnheld, IsPastLimits, IsWithinLimits, RefusesNames, RefusesTexts};
 ghost use Rattle.dm_tool.specs.Sending.{RefusesToSendFor, SendsFor, TellsNumbers, TellsTexts};
 
-use crate::apply::repo_of;
+use crate::base::{Base, repo_of_base};
 use crate::fault::ToolFault;
 use crate::status::status_of;
 use crate::streams::write_text;
-use bumpalo::Bump;
-use dm_bundle::{Bundle, MOST_BYTES, write_bundle};
+use dm_bundle::{Bundle, write_bundle};
 use dm_info::Info;
-use dm_named::Named;
+use dm_named::{Limits, Named};
 use dm_repo::{Refusal, Repo};
 use dm_scratch::{Verdict, push_verdict};
 use dm_send::{read_names, send, send_minimal};
 use std::alloc::Global;
 use std::io::Write;
-
-/// The most new patches of a bundle that is read.
-const MOST_PATCHES: usize = 1000;
-
-/// The most primitives of a new patch that is read.
-const MOST_PRIMS: usize = 10_000;
 
 /// What `dm send` answered.
 #[derive(Drop)]
@@ -43,15 +36,6 @@ pub struct Sent {
     pub new: Option<usize>,
     /// How many names of theirs aren't held here.
     pub unheld: usize,
-}
-
-/// The repository that a base's text makes.
-fn base_of(alloc: Global, mine: &[u8]) -> Result<Repo<Global>, ToolFault>
-    ensures ok { IfOk result (λ repo. IsBase mine.now repo.patches) }
-    ensures err { IfErr result (RefusesBase mine.now) }
-{
-    let mut arena = Bump::new(alloc);
-    repo_of(alloc, &mut arena, Some(mine))
 }
 
 /// The names that a text tells.
@@ -99,11 +83,11 @@ fn bundle_for(
 /// Whether each of these patches has few enough primitives to be read.
 fn are_short(patches: &[Named<Global>]) -> bool
     ensures { MatchBool result
-        (AllByRecursion (λ p. length p.prims ≤ 10000) patches.now)
-        (AllByRecursion (λ p. length p.prims ≤ 10000) patches.now → ⊥) }
+        (AllByRecursion (λ p. length p.prims ≤ standard.prims) patches.now)
+        (AllByRecursion (λ p. length p.prims ≤ standard.prims) patches.now → ⊥) }
 {
     for patch in patches {
-        if patch.prims().len() > MOST_PRIMS {
+        if patch.prims().len() > Limits::STANDARD.prims {
             return false;
         }
     }
@@ -114,7 +98,7 @@ fn are_short(patches: &[Named<Global>]) -> bool
 fn are_few(patches: &[Named<Global>]) -> bool
     ensures { MatchBool result (AreFew patches.now) (AreFew patches.now → ⊥) }
 {
-    if patches.len() > MOST_PATCHES {
+    if patches.len() > Limits::STANDARD.patches {
         return false;
     }
     are_short(patches)
@@ -130,7 +114,7 @@ fn text_of(alloc: Global, bundle: &Bundle<Global>) -> Result<Vec<u8>, ToolFault>
         return Err(ToolFault::TooManyToSend);
     }
     let text = write_bundle(alloc, bundle)?;
-    if text.len() > MOST_BYTES {
+    if text.len() > Limits::STANDARD.bytes {
         return Err(ToolFault::TooManyToSend);
     }
     Ok(text)
@@ -189,44 +173,44 @@ fn answer_for(
 /// What is printed for somebody of whom a text tells what they hold, and what is told of it.
 fn answer_of(
     alloc: Global,
-    mine: &[u8],
+    mine: Base<'_>,
     theirs: &[u8],
     most: usize,
     is_minimal: bool,
 ) -> Result<(Vec<u8>, Sent), ToolFault>
-    ensures ok { IfOk result (λ x. AnswersTexts is_minimal mine.now theirs.now most x.0.items x.1.status) }
-    ensures told { IfOk result (λ x. TellsTexts is_minimal mine.now theirs.now most x.1) }
-    ensures err { IfErr result (RefusesTexts is_minimal mine.now theirs.now most) }
+    ensures ok { IfOk result (λ x. AnswersTexts is_minimal mine.entry.limits mine.entry.text.now theirs.now most x.0.items x.1.status) }
+    ensures told { IfOk result (λ x. TellsTexts is_minimal mine.entry.limits mine.entry.text.now theirs.now most x.1) }
+    ensures err { IfErr result (RefusesTexts is_minimal mine.entry.limits mine.entry.text.now theirs.now most) }
 {
-    let repo = base_of(alloc, mine)?;
+    let repo = repo_of_base(alloc, mine)?;
     let names = names_of(alloc, theirs)?;
     let answer = answer_for(alloc, &repo, &names, most, is_minimal)?;
     Ok(answer)
 }
 
 /// Writes the canonical bundle of the patches that somebody lacks, as they stand behind what both hold: the first `most` of
-/// those of the repository that a base's text makes. Another text tells what they hold. A minimal bundle names in its context
-/// only what its patches rest on. Where a patch that they hold rests on one that they don't, or a path would go too deep, it
-/// writes the line of the refusal. Returns the exit status, 0 with a bundle and 1 with a refusal, and what it tells.
+/// those of the repository that a base makes. Another text tells what they hold. A minimal bundle names in its context
+/// only what its patches rest on. Where a patch that they hold rests on one that they don't, or a repository of what both hold
+/// would refuse the bundle, it writes the line of the refusal. Returns the exit status, 0 with a bundle and 1 with a refusal, and what it tells.
 ///
 /// Errors: [`ToolFault::BadBase`] where the base isn't taken; then [`ToolFault::BadNames`] where the other text tells no names;
 /// [`ToolFault::TooManyToSend`] where the bundle is past a limit of what `dm` reads; [`ToolFault::NoMemory`];
 /// [`ToolFault::Write`]. Only after the last has anything been written, which is a prefix of the output.
 pub fn send_over<W: Write>(
     alloc: Global,
-    mine: &[u8],
+    mine: Base<'_>,
     theirs: &[u8],
     most: usize,
     is_minimal: bool,
     writer: &mut W,
 ) -> Result<Sent, ToolFault>
-    ensures ok { IfOk result (λ sent. Writes (AnswersTexts is_minimal mine.now theirs.now most)
+    ensures ok { IfOk result (λ sent. Writes (AnswersTexts is_minimal mine.entry.limits mine.entry.text.now theirs.now most)
         (W.contents writer.old) (W.contents writer.new) sent.status) }
-    ensures told { IfOk result (TellsTexts is_minimal mine.now theirs.now most) }
-    ensures fault { IfErr result (λ e. (e ≢ ToolFault.Write) → RefusesTexts is_minimal mine.now theirs.now most e) }
+    ensures told { IfOk result (TellsTexts is_minimal mine.entry.limits mine.entry.text.now theirs.now most) }
+    ensures fault { IfErr result (λ e. (e ≢ ToolFault.Write) → RefusesTexts is_minimal mine.entry.limits mine.entry.text.now theirs.now most e) }
     ensures silent { IfErr result (λ e. (e ≢ ToolFault.Write) → Keeps (W.contents writer.old) (W.contents writer.new)) }
     ensures prefix { IfErr result (λ e. (e ≡ ToolFault.Write) →
-        WritesPrefix (AnswersTexts is_minimal mine.now theirs.now most) (W.contents writer.old) (W.contents writer.new)) }
+        WritesPrefix (AnswersTexts is_minimal mine.entry.limits mine.entry.text.now theirs.now most) (W.contents writer.old) (W.contents writer.new)) }
 {
     let (out, sent) = answer_of(alloc, mine, theirs, most, is_minimal)?;
     write_text(&out, writer)?;

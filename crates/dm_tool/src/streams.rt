@@ -1,28 +1,29 @@
 //! Reading a text whole, and writing one.
 ghost use Rattle.std.specs.Prelude.{◌≡◌, ◌⊎◌, ℕ, take, IfOk, IfErr, OnOk, OnErr};
 ghost use Rattle.std.specs.Io.KnownBytes.{Appends};
-ghost use Rattle.dm_tool.specs.Streams.{Gives};
+ghost use Rattle.dm_tool.specs.Streams.{Gives, GivesWithin};
 
 use crate::fault::ToolFault;
-use dm_bundle::MOST_BYTES;
+use dm_named::Limits;
 use std::alloc::Global;
 use std::io::{Read, Write};
 
-/// One byte more than a bundle may have.
-const MOST_READ: usize = MOST_BYTES + 1;
-
-/// Reads to the end, or `MOST_READ` bytes if there are as many.
+/// Reads to the end, or one byte more than a text may have by these limits if there are as many.
 ///
 /// Errors: [`ToolFault::Read`] at any error of the reader, an interruption too;
 /// [`ToolFault::NoMemory`].
-pub fn read_text<R: Read>(alloc: Global, reader: &mut R) -> Result<Vec<u8>, ToolFault>
-    ensures text { IfOk result (λ text. Gives (R.remaining reader.old) (R.remaining reader.new) text.items) }
+pub fn read_within<R: Read>(
+    alloc: Global,
+    limits: Limits,
+    reader: &mut R,
+) -> Result<Vec<u8>, ToolFault>
+    ensures text { IfOk result (λ text. GivesWithin limits (R.remaining reader.old) (R.remaining reader.new) text.items) }
     ensures fault { IfErr result (λ e. (e ≡ ToolFault.Read) ⊎ (e ≡ ToolFault.NoMemory)) }
 {
     let mut text = Vec::new(alloc);
     let mut chunk = [0; 65536];
-    while text.len() < MOST_READ {
-        let room = (MOST_READ - text.len()).min(65536);
+    while text.len() <= limits.bytes {
+        let room = (limits.bytes - text.len()).min(65535) + 1;
         let part = &mut chunk[..room];
         let Ok(count) = reader.read(part) else {
             return Err(ToolFault::Read);
@@ -33,6 +34,14 @@ pub fn read_text<R: Read>(alloc: Global, reader: &mut R) -> Result<Vec<u8>, Tool
         text.extend_from_slice(&part[..count])?;
     }
     Ok(text)
+}
+
+/// Reads to the end within the standard limits, as [`read_within`] does.
+pub fn read_text<R: Read>(alloc: Global, reader: &mut R) -> Result<Vec<u8>, ToolFault>
+    ensures text { IfOk result (λ text. Gives (R.remaining reader.old) (R.remaining reader.new) text.items) }
+    ensures fault { IfErr result (λ e. (e ≡ ToolFault.Read) ⊎ (e ≡ ToolFault.NoMemory)) }
+{
+    read_within(alloc, Limits::STANDARD, reader)
 }
 
 /// Writes all of the text.

@@ -48,3 +48,6 @@ returns g c = λ b policy rest new fits m.
 
 pub returns-in_err-patches : goal.returns-in_err-patches
 returns-in_err-patches g c = λ b policy rest new fits m. let p = err_from_is_err_and c.from_residual-in_err-patches.result c.from_residual-in_err-patches.ensures.1 in rw (p.1, p.2) tt
+
+pub returns-in_err-tree : goal.returns-in_err-tree
+returns-in_err-tree g c = λ b policy rest new fits m. let p = err_from_is_err_and c.from_residual.result c.from_residual.ensures.1 in rw (p.1, p.2) tt

@@ -1,5 +1,6 @@
 use Rattle.std.proofs.Common.{rules, ◌≡◌, ◌∙◌, refl, ap, map, drop, length}
 use Rattle.std.proofs.lemmas.Bool.{false≢true}
+use Rattle.std.proofs.lemmas.Result.{err_from_is_err_and}
 use Rattle.dm_repo.specs.declared.policy.Policy.TheVariants.{Skip}
 use Rattle.dm_repo.specs.declared.refusal.Refusal.TheVariants.{Conflicts}
 use Rattle.dm_repo.specs.Stops.{AtPlaces}
@@ -11,6 +12,9 @@ use Rattle.dm_repo.proofs.SkipLemmas.{sifts_untold}
 use Rattle.dm_repo.proofs.Splits.{whole}
 use Rattle.dm_repo.proofs.Steps.{between_places, undone_twice}
 use Rattle.dm_repo.proofs.merge.merge_some.Goals as goal
+
+pub returns-in_err-sifted : goal.returns-in_err-sifted
+returns-in_err-sifted g c = let p = err_from_is_err_and c.from_residual.result c.from_residual.ensures.1 in rw (p.1, p.2) (λ repo b fits. tt)
 
 pub first_conflict-blocked-requires-clause-some : goal.first_conflict-blocked-requires-clause-some
 first_conflict-blocked-requires-clause-some g c = rw c.as_mut_slice-then-is_all_skipped-2.ensures.value (c.if-is_all_skipped.ensures.0 refl).1

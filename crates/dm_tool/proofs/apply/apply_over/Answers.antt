@@ -9,7 +9,7 @@ use Rattle.dm_tool.proofs.apply.apply_over.Goals as goal
 pub returns-in_err-repo-clause-base_first : goal.returns-in_err-repo-clause-base_first
 returns-in_err-repo-clause-base_first g c =
     let q = err_from_is_err_and c.from_residual.result c.from_residual.ensures.1 in
-    rw (q.1, q.2) (inl (base_is_not_read c.args.base (λ b. b.now) _ c.in_err-repo.ensures.err, refl))
+    rw (q.1, q.2) (inl (base_is_not_read c.args.base _ c.in_err-repo.ensures.err, refl))
 
 pub returns-in_err-text-clause-base_first : goal.returns-in_err-text-clause-base_first
 returns-in_err-text-clause-base_first g c =

@@ -1,6 +1,7 @@
 use Rattle.std.proofs.Common.{◌≢◌, List, ℕ, refl, subst}
 use Rattle.dm_named.specs.declared.fault.FaultKind.TheVariants as kind
 use Rattle.dm_bundle.specs.Faults.{FaultAt}
+use Rattle.dm_named.specs.Limits.{standard}
 use Rattle.dm_scratch.specs.Taking.{Reads}
 use Rattle.dm_tool.specs.Checking.{Checks, canonical}
 use Rattle.dm_scratch.proofs.ReadLemmas.{no_err, reads}
@@ -10,13 +11,13 @@ use Rattle.dm_tool.proofs.check.check_text.Goals as goal
 pub returns-in_ok-out-in-Ok-clause-checks : goal.returns-in_ok-out-in-Ok-clause-checks
 returns-in_ok-out-in-Ok-clause-checks c =
     let b = c.in-Ok.bundle in
-    let read = reads c.deref.result.now b c.in-Ok.ensures.ok c.in-Ok.ensures.few (λ large. no_err b _ (c.in-Ok.ensures.too_large large)) in
+    let read = reads standard c.deref.result.now b c.in-Ok.ensures.ok c.in-Ok.ensures.few (λ large. no_err b _ (c.in-Ok.ensures.too_large large)) in
     subst (λ (t : List ℕ). Checks t c.in_ok-out-in-Ok.out.items 0) c.deref.ensures.value (canonical b read c.in_ok-out-in-Ok.ensures.text refl)
 
 pub returns-in_ok-out-in-Ok-clause-told : goal.returns-in_ok-out-in-Ok-clause-told
 returns-in_ok-out-in-Ok-clause-told c =
     let b = c.in-Ok.bundle in
-    (b, subst (λ (t : List ℕ). Reads t b) c.deref.ensures.value (reads c.deref.result.now b c.in-Ok.ensures.ok c.in-Ok.ensures.few (λ large. no_err b _ (c.in-Ok.ensures.too_large large))))
+    (b, subst (λ (t : List ℕ). Reads t b) c.deref.ensures.value (reads standard c.deref.result.now b c.in-Ok.ensures.ok c.in-Ok.ensures.few (λ large. no_err b _ (c.in-Ok.ensures.too_large large))))
 
 pub returns-in_ok-push_verdict-in-Err-clause-checks : goal.returns-in_ok-push_verdict-in-Err-clause-checks
 returns-in_ok-push_verdict-in-Err-clause-checks c =

@@ -9,7 +9,7 @@ pub returns-in_err-plan-clause-bad_plan : goal.returns-in_err-plan-clause-bad_pl
 returns-in_err-plan-clause-bad_plan g c =
     let q = err_from_is_err_and c.from_residual-in_err-plan.result c.from_residual-in_err-plan.ensures.1 in
     let texts = same_lists _ _ _ _ c.deref.ensures.value c.in_ok-texts.ensures in
-    rw q.1 (bad_plan _ _ (map (λ base. base.now) c.args.bases.now) c.args.policies.now c.args.bound c.in_err-plan.field-0.0 q.0 texts c.in_err-plan.ensures.fault q.2)
+    rw q.1 (bad_plan c.args.bases.limits _ _ (map (λ base. base.now) c.args.bases.texts.now) c.args.policies.now c.args.bound c.in_err-plan.field-0.0 q.0 texts c.in_err-plan.ensures.fault q.2)
 
 pub returns-clause-ok : goal.returns-clause-ok
 returns-clause-ok g c =
@@ -17,7 +17,7 @@ returns-clause-ok g c =
     let lists = same_lists _ _ _ _ c.deref.ensures.value c.in_ok-texts.ensures in
     let texts = c.in_ok-plan.ensures.texts ∙ lists in
     record {
-      plannable = subst (λ ts. IsPlannable ts (map (λ base. base.now) c.args.bases.now) c.args.policies.now c.args.bound) lists c.in_ok-plan.ensures.valid;
+      plannable = subst (λ ts. IsPlannable ts (map (λ base. base.now) c.args.bases.texts.now) c.args.policies.now c.args.bound) lists c.in_ok-plan.ensures.valid;
       starts = plan_starts plan;
       are_starts = c.in_ok-plan.ensures.starts;
       outcome = c.in_ok-outcome.outcome;

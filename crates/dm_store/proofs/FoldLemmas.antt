@@ -1,0 +1,75 @@
+-- Entries fold to one repository, or stop at one of them.
+use Rattle.std.proofs.Common.{◌≡◌, ◌≢◌, arith, ℕ, ◌+◌, ◌<◌, List, [], ◌∷◌, ◌++◌, length, get_or, take, drop, refl, sym, subst, ap, ◌∙◌, take-append-drop}
+use Rattle.std.specs.List.{FoldsTo}
+use Rattle.std.proofs.lemmas.List.{take_more, drop_more, length-take-le}
+use Rattle.std.proofs.lemmas.Fn.{FoldsTo-push}
+use Rattle.dm_named.specs.Limits.{standard}
+use Rattle.dm_named.specs.Patches.{Patch}
+use Rattle.dm_repo.specs.declared.policy.Policy.{Policy}
+use Rattle.dm_repo.specs.declared.refusal.Refusal.TheVariants.{NoMemory}
+use Rattle.dm_scratch.specs.declared.verdict.Verdict.{Verdict}
+use Rattle.dm_scratch.specs.declared.verdict.Verdict.TheVariants.{Refused}
+use Rattle.dm_scratch.specs.Taking.{Takes}
+use Rattle.dm_scratch.proofs.OneOutcome.{taking_one}
+use Rattle.dm_journal.specs.Laws.{StandsForOneList}
+use Rattle.dm_store.specs.Entries.{entry_of}
+use Rattle.dm_store.specs.Keeping.{HasTaken, TakesEntry, FoldTo}
+use Rattle.dm_store.specs.Opening.{IsBadEntry, FoldStops}
+use Rattle.dm_store.specs.Laws.{KeepsOneRepo, KeepsOrHasBadEntry}
+use Rattle.dm_store.proofs.EntryLemmas.{one_entry}
+
+has_memory : (v : Verdict) → HasTaken v → v ≢ Refused NoMemory
+has_memory v taken e = absurd (subst (λ (w : Verdict). HasTaken w) e taken)
+
+-- an entry of this policy and text is taken as the text is
+same_verdict : (repo : List Patch) (policy : Policy) (text : List ℕ) (v : Verdict) (a b : List Patch) → v ≢ Refused NoMemory → Takes repo text policy v a → (t : TakesEntry repo (entry_of policy text) b) → (v ≡ t.verdict) × (a ≡ b)
+same_verdict repo policy text v a b m s t =
+    let e = one_entry t.policy policy t.text text (sym t.is) in
+    let u = subst (λ (x : List ℕ). Takes repo x policy t.verdict b) e.1 (subst (λ (p : Policy). Takes repo t.text p t.verdict b) e.0 t.takes) in
+    taking_one standard repo text policy v t.verdict a b m (has_memory t.verdict t.taken) s u
+
+takes_one : (repo : List Patch) (entry : List ℕ) (a b : List Patch) → TakesEntry repo entry a → TakesEntry repo entry b → a ≡ b
+takes_one repo entry a b s t = (same_verdict repo s.policy s.text s.verdict a b (has_memory s.verdict s.taken) s.takes (subst (λ (e : List ℕ). TakesEntry repo e b) s.is t)).1
+
+-- a text with another verdict makes no entry that is taken
+pub not_taken : (repo : List Patch) (entry : List ℕ) (policy : Policy) (text : List ℕ) (v : Verdict) (after : List Patch) → entry ≡ entry_of policy text → v ≢ Refused NoMemory → (HasTaken v → ⊥) → Takes repo text policy v after → IsBadEntry repo entry
+not_taken repo entry policy text v after is m n s next t =
+    let t' = subst (λ (e : List ℕ). TakesEntry repo e next) is t in
+    n (subst (λ (w : Verdict). HasTaken w) (sym (same_verdict repo policy text v after next m s t').0) t'.taken)
+
+folds_one : (entries : List (List ℕ)) (p a b : List Patch) → FoldsTo TakesEntry p entries a → FoldsTo TakesEntry p entries b → a ≡ b
+folds_one [] p a b s t = sym s ∙ t
+folds_one (x ∷ xs) p a b s t = folds_one xs t.0 a b (subst (λ (q : List Patch). FoldsTo TakesEntry q xs a) (takes_one p x s.0 t.0 s.1 t.1) s.2) t.2
+
+pub keeps_one : StandsForOneList → KeepsOneRepo
+keeps_one one file a b s t = folds_one t.0 [] a b (subst (λ (l : List (List ℕ)). FoldTo l a) (one file s.0 t.0 s.1 t.1) s.2) t.2
+
+-- on the way an entry is taken after those before it
+reaches : (before : List (List ℕ)) (entry : List ℕ) (others : List (List ℕ)) (p q : List Patch) → FoldsTo TakesEntry p (before ++ entry ∷ others) q → (mid : List Patch) × (next : List Patch) × FoldsTo TakesEntry p before mid × TakesEntry mid entry next
+reaches [] entry others p q f = (p, f.0, refl, f.1)
+reaches (x ∷ xs) entry others p q f = let r = reaches xs entry others f.0 q f.2 in (r.0, r.1, (f.0, f.1, r.2), r.3)
+
+pub none_bad : StandsForOneList → KeepsOrHasBadEntry
+none_bad one file repo number s t =
+    let stop = t.2 in
+    let whole = subst (λ (l : List (List ℕ)). FoldTo l repo) (one file s.0 t.0 s.1 t.1 ∙ stop.at) s.2 in
+    let r = reaches stop.before stop.entry stop.others [] repo whole in
+    stop.stuck r.1 (subst (λ (m : List Patch). TakesEntry m stop.entry r.1) (folds_one stop.before [] r.0 stop.repo r.2 stop.folds) r.3)
+
+-- one entry more
+pub fold_more : (entries : List (List ℕ)) (i : ℕ) (d : List ℕ) (mid after : List Patch) → i < length entries → FoldTo (take i entries) mid → TakesEntry mid (get_or entries i d) after → FoldTo (take (i + 1) entries) after
+fold_more entries i d mid after le folds t =
+    subst (λ (l : List (List ℕ)). FoldTo l after) (sym (take_more entries i d le)) (FoldsTo-push TakesEntry [] (take i entries) mid (get_or entries i d) after folds t)
+
+-- or none
+pub stops_at : (entries : List (List ℕ)) (i : ℕ) (d : List ℕ) (repo : List Patch) → i < length entries → FoldTo (take i entries) repo → IsBadEntry repo (get_or entries i d) → FoldStops entries i
+stops_at entries i d repo le folds stuck = record {
+  before = take i entries;
+  entry = get_or entries i d;
+  others = drop (i + 1) entries;
+  repo = repo;
+  at = sym (take-append-drop i entries) ∙ ap (λ (l : List (List ℕ)). take i entries ++ l) (drop_more entries i d le);
+  is_number = sym (length-take-le i entries (omega (arith, le)));
+  folds = folds;
+  stuck = stuck;
+}

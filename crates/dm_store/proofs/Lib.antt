@@ -1,0 +1,4 @@
+pub mod EntryLemmas
+pub mod FoldLemmas
+pub mod StoredLemmas
+pub mod OnceLemmas

@@ -1,0 +1,56 @@
+-- Which repository a file keeps.
+use Rattle.std.specs.Prelude.{◌≡◌, ◌⊎◌, ℕ, List, []}
+use Rattle.std.specs.List.{FoldsTo}
+use Rattle.dm_named.specs.Patches.{Patch}
+use Rattle.dm_repo.specs.declared.policy.Policy.{Policy}
+use Rattle.dm_scratch.specs.declared.verdict.Verdict.{Verdict}
+use Rattle.dm_scratch.specs.declared.verdict.Verdict.TheVariants.{Taken, TakenSome, NothingNew, Malformed, Refused}
+use Rattle.dm_scratch.specs.Taking.{Takes}
+use Rattle.dm_journal.specs.Journal.{StandsFor}
+use Rattle.dm_journal.specs.Ready.{HasTexts}
+use Rattle.dm_store.specs.Entries.{entry_of}
+use Rattle.dm_store.specs.declared.store.Store.{Store}
+
+-- something was taken: all of the bundle's patches that weren't held, or some of them
+abbrev pub HasTaken : Verdict → Type 0
+HasTaken (Taken count) = Unit {0}
+HasTaken (TakenSome count skipped) = Unit {0}
+HasTaken NothingNew = ⊥
+HasTaken (Malformed fault) = ⊥
+HasTaken (Refused why) = ⊥
+
+-- the entry's text is taken under the entry's policy, which leaves the repository after it
+pub record TakesEntry (repo : List Patch) (entry : List ℕ) (after : List Patch) : Type 0 where
+  pub policy : Policy
+  pub text : List ℕ
+  pub verdict : Verdict
+  pub is : entry ≡ entry_of policy text
+  pub taken : HasTaken verdict
+  pub takes : Takes repo text policy verdict after
+
+-- the entries are taken one after the other, from the empty repository on, each into the repository that the one before it left
+abbrev pub FoldTo : List (List ℕ) → List Patch → Type 0
+FoldTo entries repo = FoldsTo TakesEntry [] entries repo
+
+-- the file stands for entries that fold from the empty repository to this one
+abbrev pub KeepsRepo : List ℕ → List Patch → Type 0
+KeepsRepo file repo = (entries : List (List ℕ)) × StandsFor file entries × FoldTo entries repo
+
+-- the file keeps this repository, or the one that the text leaves when it is taken into it
+abbrev pub KeepsWithOrWithout : List Patch → List ℕ → Policy → List ℕ → Type 0
+KeepsWithOrWithout repo text policy file =
+    KeepsRepo file repo ⊎ ((after : List Patch) × TakesEntry repo (entry_of policy text) after × KeepsRepo file after)
+
+-- the file is this one, or it keeps the repository without patches
+abbrev pub IsOrKeepsNone : List ℕ → List ℕ → Type 0
+IsOrKeepsNone old file = (file ≡ old) ⊎ KeepsRepo file []
+
+-- a crash now leaves a file that keeps the repository
+abbrev pub CrashesKeep : {D : Type 0} → (D → List ℕ → Type 0) → D → List Patch → Type 0
+CrashesKeep may_leave device repo = (c : List ℕ) → may_leave device c → KeepsRepo c repo
+
+-- the store's journal has entries, all of them on the disk, that fold to the store's repository
+pub record IsStored {D : Type 0} (seen : D → List ℕ) (may_leave file_may_leave : D → List ℕ → Type 0) (store : Store D) : Type 0 where
+  pub entries : List (List ℕ)
+  pub has : HasTexts seen may_leave file_may_leave store.journal entries
+  pub folds : FoldTo entries store.repo.patches

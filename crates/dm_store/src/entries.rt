@@ -1,0 +1,44 @@
+//! How a text and its policy stand in the journal.
+ghost use Rattle.std.specs.Prelude.{◌≡◌, List, ℕ, IfSome, IfNone, IfOk, IfErr};
+ghost use Rattle.dm_journal.specs.declared.device.DeviceError.TheVariants.{Memory};
+ghost use Rattle.dm_journal.specs.declared.fault.WriteError.TheVariants.{Device as WritingDevice};
+ghost use Rattle.dm_store.specs.Entries.{policy_byte, entry_of};
+
+use dm_journal::WriteError;
+use dm_repo::Policy;
+use std::alloc::Global;
+
+// The entry of a text that was taken under a policy.
+pub fn make_entry(alloc: Global, text: &[u8], policy: Policy) -> Result<Vec<u8>, WriteError>
+    ensures entry { IfOk result (λ entry. entry.items ≡ entry_of policy text.now) }
+    ensures err { IfErr result (λ e. e ≡ WritingDevice Memory) }
+{
+    let mut entry = Vec::with_capacity(alloc, text.len() + 1)?;
+    entry.push(byte_of(policy))?;
+    entry.extend_from_slice(text)?;
+    Ok(entry)
+}
+
+fn byte_of(policy: Policy) -> u8
+    ensures { result ≡ policy_byte policy }
+{
+    match policy {
+        Policy::Refuse => 0,
+        Policy::Skip => 1,
+    }
+}
+
+// The policy and the text of an entry.
+pub fn split_entry(entry: &[u8]) -> Option<(Policy, &[u8])>
+    ensures some { IfSome result (λ r. entry.now ≡ entry_of r.0 r.1.now) }
+    ensures none { IfNone result ((policy : Policy) (text : List ℕ) → entry.now ≡ entry_of policy text → ⊥) }
+{
+    let [byte, text @ ..] = entry else {
+        return None;
+    };
+    match *byte {
+        0 => Some((Policy::Refuse, text)),
+        1 => Some((Policy::Skip, text)),
+        _ => None,
+    }
+}

@@ -1,0 +1,18 @@
+//! Laws of the definitions alone. A call of them does nothing.
+ghost use Rattle.dm_store.specs.Laws.{KeepsOneRepo, KeepsOrHasBadEntry, TwiceIsOnce};
+
+use dm_journal::laws::a_file_has_one_answer;
+
+/// A file keeps at most one repository, and then it has no bad entry.
+pub fn a_file_keeps_one_repository()
+    ensures one { KeepsOneRepo }
+    ensures no_bad_entry { KeepsOrHasBadEntry }
+{
+    a_file_has_one_answer();
+}
+
+/// Where conflicts are refused, a bundle that was accepted and comes again, to any repository that begins with the patches
+/// which it left, brings nothing new.
+pub fn twice_is_once()
+    ensures { TwiceIsOnce }
+{}

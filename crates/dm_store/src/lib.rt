@@ -1,0 +1,19 @@
+//! A repository that lasts: it is kept in a journal, whose entries are the bundles that were taken, in order, each with the
+//! policy under which it was taken.
+//!
+//! [`Store::open`] takes the entries again, one after the other, so what a file keeps is the plain fold of its entries.
+//! [`Store::take`] answers once the text is on the disk; a crash at any moment of a call leaves a file that keeps the
+//! repository from before it, or the one that the text leaves. The [`laws`] say that a file keeps one repository, and that a
+//! bundle that comes twice is taken once.
+//!
+//! The crate stands on dm_journal for the file, and on dm_scratch for taking a text.
+#![tactic(auto)]
+
+mod entries;
+mod fault;
+pub mod laws;
+mod opening;
+mod store;
+
+pub use fault::StoreError;
+pub use store::Store;

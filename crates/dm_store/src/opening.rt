@@ -1,0 +1,70 @@
+//! How the entries of a journal are taken again.
+ghost use Rattle.std.specs.Prelude.{◌≡◌, ◌≢◌, ◌⊎◌, ◌↔◌, [], IfOk, IfErr, OnOk, IsTrue};
+ghost use Rattle.dm_store.specs.declared.fault.StoreError.TheVariants.{NoMemory, BadEntry};
+ghost use Rattle.dm_store.specs.Keeping.{HasTaken, TakesEntry, FoldTo};
+ghost use Rattle.dm_store.specs.Opening.{IsBadEntry, StopsFor};
+
+use crate::entries::split_entry;
+use crate::fault::StoreError;
+use bumpalo::Bump;
+use dm_journal::Texts;
+use dm_repo::{Refusal, Repo};
+use dm_scratch::{Verdict, take};
+use std::alloc::Global;
+
+// Whether something was taken.
+pub fn has_taken(verdict: &Verdict) -> bool
+    ensures { IsTrue result ↔ HasTaken verdict.now }
+{
+    match verdict {
+        Verdict::Taken(_) => true,
+        Verdict::TakenSome(_, _) => true,
+        Verdict::NothingNew => false,
+        Verdict::Malformed(_) => false,
+        Verdict::Refused(_) => false,
+    }
+}
+
+// The repository that the entries leave, and the arena in which they were tried.
+pub fn take_again(alloc: Global, entries: &Texts) -> Result<(Repo<Global>, Bump), StoreError>
+    ensures folds { IfOk result (λ r. FoldTo entries.now r.0.patches) }
+    ensures stops { IfErr result (StopsFor entries.now) }
+{
+    let mut repo = Repo::new(alloc);
+    let mut arena = Bump::new(alloc);
+    for i in 0..entries.len() {
+        take_entry(&mut repo, &mut arena, entries.text(i), i)?;
+    }
+    Ok((repo, arena))
+}
+
+// Takes the entry of this number.
+fn take_entry(
+    repo: &mut Repo<Global>,
+    arena: &mut Bump,
+    entry: &[u8],
+    number: usize,
+) -> Result<(), StoreError>
+    ensures ok { OnOk result (TakesEntry repo.old.patches entry.now repo.new.patches) }
+    ensures err { IfErr result (λ e. (e ≡ NoMemory) ⊎ ((e ≡ BadEntry number) × IsBadEntry repo.old.patches entry.now)) }
+{
+    let Some((policy, text)) = split_entry(entry) else {
+        return Err(StoreError::BadEntry(number));
+    };
+    let verdict = take(repo, arena, text, policy);
+    if has_taken(&verdict) {
+        return Ok(());
+    }
+    Err(fault_of(verdict, number))
+}
+
+// Why the entry of this number isn't taken, whose text has this verdict.
+fn fault_of(verdict: Verdict, number: usize) -> StoreError
+    ensures { ((verdict ≡ Verdict.Refused Refusal.NoMemory) × (result ≡ NoMemory)) ⊎
+        ((verdict ≢ Verdict.Refused Refusal.NoMemory) × (result ≡ BadEntry number)) }
+{
+    if verdict == Verdict::Refused(Refusal::NoMemory) {
+        return StoreError::NoMemory;
+    }
+    StoreError::BadEntry(number)
+}

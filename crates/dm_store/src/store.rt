@@ -1,0 +1,135 @@
+//! A store: a repository, and the journal that keeps it.
+ghost use Rattle.std.specs.Prelude.{◌≡◌, ◌<◌, ◌^◌, ℕ, [], length, IfOk, IfErr, OnOk, IsErrOf};
+ghost use Rattle.dm_journal.specs.declared.device.DeviceError.TheVariants.{Failed};
+ghost use Rattle.dm_journal.specs.declared.fault.Fault.{Fault as FileFault};
+ghost use Rattle.dm_journal.specs.declared.fault.OpenError.TheVariants.{Device as OpeningDevice, File as OpeningFile};
+ghost use Rattle.dm_journal.specs.declared.fault.WriteError.TheVariants.{Device as WritingDevice, TooLong, Full};
+ghost use Rattle.dm_journal.specs.Device.{IsDurable, LeavesOnly};
+ghost use Rattle.dm_journal.specs.Faults.{HasFault};
+ghost use Rattle.dm_journal.specs.Ready.{IsUntouched};
+ghost use Rattle.dm_scratch.specs.Taking.{Takes};
+ghost use Rattle.dm_store.specs.declared.fault.StoreError.TheVariants.{Journal as OpeningJournal, BadEntry};
+ghost use Rattle.dm_store.specs.Keeping.{HasTaken, KeepsRepo, KeepsWithOrWithout, IsOrKeepsNone, CrashesKeep, IsStored};
+ghost use Rattle.dm_store.specs.Opening.{HasBadEntry};
+
+use crate::entries::make_entry;
+use crate::fault::StoreError;
+use crate::opening::{has_taken, take_again};
+use bumpalo::Bump;
+use dm_journal::{Device, Journal, WriteError};
+use dm_repo::{Policy, Repo};
+use dm_scratch::{Verdict, take};
+use std::alloc::Global;
+
+/// A repository that lasts. After an error of [`Store::take`], open the file again: the repository in memory may have more
+/// than the file.
+#[derive(Drop)]
+pub struct Store<D: Device> {
+    journal: Journal<D>,
+    repo: Repo<Global>,
+    // For what is tried.
+    arena: Bump,
+}
+
+impl<D: Device> Store<D> {
+    /// Opens a journal that a crash may have left, and takes its entries again. It writes nothing. At an error the device
+    /// comes back.
+    pub fn open(alloc: Global, device: D) -> Result<Store<D>, (StoreError, D)>
+        // After a restart, what is read is what is on the disk.
+        requires { IsDurable D.seen D.may_leave D.file_may_leave device }
+        ensures keeps { IfOk result (λ store. KeepsRepo (D.seen device) store.repo.patches) }
+        ensures stored { IfOk result (IsStored D.seen D.may_leave D.file_may_leave) }
+        ensures untouched { IfOk result (λ store. IsUntouched D.seen D.may_leave D.file_may_leave D.moment D.left_since device store.journal.device) }
+        ensures untouched_err { IfErr result (λ e. IsUntouched D.seen D.may_leave D.file_may_leave D.moment D.left_since device e.1) }
+        ensures fault { IfErr result (λ e. (fault : FileFault) → e.0 ≡ OpeningJournal (OpeningFile fault) → HasFault (D.seen device) fault) }
+        ensures bad_entry { IfErr result (λ e. (number : ℕ) → e.0 ≡ BadEntry number → HasBadEntry (D.seen device) number) }
+        ensures failed { IfErr result (λ e. e.0 ≡ OpeningJournal (OpeningDevice Failed) → D.faults device < D.faults e.1) }
+    {
+        let (journal, entries) = match Journal::open(alloc, device) {
+            Ok(opened) => opened,
+            Err((error, device)) => return Err((StoreError::Journal(error), device)),
+        };
+        match take_again(alloc, &entries) {
+            Ok((repo, arena)) => Ok(Store {
+                journal,
+                repo,
+                arena,
+            }),
+            Err(error) => Err((error, journal.device)),
+        }
+    }
+
+    /// Puts a store of the repository without patches in the place of the file, whatever is there, or nothing. At an error
+    /// the device comes back.
+    pub fn create(alloc: Global, device: D) -> Result<Store<D>, (WriteError, D)>
+        requires { IsDurable D.seen D.may_leave D.file_may_leave device }
+        ensures empty { IfOk result (λ store. store.repo.patches ≡ []) }
+        ensures stored { IfOk result (IsStored D.seen D.may_leave D.file_may_leave) }
+
+        // A crash at any moment of the call leaves the file from before it, or one that keeps the repository without patches.
+        ensures any_moment { IfOk result (λ store. LeavesOnly D.moment D.left_since device store.journal.device (IsOrKeepsNone (D.seen device))) }
+        ensures any_moment_err { IfErr result (λ e. LeavesOnly D.moment D.left_since device e.1 (IsOrKeepsNone (D.seen device))) }
+
+        // It doesn't give up by itself.
+        ensures failed { IfErr result (λ e. e.0 ≡ WritingDevice Failed → D.faults device < D.faults e.1) }
+        ensures not_too_long { IfErr result (λ e. e.0 ≡ TooLong → ⊥) }
+        ensures not_full { IfErr result (λ e. e.0 ≡ Full → ⊥) }
+    {
+        match Journal::create(alloc, device, &[]) {
+            Ok(journal) => Ok(Store {
+                journal,
+                repo: Repo::new(alloc),
+                arena: Bump::new(alloc),
+            }),
+            Err(error) => Err(error),
+        }
+    }
+
+    /// The device, with what it has of the repository.
+    pub fn into_device(self) -> D
+        ensures { result ≡ self.journal.device }
+    {
+        self.journal.device
+    }
+
+    /// The repository.
+    pub fn repo(&self) -> &Repo<Global>
+        ensures { result.now ≡ self.now.repo }
+    {
+        &self.repo
+    }
+
+    /// Takes a text into the repository, and where something was taken appends it to the journal before it answers: from then
+    /// on each crash leaves a file that keeps the repository as it is now. At an error the text is on the disk or not: open
+    /// the file again.
+    pub fn take(
+        &mut self,
+        alloc: Global,
+        text: &[u8],
+        policy: Policy,
+    ) -> Result<Verdict, WriteError>
+        requires { IsStored D.seen D.may_leave D.file_may_leave self.old }
+
+        ensures takes { IfOk result (λ verdict. Takes self.old.repo.patches text.now policy verdict self.new.repo.patches) }
+        ensures stored { OnOk result (IsStored D.seen D.may_leave D.file_may_leave self.new) }
+        ensures kept { OnOk result (CrashesKeep D.may_leave self.new.journal.device self.new.repo.patches) }
+        ensures unwritten { IfOk result (λ verdict. ¬ HasTaken verdict → self.new.journal ≡ self.old.journal) }
+
+        // A crash at any moment of the call leaves a file that keeps the repository from before it, or the one that the text leaves.
+        ensures any_moment { LeavesOnly D.moment D.left_since self.old.journal.device self.new.journal.device
+            (KeepsWithOrWithout self.old.repo.patches text.now policy) }
+
+        // It doesn't give up by itself.
+        ensures failed { IsErrOf result (WritingDevice Failed) → D.faults self.old.journal.device < D.faults self.new.journal.device }
+        ensures not_too_long { IsErrOf result TooLong → ⊥ }
+        ensures full { IsErrOf result Full → 2 ^ 62 < length (D.seen self.old.journal.device) }
+    {
+        let verdict = take(&mut self.repo, &mut self.arena, text, policy);
+        if !has_taken(&verdict) {
+            return Ok(verdict);
+        }
+        let entry = make_entry(alloc, text, policy)?;
+        self.journal.append(alloc, &entry)?;
+        Ok(verdict)
+    }
+}

@@ -1,0 +1,6 @@
+//! Tests of `dm_store`, and nothing else: that calls succeed where memory is ample, and that what was taken is there after the
+//! file is opened again.
+#![tactic(auto)]
+
+#[cfg(test)]
+mod stores;

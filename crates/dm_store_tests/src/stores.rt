@@ -1,0 +1,58 @@
+//! A store in memory, and one that is opened again.
+
+use dm_journal::{Journal, Memory};
+use dm_repo::Policy;
+use dm_scratch::Verdict;
+use dm_store::{Store, StoreError};
+use std::alloc::Global;
+
+/// A patch (a) that adds a file, and a patch (m) that adds a line.
+const TWO: &[u8] =
+    b"New patches:\n\n[a\np**d] addfile ./f\n[m\np**d] hunk ./f 1\n+x\n\nContext:\n\n";
+
+/// A patch (n) that adds the same file.
+const CONFLICT: &[u8] =
+    b"New patches:\n\n[n\np**d] {\naddfile ./f\nadddir ./d\n}\n[o\np**d] adddir ./o\n\nContext:\n\n";
+
+/// Whether a new store takes two patches once, skips one of two others, and has three when it is opened again.
+fn lasts(alloc: Global) -> bool {
+    let Ok(mut store) = Store::create(alloc, Memory::new(alloc, Vec::new(alloc))) else {
+        return false;
+    };
+    let Ok(Verdict::Taken(2)) = store.take(alloc, TWO, Policy::Refuse) else {
+        return false;
+    };
+    let Ok(Verdict::NothingNew) = store.take(alloc, TWO, Policy::Refuse) else {
+        return false;
+    };
+    let Ok(Verdict::TakenSome(1, 1)) = store.take(alloc, CONFLICT, Policy::Skip) else {
+        return false;
+    };
+    let Ok(opened) = Store::open(alloc, store.into_device()) else {
+        return false;
+    };
+    opened.repo().len() == 3
+}
+
+#[test]
+fn a_store_is_opened_again(rt: HostRuntime) {
+    assert!(rt; lasts(rt.alloc()), "three patches of two texts");
+}
+
+/// Whether a journal of this text isn't opened, for its entry.
+fn is_bad(alloc: Global, text: &[u8]) -> bool {
+    let Ok(journal) = Journal::create(alloc, Memory::new(alloc, Vec::new(alloc)), &[text]) else {
+        return false;
+    };
+    match Store::open(alloc, journal.device) {
+        Err((StoreError::BadEntry(0), _)) => true,
+        _ => false,
+    }
+}
+
+#[test]
+fn another_journal_is_not_opened(rt: HostRuntime) {
+    assert!(rt; is_bad(rt.alloc(), b""), "no policy");
+    assert!(rt; is_bad(rt.alloc(), b"\x02"), "a policy that isn't one");
+    assert!(rt; is_bad(rt.alloc(), b"\x00"), "no bundle");
+}
