@@ -1,41 +1,61 @@
 -- Entries fold to one repository, or stop at one of them.
-use Rattle.std.proofs.Common.{◌≡◌, ◌≢◌, arith, ℕ, ◌+◌, ◌<◌, List, [], ◌∷◌, ◌++◌, length, get_or, take, drop, refl, sym, subst, ap, ◌∙◌, take-append-drop}
+use Rattle.std.proofs.Common.{◌≡◌, ◌≢◌, arith, inl, inr, ℕ, ◌+◌, ◌<◌, List, [], ◌∷◌, ◌++◌, length, get_or, take, drop, refl, sym, subst, ap, ◌∙◌, take-append-drop}
 use Rattle.std.specs.List.{FoldsTo}
 use Rattle.std.proofs.lemmas.List.{take_more, drop_more, length-take-le}
 use Rattle.std.proofs.lemmas.Fn.{FoldsTo-push}
-use Rattle.dm_named.specs.Limits.{standard}
+use Rattle.dm_named.specs.Limits.{standard, own}
 use Rattle.dm_named.specs.Patches.{Patch}
 use Rattle.dm_repo.specs.declared.policy.Policy.{Policy}
+use Rattle.dm_repo.specs.declared.policy.Policy.TheVariants.{Refuse}
 use Rattle.dm_repo.specs.declared.refusal.Refusal.TheVariants.{NoMemory}
 use Rattle.dm_scratch.specs.declared.verdict.Verdict.{Verdict}
 use Rattle.dm_scratch.specs.declared.verdict.Verdict.TheVariants.{Refused}
-use Rattle.dm_scratch.specs.Taking.{Takes}
+use Rattle.dm_scratch.specs.Taking.{Takes, TakesWithin}
 use Rattle.dm_scratch.proofs.OneOutcome.{taking_one}
 use Rattle.dm_journal.specs.Laws.{StandsForOneList}
-use Rattle.dm_store.specs.Entries.{entry_of}
-use Rattle.dm_store.specs.Keeping.{HasTaken, TakesEntry, FoldTo}
+use Rattle.dm_store.specs.Entries.{entry_of, whole_entry}
+use Rattle.dm_store.specs.Keeping.{HasTaken, TakesText, TakesWhole, TakesEntry, FoldTo}
 use Rattle.dm_store.specs.Opening.{IsBadEntry, FoldStops}
 use Rattle.dm_store.specs.Laws.{KeepsOneRepo, KeepsOrHasBadEntry}
-use Rattle.dm_store.proofs.EntryLemmas.{one_entry}
+use Rattle.dm_store.proofs.EntryLemmas.{one_entry, other_kind, one_whole}
 
 has_memory : (v : Verdict) → HasTaken v → v ≢ Refused NoMemory
 has_memory v taken e = absurd (subst (λ (w : Verdict). HasTaken w) e taken)
 
 -- an entry of this policy and text is taken as the text is
-same_verdict : (repo : List Patch) (policy : Policy) (text : List ℕ) (v : Verdict) (a b : List Patch) → v ≢ Refused NoMemory → Takes repo text policy v a → (t : TakesEntry repo (entry_of policy text) b) → (v ≡ t.verdict) × (a ≡ b)
+same_verdict : (repo : List Patch) (policy : Policy) (text : List ℕ) (v : Verdict) (a b : List Patch) → v ≢ Refused NoMemory → Takes repo text policy v a → (t : TakesText repo (entry_of policy text) b) → (v ≡ t.verdict) × (a ≡ b)
 same_verdict repo policy text v a b m s t =
     let e = one_entry t.policy policy t.text text (sym t.is) in
     let u = subst (λ (x : List ℕ). Takes repo x policy t.verdict b) e.1 (subst (λ (p : Policy). Takes repo t.text p t.verdict b) e.0 t.takes) in
     taking_one standard repo text policy v t.verdict a b m (has_memory t.verdict t.taken) s u
 
+-- so is the text of a whole repository
+same_whole : (text : List ℕ) (v : Verdict) (repo a b : List Patch) → v ≢ Refused NoMemory → TakesWithin own [] text Refuse v a → (t : TakesWhole repo (whole_entry text) b) → (v ≡ t.verdict) × (a ≡ b)
+same_whole text v repo a b m s t =
+    let e = one_whole t.text text (sym t.is) in
+    taking_one own [] text Refuse v t.verdict a b m (has_memory t.verdict t.taken) s (subst (λ (x : List ℕ). TakesWithin own [] x Refuse t.verdict b) e t.takes)
+
 takes_one : (repo : List Patch) (entry : List ℕ) (a b : List Patch) → TakesEntry repo entry a → TakesEntry repo entry b → a ≡ b
-takes_one repo entry a b s t = (same_verdict repo s.policy s.text s.verdict a b (has_memory s.verdict s.taken) s.takes (subst (λ (e : List ℕ). TakesEntry repo e b) s.is t)).1
+takes_one repo entry a b (inl s) (inl t) = (same_verdict repo s.policy s.text s.verdict a b (has_memory s.verdict s.taken) s.takes (subst (λ (e : List ℕ). TakesText repo e b) s.is t)).1
+takes_one repo entry a b (inl s) (inr t) = absurd (other_kind s.policy s.text t.text (sym s.is ∙ t.is))
+takes_one repo entry a b (inr s) (inl t) = absurd (other_kind t.policy t.text s.text (sym t.is ∙ s.is))
+takes_one repo entry a b (inr s) (inr t) = (same_whole s.text s.verdict repo a b (has_memory s.verdict s.taken) s.takes (subst (λ (e : List ℕ). TakesWhole repo e b) s.is t)).1
 
 -- a text with another verdict makes no entry that is taken
 pub not_taken : (repo : List Patch) (entry : List ℕ) (policy : Policy) (text : List ℕ) (v : Verdict) (after : List Patch) → entry ≡ entry_of policy text → v ≢ Refused NoMemory → (HasTaken v → ⊥) → Takes repo text policy v after → IsBadEntry repo entry
-not_taken repo entry policy text v after is m n s next t =
-    let t' = subst (λ (e : List ℕ). TakesEntry repo e next) is t in
+not_taken repo entry policy text v after is m n s next (inl t) =
+    let t' = subst (λ (e : List ℕ). TakesText repo e next) is t in
     n (subst (λ (w : Verdict). HasTaken w) (sym (same_verdict repo policy text v after next m s t').0) t'.taken)
+not_taken repo entry policy text v after is m n s next (inr t) = absurd (other_kind policy text t.text (sym is ∙ t.is))
+
+pub whole_not_taken : (repo : List Patch) (text : List ℕ) (v : Verdict) (after : List Patch) → v ≢ Refused NoMemory → (HasTaken v → ⊥) → TakesWithin own [] text Refuse v after → IsBadEntry repo (whole_entry text)
+whole_not_taken repo text v after m n s next (inl t) = absurd (other_kind t.policy t.text text (sym t.is))
+whole_not_taken repo text v after m n s next (inr t) = n (subst (λ (w : Verdict). HasTaken w) (sym (same_whole text v repo after next m s t).0) t.taken)
+
+-- a whole repository is taken into the empty one alone
+pub not_first : (repo : List Patch) (text : List ℕ) → repo ≢ [] → IsBadEntry repo (whole_entry text)
+not_first repo text some next (inl t) = absurd (other_kind t.policy t.text text (sym t.is))
+not_first repo text some next (inr t) = some t.empty
 
 folds_one : (entries : List (List ℕ)) (p a b : List Patch) → FoldsTo TakesEntry p entries a → FoldsTo TakesEntry p entries b → a ≡ b
 folds_one [] p a b s t = sym s ∙ t

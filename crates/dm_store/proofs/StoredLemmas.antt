@@ -10,7 +10,7 @@ use Rattle.dm_journal.specs.Device.{LeavesOnly}
 use Rattle.dm_journal.specs.Ready.{HasTexts, StandsWithOrWithout}
 use Rattle.dm_journal.specs.declared.journal.Journal.{Journal}
 use Rattle.dm_store.specs.Entries.{entry_of}
-use Rattle.dm_store.specs.Keeping.{HasTaken, TakesEntry, FoldTo, KeepsRepo, KeepsWithOrWithout, CrashesKeep}
+use Rattle.dm_store.specs.Keeping.{HasTaken, TakesText, TakesEntry, FoldTo, KeepsRepo, KeepsWithOrWithout, CrashesKeep}
 
 -- a text that isn't taken leaves the repository as it was
 pub untaken_keeps : (repo : List Patch) (text : List ℕ) (policy : Policy) (v : Verdict) (after : List Patch) → (HasTaken v → ⊥) → Takes repo text policy v after → after ≡ repo
@@ -27,18 +27,18 @@ untaken_keeps repo text policy (Refused why) after n (malformed f at e same) = s
 untaken_keeps repo text policy (Refused why) after n (no_memory e same) = same
 
 -- the entry of a text that was taken
-pub entry_taken : (repo : List Patch) (entry : List ℕ) (policy : Policy) (text : List ℕ) (v : Verdict) (after : List Patch) → entry ≡ entry_of policy text → HasTaken v → Takes repo text policy v after → TakesEntry repo entry after
+pub entry_taken : (repo : List Patch) (entry : List ℕ) (policy : Policy) (text : List ℕ) (v : Verdict) (after : List Patch) → entry ≡ entry_of policy text → HasTaken v → Takes repo text policy v after → TakesText repo entry after
 entry_taken repo entry policy text v after is taken takes = record { policy = policy; text = text; verdict = v; is = is; taken = taken; takes = takes }
 
-pub fold_push : (entries : List (List ℕ)) (entry : List ℕ) (repo after : List Patch) → FoldTo entries repo → TakesEntry repo entry after → FoldTo (entries ++ entry ∷ []) after
-fold_push entries entry repo after folds t = FoldsTo-push TakesEntry [] entries repo entry after folds t
+pub fold_push : (entries : List (List ℕ)) (entry : List ℕ) (repo after : List Patch) → FoldTo entries repo → TakesText repo entry after → FoldTo (entries ++ entry ∷ []) after
+fold_push entries entry repo after folds t = FoldsTo-push TakesEntry [] entries repo entry after folds (inl t)
 
 -- with the entry or without it, the file keeps the repository after it or the one before it
-pub leaves : (entries : List (List ℕ)) (entry : List ℕ) (repo after : List Patch) (text : List ℕ) (policy : Policy) → entry ≡ entry_of policy text → FoldTo entries repo → TakesEntry repo entry after →
+pub leaves : (entries : List (List ℕ)) (entry : List ℕ) (repo after : List Patch) (text : List ℕ) (policy : Policy) → entry ≡ entry_of policy text → FoldTo entries repo → TakesText repo entry after →
     (c : List ℕ) → StandsWithOrWithout entries entry c → KeepsWithOrWithout repo text policy c
 leaves entries entry repo after text policy is folds t c (inl s) = inl (entries, s, folds)
 leaves entries entry repo after text policy is folds t c (inr s) =
-    inr (after, subst (λ (e : List ℕ). TakesEntry repo e after) is t, (entries ++ entry ∷ [], s, fold_push entries entry repo after folds t))
+    inr (after, subst (λ (e : List ℕ). TakesText repo e after) is t, (entries ++ entry ∷ [], s, fold_push entries entry repo after folds t))
 
 module _ {D : Type 0} (seen : D → List ℕ) (may_leave file_may_leave : D → List ℕ → Type 0) (journal : Journal D) (entries : List (List ℕ)) (repo : List Patch) (has : HasTexts seen may_leave file_may_leave journal entries) (folds : FoldTo entries repo) where
   pub keeps : KeepsRepo (seen journal.device) repo

@@ -1,5 +1,7 @@
 -- The entries of a store's journal.
-use Rattle.std.specs.Prelude.{ℕ, List, ◌∷◌}
+use Rattle.std.specs.Prelude.{ℕ, List, [], ◌∷◌}
+use Rattle.dm_named.specs.Patches.{Patch}
+use Rattle.dm_bundle.specs.Bundles.{Contents}
 use Rattle.dm_repo.specs.declared.policy.Policy.{Policy}
 use Rattle.dm_repo.specs.declared.policy.Policy.TheVariants.{Refuse, Skip}
 
@@ -8,6 +10,14 @@ abbrev pub policy_byte : Policy → ℕ
 policy_byte Refuse = 0
 policy_byte Skip = 1
 
--- an entry: the byte of a policy, and a text
+-- the entry of a text that was taken: the byte of its policy, and the text
 abbrev pub entry_of : Policy → List ℕ → List ℕ
 entry_of policy text = policy_byte policy ∷ text
+
+-- the entry of a whole repository: another byte, and a text
+abbrev pub whole_entry : List ℕ → List ℕ
+whole_entry text = 2 ∷ text
+
+-- the bundle of all patches of a repository, with an empty context
+abbrev pub all_of : List Patch → Contents
+all_of repo = record { patches = repo; context = [] }

@@ -1,14 +1,19 @@
 -- Which repository a file keeps.
-use Rattle.std.specs.Prelude.{◌≡◌, ◌⊎◌, ℕ, List, []}
+use Rattle.std.specs.Prelude.{◌≡◌, ◌≢◌, ◌⊎◌, ℕ, List, []}
 use Rattle.std.specs.List.{FoldsTo}
+use Rattle.dm_named.specs.Limits.{own}
 use Rattle.dm_named.specs.Patches.{Patch}
+use Rattle.dm_bundle.specs.Canonical.{bundle_text}
+use Rattle.dm_bundle.specs.Faults.{IsWithinSizeOf}
+use Rattle.dm_bundle.specs.Patches.{AreFewWithin}
 use Rattle.dm_repo.specs.declared.policy.Policy.{Policy}
+use Rattle.dm_repo.specs.declared.policy.Policy.TheVariants.{Refuse}
 use Rattle.dm_scratch.specs.declared.verdict.Verdict.{Verdict}
 use Rattle.dm_scratch.specs.declared.verdict.Verdict.TheVariants.{Taken, TakenSome, NothingNew, Malformed, Refused}
-use Rattle.dm_scratch.specs.Taking.{Takes}
+use Rattle.dm_scratch.specs.Taking.{Takes, TakesWithin}
 use Rattle.dm_journal.specs.Journal.{StandsFor}
 use Rattle.dm_journal.specs.Ready.{HasTexts}
-use Rattle.dm_store.specs.Entries.{entry_of}
+use Rattle.dm_store.specs.Entries.{entry_of, whole_entry, all_of}
 use Rattle.dm_store.specs.declared.store.Store.{Store}
 
 -- something was taken: all of the bundle's patches that weren't held, or some of them
@@ -19,14 +24,28 @@ HasTaken NothingNew = ⊥
 HasTaken (Malformed fault) = ⊥
 HasTaken (Refused why) = ⊥
 
--- the entry's text is taken under the entry's policy, which leaves the repository after it
-pub record TakesEntry (repo : List Patch) (entry : List ℕ) (after : List Patch) : Type 0 where
+-- the entry is that of a policy and a text, and the text is taken under the policy, which leaves the repository after it
+pub record TakesText (repo : List Patch) (entry : List ℕ) (after : List Patch) : Type 0 where
   pub policy : Policy
   pub text : List ℕ
   pub verdict : Verdict
   pub is : entry ≡ entry_of policy text
   pub taken : HasTaken verdict
   pub takes : Takes repo text policy verdict after
+
+-- the entry is that of a whole repository, and its text is taken into the empty repository, within the limits for one's own, which leaves the one
+-- after it
+pub record TakesWhole (repo : List Patch) (entry : List ℕ) (after : List Patch) : Type 0 where
+  pub text : List ℕ
+  pub verdict : Verdict
+  pub is : entry ≡ whole_entry text
+  pub empty : repo ≡ []
+  pub taken : HasTaken verdict
+  pub takes : TakesWithin own [] text Refuse verdict after
+
+-- the entry is taken, in one of these two ways
+abbrev pub TakesEntry : List Patch → List ℕ → List Patch → Type 0
+TakesEntry repo entry after = TakesText repo entry after ⊎ TakesWhole repo entry after
 
 -- the entries are taken one after the other, from the empty repository on, each into the repository that the one before it left
 abbrev pub FoldTo : List (List ℕ) → List Patch → Type 0
@@ -39,7 +58,7 @@ KeepsRepo file repo = (entries : List (List ℕ)) × StandsFor file entries × F
 -- the file keeps this repository, or the one that the text leaves when it is taken into it
 abbrev pub KeepsWithOrWithout : List Patch → List ℕ → Policy → List ℕ → Type 0
 KeepsWithOrWithout repo text policy file =
-    KeepsRepo file repo ⊎ ((after : List Patch) × TakesEntry repo (entry_of policy text) after × KeepsRepo file after)
+    KeepsRepo file repo ⊎ ((after : List Patch) × TakesText repo (entry_of policy text) after × KeepsRepo file after)
 
 -- the file is this one, or it keeps the repository without patches
 abbrev pub IsOrKeepsNone : List ℕ → List ℕ → Type 0
@@ -54,3 +73,13 @@ pub record IsStored {D : Type 0} (seen : D → List ℕ) (may_leave file_may_lea
   pub entries : List (List ℕ)
   pub has : HasTexts seen may_leave file_may_leave store.journal entries
   pub folds : FoldTo entries store.repo.patches
+
+-- the repository has patches, and they can be read again from one text: they are few enough, and so are its bytes
+pub record FitsOneEntry (repo : List Patch) : Type 0 where
+  pub some : repo ≢ []
+  pub few : AreFewWithin own repo
+  pub small : IsWithinSizeOf own (bundle_text (all_of repo))
+
+-- the entry of all patches of a repository
+abbrev pub entry_of_all : List Patch → List ℕ
+entry_of_all repo = whole_entry (bundle_text (all_of repo))

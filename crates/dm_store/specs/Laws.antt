@@ -1,12 +1,15 @@
 -- What holds of all files and repositories.
-use Rattle.std.specs.Prelude.{◌≡◌, ◌≢◌, ℕ, List, ◌++◌}
+use Rattle.std.specs.Prelude.{◌≡◌, ◌≢◌, ℕ, List, [], ◌++◌, length}
+use Rattle.dm_named.specs.Limits.{own}
 use Rattle.dm_named.specs.Patches.{Patch}
 use Rattle.dm_repo.specs.declared.policy.Policy.{Policy}
 use Rattle.dm_repo.specs.declared.policy.Policy.TheVariants.{Refuse}
 use Rattle.dm_repo.specs.declared.refusal.Refusal.TheVariants.{NoMemory}
 use Rattle.dm_scratch.specs.declared.verdict.Verdict.{Verdict}
-use Rattle.dm_scratch.specs.declared.verdict.Verdict.TheVariants.{NothingNew, Refused}
-use Rattle.dm_scratch.specs.Taking.{Takes, IsAccepted}
+use Rattle.dm_repo.specs.Repositories.{IsRepo}
+use Rattle.dm_scratch.specs.declared.verdict.Verdict.TheVariants.{Taken, NothingNew, Refused}
+use Rattle.dm_scratch.specs.Taking.{ReadsWithin, Takes, TakesWithin, IsAccepted}
+use Rattle.dm_store.specs.Entries.{all_of}
 use Rattle.dm_store.specs.Keeping.{KeepsRepo}
 use Rattle.dm_store.specs.Opening.{HasBadEntry}
 
@@ -22,3 +25,7 @@ KeepsOrHasBadEntry = (file : List ℕ) (repo : List Patch) (number : ℕ) → Ke
 abbrev pub TwiceIsOnce : Type 0
 TwiceIsOnce = (repo : List Patch) (text : List ℕ) (v : Verdict) (after more : List Patch) → IsAccepted v → Takes repo text Refuse v after →
     (policy : Policy) (w : Verdict) (last : List Patch) → w ≢ Refused NoMemory → Takes (after ++ more) text policy w last → (w ≡ NothingNew) × (last ≡ after ++ more)
+
+-- a text that stands for all patches of a repository, both within the limits for one's own, is taken into the empty repository, which leaves that repository
+abbrev pub RepositoryIsTakenAgain : Type 0
+RepositoryIsTakenAgain = (repo : List Patch) (text : List ℕ) → IsRepo repo → repo ≢ [] → ReadsWithin own text (all_of repo) → TakesWithin own [] text Refuse (Taken (length repo)) repo

@@ -1,12 +1,15 @@
-//! How a text and its policy stand in the journal.
+//! How a text and its policy stand in the journal, and the text of a whole repository.
 ghost use Rattle.std.specs.Prelude.{◌≡◌, List, ℕ, IfSome, IfNone, IfOk, IfErr};
 ghost use Rattle.dm_journal.specs.declared.device.DeviceError.TheVariants.{Memory};
 ghost use Rattle.dm_journal.specs.declared.fault.WriteError.TheVariants.{Device as WritingDevice};
-ghost use Rattle.dm_store.specs.Entries.{policy_byte, entry_of};
+ghost use Rattle.dm_store.specs.Entries.{policy_byte, entry_of, whole_entry};
 
 use dm_journal::WriteError;
 use dm_repo::Policy;
 use std::alloc::Global;
+
+// The first byte of the entry of a whole repository.
+const WHOLE: u8 = 2;
 
 // The entry of a text that was taken under a policy.
 pub fn make_entry(alloc: Global, text: &[u8], policy: Policy) -> Result<Vec<u8>, WriteError>
@@ -15,6 +18,17 @@ pub fn make_entry(alloc: Global, text: &[u8], policy: Policy) -> Result<Vec<u8>,
 {
     let mut entry = Vec::with_capacity(alloc, text.len() + 1)?;
     entry.push(byte_of(policy))?;
+    entry.extend_from_slice(text)?;
+    Ok(entry)
+}
+
+// The entry of the text of a whole repository.
+pub fn make_whole_entry(alloc: Global, text: &[u8]) -> Result<Vec<u8>, WriteError>
+    ensures entry { IfOk result (λ entry. entry.items ≡ whole_entry text.now) }
+    ensures err { IfErr result (λ e. e ≡ WritingDevice Memory) }
+{
+    let mut entry = Vec::with_capacity(alloc, text.len() + 1)?;
+    entry.push(WHOLE)?;
     entry.extend_from_slice(text)?;
     Ok(entry)
 }
@@ -41,4 +55,18 @@ pub fn split_entry(entry: &[u8]) -> Option<(Policy, &[u8])>
         1 => Some((Policy::Skip, text)),
         _ => None,
     }
+}
+
+// The text of an entry of a whole repository.
+pub fn strip_whole(entry: &[u8]) -> Option<&[u8]>
+    ensures some { IfSome result (λ text. entry.now ≡ whole_entry text.now) }
+    ensures none { IfNone result ((text : List ℕ) → entry.now ≡ whole_entry text → ⊥) }
+{
+    let [byte, text @ ..] = entry else {
+        return None;
+    };
+    if *byte != WHOLE {
+        return None;
+    }
+    Some(text)
 }

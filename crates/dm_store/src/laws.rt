@@ -1,5 +1,5 @@
 //! Laws of the definitions alone. A call of them does nothing.
-ghost use Rattle.dm_store.specs.Laws.{KeepsOneRepo, KeepsOrHasBadEntry, TwiceIsOnce};
+ghost use Rattle.dm_store.specs.Laws.{KeepsOneRepo, KeepsOrHasBadEntry, TwiceIsOnce, RepositoryIsTakenAgain};
 
 use dm_journal::laws::a_file_has_one_answer;
 
@@ -15,4 +15,10 @@ pub fn a_file_keeps_one_repository()
 /// which it left, brings nothing new.
 pub fn twice_is_once()
     ensures { TwiceIsOnce }
+{}
+
+/// A text that stands for all patches of a repository, both within the limits for one's own, is taken into an empty
+/// repository, which has then just these patches.
+pub fn a_repository_is_taken_again()
+    ensures { RepositoryIsTakenAgain }
 {}

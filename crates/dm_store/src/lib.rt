@@ -1,12 +1,13 @@
 //! A repository that lasts: it is kept in a journal, whose entries are the bundles that were taken, in order, each with the
-//! policy under which it was taken.
+//! policy under which it was taken; the first may be a whole repository instead.
 //!
 //! [`Store::open`] takes the entries again, one after the other, so what a file keeps is the plain fold of its entries.
 //! [`Store::take`] answers once the text is on the disk; a crash at any moment of a call leaves a file that keeps the
-//! repository from before it, or the one that the text leaves. The [`laws`] say that a file keeps one repository, and that a
-//! bundle that comes twice is taken once.
+//! repository from before it, or the one that the text leaves. [`Store::checkpoint`] puts one entry in the place of all: the
+//! bundle of all patches, with an empty context. The [`laws`] say that a file keeps one repository, that a bundle that comes
+//! twice is taken once, and that an empty repository which takes all patches of another has just these.
 //!
-//! The crate stands on dm_journal for the file, and on dm_scratch for taking a text.
+//! The crate stands on dm_journal for the file, on dm_scratch for taking a text, and on dm_bundle for writing one.
 #![tactic(auto)]
 
 mod entries;
@@ -14,6 +15,7 @@ mod fault;
 pub mod laws;
 mod opening;
 mod store;
+mod whole;
 
 pub use fault::StoreError;
 pub use store::Store;

@@ -1,15 +1,17 @@
 //! How the entries of a journal are taken again.
 ghost use Rattle.std.specs.Prelude.{◌≡◌, ◌≢◌, ◌⊎◌, ◌↔◌, [], IfOk, IfErr, OnOk, IsTrue};
 ghost use Rattle.dm_store.specs.declared.fault.StoreError.TheVariants.{NoMemory, BadEntry};
+ghost use Rattle.dm_store.specs.Entries.{whole_entry};
 ghost use Rattle.dm_store.specs.Keeping.{HasTaken, TakesEntry, FoldTo};
 ghost use Rattle.dm_store.specs.Opening.{IsBadEntry, StopsFor};
 
-use crate::entries::split_entry;
+use crate::entries::{split_entry, strip_whole};
 use crate::fault::StoreError;
 use bumpalo::Bump;
 use dm_journal::Texts;
-use dm_repo::{Refusal, Repo};
-use dm_scratch::{Verdict, take};
+use dm_named::Limits;
+use dm_repo::{Policy, Refusal, Repo};
+use dm_scratch::{Verdict, take, take_within};
 use std::alloc::Global;
 
 // Whether something was taken.
@@ -33,13 +35,14 @@ pub fn take_again(alloc: Global, entries: &Texts) -> Result<(Repo<Global>, Bump)
     let mut repo = Repo::new(alloc);
     let mut arena = Bump::new(alloc);
     for i in 0..entries.len() {
-        take_entry(&mut repo, &mut arena, entries.text(i), i)?;
+        take_entry(alloc, &mut repo, &mut arena, entries.text(i), i)?;
     }
     Ok((repo, arena))
 }
 
 // Takes the entry of this number.
 fn take_entry(
+    alloc: Global,
     repo: &mut Repo<Global>,
     arena: &mut Bump,
     entry: &[u8],
@@ -48,10 +51,33 @@ fn take_entry(
     ensures ok { OnOk result (TakesEntry repo.old.patches entry.now repo.new.patches) }
     ensures err { IfErr result (λ e. (e ≡ NoMemory) ⊎ ((e ≡ BadEntry number) × IsBadEntry repo.old.patches entry.now)) }
 {
+    if let Some(text) = strip_whole(entry) {
+        return take_whole(alloc, repo, text, number);
+    }
     let Some((policy, text)) = split_entry(entry) else {
         return Err(StoreError::BadEntry(number));
     };
     let verdict = take(repo, arena, text, policy);
+    if has_taken(&verdict) {
+        return Ok(());
+    }
+    Err(fault_of(verdict, number))
+}
+
+// Takes the text of a whole repository, where nothing was taken before it.
+fn take_whole(
+    alloc: Global,
+    repo: &mut Repo<Global>,
+    text: &[u8],
+    number: usize,
+) -> Result<(), StoreError>
+    ensures ok { OnOk result (TakesEntry repo.old.patches (whole_entry text.now) repo.new.patches) }
+    ensures err { IfErr result (λ e. (e ≡ NoMemory) ⊎ ((e ≡ BadEntry number) × IsBadEntry repo.old.patches (whole_entry text.now))) }
+{
+    if !repo.is_empty() {
+        return Err(StoreError::BadEntry(number));
+    }
+    let verdict = take_within(repo, alloc, text, Limits::OWN, Policy::Refuse);
     if has_taken(&verdict) {
         return Ok(());
     }

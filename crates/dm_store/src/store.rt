@@ -1,28 +1,29 @@
 //! A store: a repository, and the journal that keeps it.
-ghost use Rattle.std.specs.Prelude.{◌≡◌, ◌<◌, ◌^◌, ℕ, [], length, IfOk, IfErr, OnOk, IsErrOf};
+ghost use Rattle.std.specs.Prelude.{◌≡◌, ◌↔◌, ◌<◌, ◌^◌, ℕ, [], ◌∷◌, length, IfOk, IfErr, OnOk, IsErrOf, IsTrue};
 ghost use Rattle.dm_journal.specs.declared.device.DeviceError.TheVariants.{Failed};
 ghost use Rattle.dm_journal.specs.declared.fault.Fault.{Fault as FileFault};
 ghost use Rattle.dm_journal.specs.declared.fault.OpenError.TheVariants.{Device as OpeningDevice, File as OpeningFile};
 ghost use Rattle.dm_journal.specs.declared.fault.WriteError.TheVariants.{Device as WritingDevice, TooLong, Full};
 ghost use Rattle.dm_journal.specs.Device.{IsDurable, LeavesOnly};
 ghost use Rattle.dm_journal.specs.Faults.{HasFault};
-ghost use Rattle.dm_journal.specs.Ready.{IsUntouched};
+ghost use Rattle.dm_journal.specs.Ready.{HasTexts, IsUntouched};
 ghost use Rattle.dm_scratch.specs.Taking.{Takes};
 ghost use Rattle.dm_store.specs.declared.fault.StoreError.TheVariants.{Journal as OpeningJournal, BadEntry};
-ghost use Rattle.dm_store.specs.Keeping.{HasTaken, KeepsRepo, KeepsWithOrWithout, IsOrKeepsNone, CrashesKeep, IsStored};
+ghost use Rattle.dm_store.specs.Keeping.{HasTaken, KeepsRepo, KeepsWithOrWithout, IsOrKeepsNone, CrashesKeep, IsStored, FitsOneEntry, entry_of_all};
 ghost use Rattle.dm_store.specs.Opening.{HasBadEntry};
 
 use crate::entries::make_entry;
 use crate::fault::StoreError;
 use crate::opening::{has_taken, take_again};
+use crate::whole::entry_of_repo;
 use bumpalo::Bump;
 use dm_journal::{Device, Journal, WriteError};
 use dm_repo::{Policy, Repo};
 use dm_scratch::{Verdict, take};
 use std::alloc::Global;
 
-/// A repository that lasts. After an error of [`Store::take`], open the file again: the repository in memory may have more
-/// than the file.
+/// A repository that lasts. After an error of [`Store::take`] or [`Store::checkpoint`], open the file again: the repository
+/// in memory may have more than the file.
 #[derive(Drop)]
 pub struct Store<D: Device> {
     journal: Journal<D>,
@@ -131,5 +132,37 @@ impl<D: Device> Store<D> {
         let entry = make_entry(alloc, text, policy)?;
         self.journal.append(alloc, &entry)?;
         Ok(verdict)
+    }
+
+    /// Puts one entry in the place of all that the journal has: the bundle of all patches, with an empty context. The
+    /// repository stays the same, and opening takes one text from then on.
+    ///
+    /// `false` where there is no patch, or where the text or a patch is past [`dm_named::Limits::OWN`]: the journal is as it
+    /// was then. After an error open the file again.
+    pub fn checkpoint(&mut self, alloc: Global) -> Result<bool, WriteError>
+        requires { IsStored D.seen D.may_leave D.file_may_leave self.old }
+
+        ensures same { self.new.repo ≡ self.old.repo }
+        ensures stored { OnOk result (IsStored D.seen D.may_leave D.file_may_leave self.new) }
+        ensures kept { OnOk result (CrashesKeep D.may_leave self.new.journal.device self.new.repo.patches) }
+        ensures fits { IfOk result (λ done. IsTrue done ↔ FitsOneEntry self.old.repo.patches) }
+        ensures one_entry { IfOk result (λ done. IsTrue done
+            → HasTexts D.seen D.may_leave D.file_may_leave self.new.journal (entry_of_all self.old.repo.patches ∷ [])) }
+        ensures unwritten { IfOk result (λ done. ¬ IsTrue done → self.new.journal ≡ self.old.journal) }
+
+        // A crash at any moment of the call leaves a file that keeps the same repository.
+        ensures any_moment { LeavesOnly D.moment D.left_since self.old.journal.device self.new.journal.device
+            (λ file. KeepsRepo file self.old.repo.patches) }
+
+        // It doesn't give up by itself.
+        ensures failed { IsErrOf result (WritingDevice Failed) → D.faults self.old.journal.device < D.faults self.new.journal.device }
+        ensures not_too_long { IsErrOf result TooLong → ⊥ }
+        ensures not_full { IsErrOf result Full → ⊥ }
+    {
+        let Some(entry) = entry_of_repo(alloc, &self.repo)? else {
+            return Ok(false);
+        };
+        self.journal.replace(alloc, &[entry.as_slice()])?;
+        Ok(true)
     }
 }

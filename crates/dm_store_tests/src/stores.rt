@@ -14,6 +14,10 @@ const TWO: &[u8] =
 const CONFLICT: &[u8] =
     b"New patches:\n\n[n\np**d] {\naddfile ./f\nadddir ./d\n}\n[o\np**d] adddir ./o\n\nContext:\n\n";
 
+/// A patch (q) that adds a line behind that of (m).
+const NEXT: &[u8] =
+    b"New patches:\n\n[q\np**d] hunk ./f 2\n+y\n\nContext:\n\n[m\np**d]\n[a\np**d]\n";
+
 /// Whether a new store takes two patches once, skips one of two others, and has three when it is opened again.
 fn lasts(alloc: Global) -> bool {
     let Ok(mut store) = Store::create(alloc, Memory::new(alloc, Vec::new(alloc))) else {
@@ -39,6 +43,43 @@ fn a_store_is_opened_again(rt: HostRuntime) {
     assert!(rt; lasts(rt.alloc()), "three patches of two texts");
 }
 
+/// Whether a store of two texts has the same patches when it is opened again after a checkpoint, and takes another text then.
+fn lasts_in_one_entry(alloc: Global) -> bool {
+    let Ok(mut store) = Store::create(alloc, Memory::new(alloc, Vec::new(alloc))) else {
+        return false;
+    };
+    let Ok(false) = store.checkpoint(alloc) else {
+        return false;
+    };
+    let Ok(Verdict::Taken(2)) = store.take(alloc, TWO, Policy::Refuse) else {
+        return false;
+    };
+    let Ok(Verdict::TakenSome(1, 1)) = store.take(alloc, CONFLICT, Policy::Skip) else {
+        return false;
+    };
+    let Ok(true) = store.checkpoint(alloc) else {
+        return false;
+    };
+    let Ok(mut opened) = Store::open(alloc, store.into_device()) else {
+        return false;
+    };
+    if opened.repo().len() != 3 {
+        return false;
+    }
+    let Ok(Verdict::Taken(1)) = opened.take(alloc, NEXT, Policy::Refuse) else {
+        return false;
+    };
+    true
+}
+
+#[test]
+fn a_checkpoint_is_opened_again(rt: HostRuntime) {
+    assert!(rt;
+        lasts_in_one_entry(rt.alloc()),
+        "three patches in one entry, and a fourth after it"
+    );
+}
+
 /// Whether a journal of this text isn't opened, for its entry.
 fn is_bad(alloc: Global, text: &[u8]) -> bool {
     let Ok(journal) = Journal::create(alloc, Memory::new(alloc, Vec::new(alloc)), &[text]) else {
@@ -53,6 +94,10 @@ fn is_bad(alloc: Global, text: &[u8]) -> bool {
 #[test]
 fn another_journal_is_not_opened(rt: HostRuntime) {
     assert!(rt; is_bad(rt.alloc(), b""), "no policy");
-    assert!(rt; is_bad(rt.alloc(), b"\x02"), "a policy that isn't one");
+    assert!(rt; is_bad(rt.alloc(), b"\x03"), "a policy that isn't one");
     assert!(rt; is_bad(rt.alloc(), b"\x00"), "no bundle");
+    assert!(rt;
+        is_bad(rt.alloc(), b"\x02"),
+        "no bundle of a whole repository"
+    );
 }

@@ -6,11 +6,14 @@ use Rattle.dm_store.proofs.opening.take_entry.Goals as goal
 
 pub returns-then-has_taken-clause-ok : goal.returns-then-has_taken-clause-ok
 returns-then-has_taken-clause-ok c =
-    entry_taken c.args.repo.now.patches c.args.entry.now c.in-Some.policy c.in-Some.text.now c.take-verdict.result c.take-verdict.new.repo.patches
-    c.in-Some.ensures.some (c.if-has_taken.ensures.0 refl) c.take-verdict.ensures
+    inl (entry_taken c.args.repo.now.patches c.args.entry.now c.in-Some-split_entry.policy c.in-Some-split_entry.text.now c.take-verdict.result c.take-verdict.new.repo.patches
+    c.in-Some-split_entry.ensures.some (c.if-has_taken.ensures.0 refl) c.take-verdict.ensures)
 
 pub returns-clause-err : goal.returns-clause-err
 returns-clause-err c =
     ⊎_elim (λ e. inl e.1)
-    (λ e. inr (e.1, not_taken c.args.repo.now.patches c.args.entry.now c.in-Some.policy c.in-Some.text.now c.take-verdict.result c.take-verdict.new.repo.patches c.in-Some.ensures.some e.0 (refuted c.if-has_taken.ensures) c.take-verdict.ensures))
+    (λ e. inr (e.1, not_taken c.args.repo.now.patches c.args.entry.now c.in-Some-split_entry.policy c.in-Some-split_entry.text.now c.take-verdict.result c.take-verdict.new.repo.patches c.in-Some-split_entry.ensures.some e.0 (refuted c.if-has_taken.ensures) c.take-verdict.ensures))
     c.fault_of.ensures
+
+pub returns-in-Some-clause-err : goal.returns-in-Some-clause-err
+returns-in-Some-clause-err c = rw c.in-Some.ensures.some c.take_whole.ensures.err

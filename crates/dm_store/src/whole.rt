@@ -1,0 +1,62 @@
+//! The entry of a whole repository.
+ghost use Rattle.std.specs.Prelude.{◌≡◌, ◌≤◌, [], length, IfOk, IfErr, IfSome, IfNone, MatchBool};
+ghost use Rattle.std.specs.List.{AllByRecursion};
+ghost use Rattle.dm_bundle.specs.Patches.{AreFewWithin};
+ghost use Rattle.dm_journal.specs.declared.device.DeviceError.TheVariants.{Memory};
+ghost use Rattle.dm_journal.specs.declared.fault.WriteError.TheVariants.{Device as WritingDevice};
+ghost use Rattle.dm_named.specs.Limits.{own};
+ghost use Rattle.dm_store.specs.Keeping.{TakesEntry, FitsOneEntry, entry_of_all};
+
+use crate::entries::make_whole_entry;
+use dm_bundle::write_bundle;
+use dm_journal::WriteError;
+use dm_named::{Limits, Named};
+use dm_repo::Repo;
+use std::alloc::Global;
+
+// The entry that leaves this repository where it is taken first, if the repository fits one.
+pub fn entry_of_repo(alloc: Global, repo: &Repo<Global>) -> Result<Option<Vec<u8>>, WriteError>
+    ensures entry { IfOk result (λ found. IfSome found (λ entry. entry.items ≡ entry_of_all repo.now.patches)) }
+    ensures fits { IfOk result (λ found. IfSome found (λ _. FitsOneEntry repo.now.patches)) }
+    ensures takes { IfOk result (λ found. IfSome found (λ entry. TakesEntry [] entry.items repo.now.patches)) }
+    ensures none { IfOk result (λ found. IfNone found (FitsOneEntry repo.now.patches → ⊥)) }
+    ensures err { IfErr result (λ e. e ≡ WritingDevice Memory) }
+{
+    if repo.len() == 0 {
+        return Ok(None);
+    }
+    let bundle = repo.to_bundle(alloc)?;
+    if !are_few(bundle.new_patches()) {
+        return Ok(None);
+    }
+    let text = write_bundle(alloc, &bundle)?;
+    if text.len() > Limits::OWN.bytes {
+        return Ok(None);
+    }
+    let entry = make_whole_entry(alloc, &text)?;
+    Ok(Some(entry))
+}
+
+// Whether these are new patches that are read.
+fn are_few(patches: &[Named<Global>]) -> bool
+    ensures { MatchBool result (AreFewWithin own patches.now) (AreFewWithin own patches.now → ⊥) }
+{
+    if patches.len() > Limits::OWN.patches {
+        return false;
+    }
+    are_short(patches)
+}
+
+// Whether each of these patches has few enough primitives to be read.
+fn are_short(patches: &[Named<Global>]) -> bool
+    ensures { MatchBool result
+        (AllByRecursion (λ p. length p.prims ≤ own.prims) patches.now)
+        (AllByRecursion (λ p. length p.prims ≤ own.prims) patches.now → ⊥) }
+{
+    for patch in patches {
+        if patch.prims().len() > Limits::OWN.prims {
+            return false;
+        }
+    }
+    true
+}
