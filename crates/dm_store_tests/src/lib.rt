@@ -2,5 +2,6 @@
 //! file is opened again.
 #![tactic(auto)]
 
+mod asking;
 #[cfg(test)]
 mod stores;

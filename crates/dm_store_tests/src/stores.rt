@@ -1,9 +1,10 @@
 //! A store in memory, and one that is opened again.
 
+use crate::asking::{bad_entry_in, patches_in};
 use dm_journal::{Journal, Memory};
 use dm_repo::Policy;
 use dm_scratch::Verdict;
-use dm_store::{Store, StoreError};
+use dm_store::Store;
 use std::alloc::Global;
 
 /// A patch (a) that adds a file, and a patch (m) that adds a line.
@@ -32,10 +33,8 @@ fn lasts(alloc: Global) -> bool {
     let Ok(Verdict::TakenSome(1, 1)) = store.take(alloc, CONFLICT, Policy::Skip) else {
         return false;
     };
-    let Ok(opened) = Store::open(alloc, store.into_device()) else {
-        return false;
-    };
-    opened.repo().len() == 3
+    let device = store.into_device();
+    patches_in(alloc, device.bytes()) == Some(3)
 }
 
 #[test]
@@ -85,10 +84,7 @@ fn is_bad(alloc: Global, text: &[u8]) -> bool {
     let Ok(journal) = Journal::create(alloc, Memory::new(alloc, Vec::new(alloc)), &[text]) else {
         return false;
     };
-    match Store::open(alloc, journal.device) {
-        Err((StoreError::BadEntry(0), _)) => true,
-        _ => false,
-    }
+    bad_entry_in(alloc, journal.device.bytes()) == Some(0)
 }
 
 #[test]

@@ -1,0 +1,35 @@
+//! What the tests ask of files.
+ghost use Rattle.std.specs.Prelude.{◌≡◌, List, length, IfSome};
+ghost use Rattle.dm_named.specs.Patches.{Patch};
+ghost use Rattle.dm_store.specs.Keeping.{KeepsRepo};
+ghost use Rattle.dm_store.specs.Opening.{HasBadEntry};
+
+use dm_journal::Memory;
+use dm_store::{Store, StoreError};
+use std::alloc::Global;
+
+/// How many patches the repository has that a file of these bytes keeps. `None` if it keeps none, or if memory ran out.
+pub fn patches_in(alloc: Global, bytes: &[u8]) -> Option<usize>
+    ensures { IfSome result (λ count. (repo : List Patch) × KeepsRepo bytes.now repo × (count ≡ length repo)) }
+{
+    let Ok(bytes) = bytes.to_vec(alloc) else {
+        return None;
+    };
+    match Store::open(alloc, Memory::new(alloc, bytes)) {
+        Ok(store) => Some(store.repo().len()),
+        Err(_) => None,
+    }
+}
+
+/// The number of the entry for which a file of these bytes keeps no repository. `None` if there is none, or if memory ran out.
+pub fn bad_entry_in(alloc: Global, bytes: &[u8]) -> Option<usize>
+    ensures { IfSome result (HasBadEntry bytes.now) }
+{
+    let Ok(bytes) = bytes.to_vec(alloc) else {
+        return None;
+    };
+    match Store::open(alloc, Memory::new(alloc, bytes)) {
+        Err((StoreError::BadEntry(number), _)) => Some(number),
+        _ => None,
+    }
+}
