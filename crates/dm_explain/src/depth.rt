@@ -9,7 +9,7 @@ use dm_bundle::Bundle;
 use dm_info::Info;
 use dm_prim::Prim;
 use dm_repo::{Misfit, Overflow, Policy, Repo, find_overflow};
-use dm_tree::Path;
+use dm_tree::{MOST_NAMES, Path};
 use std::alloc::Global;
 use std::fmt::{self, Formatter, Write};
 
@@ -102,7 +102,7 @@ fn write_move<W: Write>(
     };
     write!(
         f,
-        "at `{}`: a path would have more than 32 names",
+        "at `{}`: a path would have more than {MOST_NAMES} names",
         Head { prim }
     )?;
     let Some(path) = path else {

@@ -4,7 +4,7 @@ ghost use Rattle.std.specs.Prelude.{◌≤◌, length};
 use crate::place::{Place, place_of};
 use crate::seeming::seeming_of;
 use bstr::BStr;
-use dm_named::{FaultKind, ReadFault};
+use dm_named::{FaultKind, Limits, ReadFault};
 use std::fmt::{self, Display, Formatter, Write};
 
 /// So many bytes of a line are shown.
@@ -27,10 +27,9 @@ impl<'a> Malformed<'a> {
     }
 }
 
-/// What was due at the place of a fault.
+/// What was due at the place of a fault that is none of a limit.
 fn due(kind: FaultKind) -> &'static str {
     match kind {
-        FaultKind::TooLarge => "a bundle has at most 4,194,304 bytes",
         FaultKind::NoNewPatches =>
             "no line is `New patches:`, with which the patches of a bundle begin",
         FaultKind::BadInfo =>
@@ -47,9 +46,25 @@ fn due(kind: FaultKind) -> &'static str {
         FaultKind::Unclosed => "the text ends here, before the `}` that ends the patch",
         FaultKind::NoContext => "the next patch was due, or the line `Context:`",
         FaultKind::Doubled => "this patch stands in the bundle before",
-        FaultKind::TooMany =>
-            "a bundle has at most 1,000 new patches, and a patch at most 10,000 primitives",
+        FaultKind::TooLarge | FaultKind::TooMany => "this is more than a bundle has",
         FaultKind::NoMemory => "memory ran out here",
+    }
+}
+
+/// Writes what was due at the place of a fault, or which limit is passed there.
+fn write_due<W: Write>(f: &mut Formatter<W>, kind: FaultKind) -> fmt::Result {
+    let Limits {
+        bytes,
+        patches,
+        prims,
+    } = Limits::STANDARD;
+    match kind {
+        FaultKind::TooLarge => writeln!(f, "a bundle has at most {bytes} bytes"),
+        FaultKind::TooMany => writeln!(
+            f,
+            "a bundle has at most {patches} new patches, and a patch at most {prims} primitives"
+        ),
+        _ => writeln!(f, "{}", due(kind)),
     }
 }
 
@@ -91,14 +106,15 @@ fn is_of_whole(kind: FaultKind) -> bool {
 
 impl Display for Malformed<'_> {
     fn fmt<W: Write>(&self, f: &mut Formatter<W>) -> fmt::Result {
-        let due = due(self.fault.kind);
-        if is_of_whole(self.fault.kind) {
-            writeln!(f, "{due}")?;
+        let kind = self.fault.kind;
+        if is_of_whole(kind) {
+            write_due(f, kind)?;
         } else {
             let at = self.fault.at.min(self.text.len());
             let place = place_of(self.text, at);
             let column = at - place.start + 1;
-            writeln!(f, "line {}, column {column}: {due}", place.line)?;
+            write!(f, "line {}, column {column}: ", place.line)?;
+            write_due(f, kind)?;
             write_place(f, self.text, place, at)?;
         }
         match seeming_of(self.text) {

@@ -7,11 +7,10 @@ use crate::misfits::write_misfit;
 use crate::shown::Who;
 use crate::skips::{NamedSkip, Reason, Skips};
 use dm_info::Info;
+use dm_named::Limits;
+use dm_tree::MOST_NAMES;
 use std::alloc::Global;
 use std::fmt::{self, Display, Formatter, Write};
-
-/// A repository holds at most so many patches.
-const MOST_PATCHES: usize = 100_000;
 
 /// A line for each of these patches, after a line that says what they are; nothing where there is none.
 fn write_list<W: Write>(f: &mut Formatter<W>, what: &str, names: &[&Info<Global>]) -> fmt::Result {
@@ -78,13 +77,14 @@ fn write_full<W: Write>(
     if let Some(depth) = depth {
         return write_depth(f, depth);
     }
-    if held.saturating_add(more) > MOST_PATCHES {
+    let most = Limits::OWN.patches;
+    if held.saturating_add(more) > most {
         return writeln!(
             f,
-            "The repository has {held} patches, and the bundle {more} more; {MOST_PATCHES} can be held."
+            "The repository has {held} patches, and the bundle {more} more; {most} can be held."
         );
     }
-    f.write_str("A path would have more than 32 names.\n")
+    writeln!(f, "A path would have more than {MOST_NAMES} names.")
 }
 
 /// What became of each new patch.

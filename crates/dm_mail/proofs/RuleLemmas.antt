@@ -16,6 +16,7 @@ use Rattle.dm_mail.specs.Mails.{bundle, mark, next_mail, mails_of, is_closed}
 use Rattle.dm_mail.specs.World.{World, Event, Posts, Closes, Takes, empty_world, world_after, world_after_post, world_after_take, IsAllowed, IsReached}
 use Rattle.dm_mail.specs.Rule.{first_view, spent_view, poster_view, settled_by, view_after_split, view_after_join, view_after_send, view_after_receive, IsAccepted, IsReceived, FirstShares, IsLastSettled, SaysSent, AreSettled, SaysTaken, IsPassOf, HasSettled, IsKnown, SaysBound, AllSayBound, NoneSaysBound, IsInOrder}
 use Rattle.dm_mail.proofs.WorldLemmas.{reached_more, next_of_queue}
+use Rattle.dm_mail.specs.Limits.{most_bundles}
 
 abbrev EachView : (ℕ → View → Type 0) → List View → Type 0
 EachView F views = (pass : ℕ) (v : View) → get_elem? views pass ≡ some v → F pass v
@@ -155,7 +156,7 @@ accepts n pass v e body m same_bound told role is step may items views short h a
     )
 
 -- a bundle is accepted
-pub posts : (n pass : ℕ) (v : View) (text : List ℕ) (m : Mail) → n ≡ v.bound → v.is_told ≡ true → v.is_poster ≡ true → is_closed v.sent ≡ false → length v.sent < 1000 →
+pub posts : (n pass : ℕ) (v : View) (text : List ℕ) (m : Mail) → n ≡ v.bound → v.is_told ≡ true → v.is_poster ≡ true → is_closed v.sent ≡ false → length v.sent < most_bundles →
     m ≡ next_mail v.poster v.sent (bundle text) → Pushes IsInOrder n pass v m (IsAccepted v m)
 posts n pass v text m small told role unclosed room is = accepts n pass v (Posts v.poster text) (bundle text) m small told role is (λ w. refl)
     (λ w same short. (ap is_closed (sym same) ∙ unclosed, (let q = ap length same in omega arith), short))

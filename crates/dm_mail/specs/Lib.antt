@@ -1,3 +1,4 @@
+pub mod Limits
 pub mod Mails
 pub mod World
 pub mod Rule

@@ -2,6 +2,7 @@
 use Rattle.std.specs.Prelude.{◌≡◌, ℕ, ◌<◌, false, List, [], ◌∷◌, ◌++◌, length, if◌then◌else◌, ◌==◌}
 use Rattle.dm_mail.specs.declared.mail.Mail.{Mail}
 use Rattle.dm_mail.specs.declared.mail.Body.{Body}
+use Rattle.dm_mail.specs.Limits.{most_bundles}
 use Rattle.dm_mail.specs.Mails.{bundle, mark, next_mail, mails_of, is_closed}
 
 -- the mail of one mirror at one moment
@@ -42,10 +43,10 @@ world_after (Posts poster text) w = world_after_post w poster (bundle text)
 world_after (Closes poster) w = world_after_post w poster mark
 world_after Takes w = world_after_take w w.queue
 
--- a poster that has not closed and has sent fewer than 1,000 bundles sends one where the queue is below the bound;
+-- a poster that has not closed and has sent fewer than `most_bundles` sends one where the queue is below the bound;
 -- one that has not closed sends its mark where the queue is below the bound; the mirror takes a mail that waits
 abbrev pub IsAllowed : ℕ → World → Event → Type 0
-IsAllowed bound w (Posts poster text) = (is_closed (w.sent poster) ≡ false) × (length (w.sent poster) < 1000) × (length w.queue < bound)
+IsAllowed bound w (Posts poster text) = (is_closed (w.sent poster) ≡ false) × (length (w.sent poster) < most_bundles) × (length w.queue < bound)
 IsAllowed bound w (Closes poster) = (is_closed (w.sent poster) ≡ false) × (length w.queue < bound)
 IsAllowed bound w Takes = 0 < length w.queue
 

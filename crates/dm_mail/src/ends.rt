@@ -2,6 +2,7 @@
 ghost use Rattle.std.specs.Prelude.{◌≡◌, ◌≤◌, true, false, length};
 ghost use Rattle.crossbeam_channel.specs.Claims.{view, IsSeatAt};
 ghost use Rattle.crossbeam_channel.specs.Ends.{sends_on, receives_on, ruled_capacity};
+ghost use Rattle.dm_mail.specs.Limits.{most_bundles};
 ghost use Rattle.dm_mail.specs.Mails.{is_closed, count_bundles, count_marks};
 
 use crate::mail::Mail;
@@ -22,7 +23,7 @@ pub struct Outlet {
     ghost is_poster: { (view pass).is_poster ≡ true },
     ghost named: { (view pass).poster ≡ poster },
     ghost counted: { length (view pass).sent ≡ count },
-    ghost few: { count ≤ 1000 },
+    ghost few: { count ≤ most_bundles },
     ghost unclosed: { is_closed (view pass).sent ≡ false },
 }
 

@@ -1,5 +1,6 @@
 //! What a poster does with its end.
 ghost use Rattle.std.specs.Prelude.{◌≡◌, ◌∷◌, ◌++◌, [], ◌<◌, length, List, ℕ, MatchResult, OnOk, OnErr, IfErr};
+ghost use Rattle.dm_mail.specs.Limits.{most_bundles};
 ghost use Rattle.dm_mail.specs.Mails.{bundle, mark};
 ghost use Rattle.dm_mail.specs.Faults.{IsReason};
 ghost use Rattle.dm_mail.specs.Ends.{outlet_mails, sent_mails, next_mail_of, SameOutlet, EndsAs};
@@ -34,7 +35,7 @@ impl Outlet {
     pub fn send<R: Wait>(&mut self, rt: &R, text: Text) -> Result<(), Unsent>
         ensures same { SameOutlet self.old self.new }
         ensures sent { OnOk result (outlet_mails self.new ≡ outlet_mails self.old ++ next_mail_of self.old (bundle text) ∷ []) }
-        ensures few { OnOk result (length (outlet_mails self.old) < 1000) }
+        ensures few { OnOk result (length (outlet_mails self.old) < most_bundles) }
         ensures unsent { OnErr result (outlet_mails self.new ≡ outlet_mails self.old) }
         ensures text { IfErr result (λ e. e.text ≡ text) }
         ensures why { IfErr result (λ e. IsReason (length (outlet_mails self.old)) e.why) }

@@ -15,6 +15,7 @@ use Rattle.dm_mirror.specs.declared.plan.PlanFault.TheVariants.{Posters, Mirrors
 use Rattle.dm_mirror.specs.Deliveries.{mails_in}
 use Rattle.dm_mirror.specs.Plans.{IsStart, AreStarts, RefusesStart, IsBadStart}
 use Rattle.dm_mirror.proofs.DeliveryLemmas.{some_inj}
+use Rattle.dm_mail.specs.Limits.{most_bundles}
 
 pub refuses_start : (limits : Limits) (mirror : ℕ) (base : List ℕ) (v : Verdict) (after : List Patch) (e : PlanFault) → base ≢ [] → (IsAccepted v → ⊥) → TakesWithin limits [] base Refuse v after →
     ((v ≡ Refused refusals.NoMemory) × (e ≡ NoMemory)) ⊎ ((v ≢ Refused refusals.NoMemory) × (e ≡ BadBase mirror v)) → RefusesStart limits mirror base e
@@ -33,8 +34,8 @@ all_at P f (x ∷ xs) zero d l all = all.0
 all_at P f (x ∷ xs) (suc i) d l all = all_at P f xs i d (omega arith) all.1
 
 -- the poster at a place has few texts, where all have
-pub few_at : {A B C : Type 0} (h : B → C) (g : A → List B) (xs : List A) (i : ℕ) (d : A) → i < length xs → AllByRecursion (λ ts. length ts ≤ 1000) (map (λ x. map h (g x)) xs) → length (g (get_or xs i d)) ≤ 1000
-few_at h g xs i d l all = omega (arith, all_at (λ ts. length ts ≤ 1000) (λ x. map h (g x)) xs i d l all, length-map (g (get_or xs i d)) h)
+pub few_at : {A B C : Type 0} (h : B → C) (g : A → List B) (xs : List A) (i : ℕ) (d : A) → i < length xs → AllByRecursion (λ ts. length ts ≤ most_bundles) (map (λ x. map h (g x)) xs) → length (g (get_or xs i d)) ≤ most_bundles
+few_at h g xs i d l all = omega (arith, all_at (λ ts. length ts ≤ most_bundles) (λ x. map h (g x)) xs i d l all, length-map (g (get_or xs i d)) h)
 
 mails_append : (ts : List (List (List ℕ))) (t : List (List ℕ)) → mails_in (ts ++ t ∷ []) ≡ mails_in ts + (length t + 1)
 mails_append [] t = omega arith

@@ -4,11 +4,13 @@ use Rattle.std.specs.List.{AllByRecursion}
 use Rattle.dm_named.specs.declared.limits.Limits.{Limits}
 use Rattle.dm_named.specs.Patches.{Patch}
 use Rattle.dm_repo.specs.declared.policy.Policy.{Policy}
+use Rattle.dm_mail.specs.Limits.{most_posters, most_bundles, most_waiting}
 use Rattle.dm_repo.specs.declared.policy.Policy.TheVariants.{Refuse}
 use Rattle.dm_repo.specs.declared.refusal.Refusal.TheVariants as refusals
 use Rattle.dm_scratch.specs.declared.verdict.Verdict.{Verdict}
 use Rattle.dm_scratch.specs.declared.verdict.Verdict.TheVariants.{Refused}
 use Rattle.dm_scratch.specs.Taking.{TakesWithin, IsAccepted}
+use Rattle.dm_mirror.specs.Limits.{most_mirrors}
 use Rattle.dm_mirror.specs.declared.plan.Plan.{Plan}
 use Rattle.dm_mirror.specs.declared.plan.PlanFault.{PlanFault}
 use Rattle.dm_mirror.specs.declared.plan.PlanFault.TheVariants.{Posters, Mirrors, Bound, TooManyBundles, BadBase, NoMemory}
@@ -68,25 +70,25 @@ IsBadStart limits bases NoMemory = Unit {0}
 IsBadStart limits bases (BadBase mirror verdict) = IsFirstBadBase limits bases mirror verdict
 IsBadStart limits bases other = ⊥
 
--- there are as many as a plan may have: one to eight
-abbrev pub IsCount : ℕ → Type 0
-IsCount n = (0 < n) × (n ≤ 8)
+-- there is one, and at most so many
+abbrev pub IsCount : ℕ → ℕ → Type 0
+IsCount most n = (0 < n) × (n ≤ most)
 
--- there are none, or too many
-abbrev pub IsNoCount : ℕ → Type 0
-IsNoCount n = (n ≡ 0) ⊎ (8 < n)
+-- there are none, or more
+abbrev pub IsNoCount : ℕ → ℕ → Type 0
+IsNoCount most n = (n ≡ 0) ⊎ (most < n)
 
--- there are one to eight mirrors, each with a base and a policy
+-- there are one to `most_mirrors` mirrors, each with a base and a policy
 abbrev pub AreMirrors : List (List ℕ) → List Policy → Type 0
-AreMirrors bases policies = IsCount (length bases) × (length policies ≡ length bases)
+AreMirrors bases policies = IsCount most_mirrors (length bases) × (length policies ≡ length bases)
 
--- there are one to eight posters and one to eight mirrors, and 1 to 64 mails may wait
+-- there are one to `most_posters` posters, as many mirrors as a plan may have, and 1 to `most_waiting` mails may wait
 abbrev pub IsShaped : List (List (List ℕ)) → List (List ℕ) → List Policy → ℕ → Type 0
-IsShaped posters bases policies bound = IsCount (length posters) × AreMirrors bases policies × (0 < bound) × (bound ≤ 64)
+IsShaped posters bases policies bound = IsCount most_posters (length posters) × AreMirrors bases policies × (0 < bound) × (bound ≤ most_waiting)
 
--- no poster has more than 1,000 bundles
+-- no poster has more than `most_bundles`
 abbrev pub AreFew : List (List (List ℕ)) → Type 0
-AreFew posters = AllByRecursion (λ texts. length texts ≤ 1000) posters
+AreFew posters = AllByRecursion (λ texts. length texts ≤ most_bundles) posters
 
 -- all that a plan may be, but for its bases
 abbrev pub IsPlannable : List (List (List ℕ)) → List (List ℕ) → List Policy → ℕ → Type 0
@@ -94,9 +96,9 @@ IsPlannable posters bases policies bound = IsShaped posters bases policies bound
 
 -- the fault is the first that there is; memory may run out once a plan can be
 abbrev pub IsFirstFault : Limits → List (List (List ℕ)) → List (List ℕ) → List Policy → ℕ → PlanFault → Type 0
-IsFirstFault limits posters bases policies bound Posters = IsNoCount (length posters)
-IsFirstFault limits posters bases policies bound Mirrors = IsCount (length posters) × (IsNoCount (length bases) ⊎ (length policies ≢ length bases))
-IsFirstFault limits posters bases policies bound Bound = IsCount (length posters) × AreMirrors bases policies × ((bound ≡ 0) ⊎ (64 < bound))
+IsFirstFault limits posters bases policies bound Posters = IsNoCount most_posters (length posters)
+IsFirstFault limits posters bases policies bound Mirrors = IsCount most_posters (length posters) × (IsNoCount most_mirrors (length bases) ⊎ (length policies ≢ length bases))
+IsFirstFault limits posters bases policies bound Bound = IsCount most_posters (length posters) × AreMirrors bases policies × ((bound ≡ 0) ⊎ (most_waiting < bound))
 IsFirstFault limits posters bases policies bound TooManyBundles = IsShaped posters bases policies bound × (AreFew posters → ⊥)
 IsFirstFault limits posters bases policies bound (BadBase mirror verdict) = IsPlannable posters bases policies bound × IsFirstBadBase limits bases mirror verdict
 IsFirstFault limits posters bases policies bound NoMemory = IsPlannable posters bases policies bound

@@ -1,5 +1,6 @@
 //! What each thread is given, and what it hands back.
 ghost use Rattle.std.specs.Prelude.{◌≡◌, ◌≤◌, ◌+◌, ℕ, [], length};
+ghost use Rattle.dm_mail.specs.Limits.{most_bundles};
 ghost use Rattle.dm_mail.specs.Ends.{outlet_mails, outlet_poster, taken_of, inlet_posters};
 ghost use Rattle.dm_mirror.specs.Deliveries.{SentUpTo};
 ghost use Rattle.dm_mirror.specs.Mirrors.{IsReady};
@@ -17,7 +18,7 @@ pub(crate) struct Line {
     pub(crate) left: VecDeque<Text>,
     pub(crate) texts: Snapshot<VecDeque<Text>>,
     ghost so_far: { SentUpTo (outlet_poster outlet) (outlet_mails outlet) left.items texts.value.items },
-    ghost few: { length (outlet_mails outlet) + length left.items ≤ 1000 },
+    ghost few: { length (outlet_mails outlet) + length left.items ≤ most_bundles },
 }
 
 // A poster's outlet to one mirror, which has sent nothing yet, with all texts that it is to send there. It has no Snapshot, so
@@ -27,7 +28,7 @@ pub(crate) struct NewLine {
     pub(crate) outlet: Outlet,
     pub(crate) left: VecDeque<Text>,
     ghost unsent: { outlet_mails outlet ≡ [] },
-    ghost few: { length left.items ≤ 1000 },
+    ghost few: { length left.items ≤ most_bundles },
 }
 
 // A poster's lines, one to each mirror, and how many texts there are.

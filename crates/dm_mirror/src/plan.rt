@@ -7,7 +7,9 @@ mod starts;
 ghost use Rattle.std.specs.Prelude.{◌≡◌, ◌≤◌, ◌<◌, [], length, map, vec_capacity};
 ghost use Rattle.std.specs.List.{All};
 ghost use Rattle.dm_mirror.specs.Deliveries.{mails_in};
+ghost use Rattle.dm_mail.specs.Limits.{most_posters, most_waiting};
 ghost use Rattle.dm_mirror.specs.Mirrors.{IsReady};
+ghost use Rattle.dm_mirror.specs.Limits.{most_mirrors};
 ghost use Rattle.dm_mirror.specs.declared.plan.PlanFault.TheVariants.{NoMemory};
 
 use crate::mirror::Mirror;
@@ -36,14 +38,14 @@ pub struct Plan {
     pub(crate) outcome: Vec<Mirror>,
     pub(crate) expected: usize,
     pub(crate) bound: usize,
-    ghost shape: { ((0 < length posters.items) × (length posters.items ≤ 8)) × ((0 < length mirrors.items) × (length mirrors.items ≤ 8)) },
+    ghost shape: { ((0 < length posters.items) × (length posters.items ≤ most_posters)) × ((0 < length mirrors.items) × (length mirrors.items ≤ most_mirrors)) },
     ghost as_many: { length policies.items ≡ length mirrors.items },
     ghost copied: { All (λ poster. length poster.copies.items ≡ length mirrors.items) posters.items },
     ghost all_expected: { expected ≡ mails_in (map (λ poster. poster.texts.value.items) posters.items) },
     ghost ready: { All (IsReady (length posters.items) expected) mirrors.items },
     ghost empty: { outcome.items ≡ [] },
     ghost room: { length mirrors.items ≤ vec_capacity outcome },
-    ghost bound_is: { (0 < bound) × (bound ≤ 64) },
+    ghost bound_is: { (0 < bound) × (bound ≤ most_waiting) },
 }
 
 impl Plan {
@@ -99,10 +101,10 @@ impl Plan {
         bound: usize,
     ) -> Result<Plan, AllocError>
         requires few { AreFew (map (λ texts. map (λ text. text.now) texts.now) posters.now) }
-        requires posters { (0 < length posters.now) × (length posters.now ≤ 8) }
-        requires repos { (0 < length repos.items) × (length repos.items ≤ 8) }
+        requires posters { (0 < length posters.now) × (length posters.now ≤ most_posters) }
+        requires repos { (0 < length repos.items) × (length repos.items ≤ most_mirrors) }
         requires as_many { length policies.now ≡ length repos.items }
-        requires bound { (0 < bound) × (bound ≤ 64) }
+        requires bound { (0 < bound) × (bound ≤ most_waiting) }
         ensures texts { IfOk result (λ plan. plan_texts plan ≡ map (λ texts. map (λ text. text.now) texts.now) posters.now) }
         ensures starts { IfOk result (λ plan. plan_starts plan ≡ map (λ repo. repo.patches) repos.items) }
         ensures policies { IfOk result (λ plan. plan_policies plan ≡ policies.now) }

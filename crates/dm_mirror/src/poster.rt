@@ -1,6 +1,7 @@
 //! What a poster sends.
 ghost use Rattle.std.specs.Prelude.{◌≡◌, ◌<◌, ◌≤◌, length, map, IfOk};
 ghost use Rattle.std.specs.List.{All};
+ghost use Rattle.dm_mail.specs.Limits.{most_bundles};
 
 use dm_mail::Text;
 use std::alloc::{AllocError, Global};
@@ -15,13 +16,13 @@ pub(crate) struct Poster {
     pub(crate) texts: Snapshot<VecDeque<Text>>,
     ghost alike: { All (λ copy. copy.items ≡ texts.value.items) copies.items },
     ghost counted: { length texts.value.items ≡ count },
-    ghost few: { count ≤ 1000 },
+    ghost few: { count ≤ most_bundles },
 }
 
 impl Poster {
     /// A poster of these texts, which all of so many mirrors share.
     pub(crate) fn new(alloc: Global, texts: &[&[u8]], mirrors: usize) -> Result<Poster, AllocError>
-        requires few { length texts.now ≤ 1000 }
+        requires few { length texts.now ≤ most_bundles }
         requires some { 0 < mirrors }
         ensures texts { IfOk result (λ poster. poster.texts.value.items ≡ map (λ text. text.now) texts.now) }
         ensures copies { IfOk result (λ poster. length poster.copies.items ≡ mirrors) }

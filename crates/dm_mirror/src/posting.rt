@@ -1,6 +1,7 @@
 //! What a poster's thread does.
 ghost use Rattle.std.specs.Prelude.{◌≡◌, ◌∷◌, ◌++◌, ◌<◌, ◌≤◌, [], length};
 ghost use Rattle.std.specs.VecDeque.{deque_capacity};
+ghost use Rattle.dm_mail.specs.Limits.{most_bundles};
 ghost use Rattle.dm_mail.specs.Mails.{bundle, mark};
 ghost use Rattle.dm_mail.specs.Ends.{outlet_mails, sent_mails, next_mail_of, SameOutlet, EndsAs};
 ghost use Rattle.dm_mirror.specs.Jobs.{DoesPost, EndsLine, IsBegun, SameLine};
@@ -15,7 +16,7 @@ use std::thread;
 
 /// Sends a bundle, and tries again as long as it is handed back.
 fn send<R: Wait>(rt: &R, outlet: &mut Outlet, text: Text)
-    requires { length (outlet_mails outlet.old) < 1000 }
+    requires { length (outlet_mails outlet.old) < most_bundles }
     ensures same { SameOutlet outlet.old outlet.new }
     ensures sent { outlet_mails outlet.new ≡ outlet_mails outlet.old ++ next_mail_of outlet.old (bundle text) ∷ [] }
 {

@@ -3,6 +3,7 @@ ghost use Rattle.std.specs.Prelude.{◌≡◌, ◌+◌, ◌<◌, ◌≤◌, ◌�
 ghost use Rattle.std.specs.List.{All, AllByRecursion};
 ghost use Rattle.std.specs.VecDeque.{deque_capacity};
 ghost use Rattle.dm_mail.specs.declared.opening.MailFault.{MailFault};
+ghost use Rattle.dm_mail.specs.Limits.{most_bundles, most_posters, most_waiting};
 ghost use Rattle.dm_mail.specs.Mails.{mails_of};
 ghost use Rattle.dm_mail.specs.Ends.{AreNewOutlets, inlet_id, outlet_mails};
 ghost use Rattle.dm_mirror.specs.Deliveries.{all_mails};
@@ -58,8 +59,8 @@ fn open_each<R: Wait>(
     expected: usize,
     bound: usize,
 ) -> Result<Opened, RunFault>
-    requires posters { (0 < posters) × (posters ≤ 8) }
-    requires bound { (0 < bound) × (bound ≤ 64) }
+    requires posters { (0 < posters) × (posters ≤ most_posters) }
+    requires bound { (0 < bound) × (bound ≤ most_waiting) }
     requires ready { All (IsReady posters expected) mirrors.items }
     requires as_many { length policies.now ≡ length mirrors.items }
     ensures mirrors { IfOk result (λ r. EachWith (IsOpened posters expected bound) mirrors.items r.mirrors.items) }
@@ -94,7 +95,7 @@ fn open_each<R: Wait>(
 /// The line of a new outlet, for a copy of a poster's texts.
 fn line_of(outlet: Outlet, left: VecDeque<Text>) -> NewLine
     requires unsent { outlet_mails outlet ≡ [] }
-    requires few { length left.items ≤ 1000 }
+    requires few { length left.items ≤ most_bundles }
     ensures outlet { result.outlet ≡ outlet }
     ensures texts { result.left.items ≡ left.items }
 {

@@ -1,10 +1,12 @@
 //! The threads of a run: one for each poster and one for each mirror.
 ghost use Rattle.std.specs.Prelude.{◌≡◌, ◌≤◌, ℕ, [], length, map, IfOk, IfSome};
 ghost use Rattle.std.specs.VecDeque.{deque_capacity};
+ghost use Rattle.dm_mail.specs.Limits.{most_posters};
 ghost use Rattle.dm_mail.specs.Ends.{taken_of, inlet_posters};
 ghost use Rattle.dm_mirror.specs.Jobs.{DoesPost, DoesTake, EndsNew, TakesInto};
 ghost use Rattle.dm_mirror.specs.Lists.{EachWith};
 ghost use Rattle.dm_mirror.specs.Mirrors.{IsReady};
+ghost use Rattle.dm_mirror.specs.Limits.{most_mirrors};
 ghost use Rattle.dm_mirror.specs.declared.threads.RunFault.TheVariants.{NoMemory};
 
 use crate::gate::Gate;
@@ -344,7 +346,7 @@ pub(crate) fn in_threads<R: Threads + Wait + Sync, G: Gate + Sync>(
     posters: VecDeque<PostJob>,
     mirrors: VecDeque<TakeJob>,
 ) -> Result<Ended, RunFault>
-    requires { (length posters.items ≤ 8) × (length mirrors.items ≤ 8) }
+    requires { (length posters.items ≤ most_posters) × (length mirrors.items ≤ most_mirrors) }
     ensures posters { IfOk result (λ r. EachWith (λ job row. DoesPost job row.items) posters.items r.rows.items) }
     ensures mirrors { IfOk result (λ r. EachWith DoesTake mirrors.items r.kept.items) }
     ensures room { IfOk result (λ r. length r.rows.items ≤ deque_capacity r.rows) }

@@ -28,7 +28,7 @@ FaultsAs (At p RmDir) m r = RemoveDirAnswers m p r
 FaultsAs (At p (Hunk n old new)) m r = EditAnswers m p n old new r
 FaultsAs (Move a b) m r = RenameAnswers m a b r
 
--- a primitive makes one tree of another, in which no path has more than 32 names
+-- a primitive makes one tree of another, in which no path has too many names
 abbrev pub AppliesToTree : Prim → Tree → Tree → Type 0
 AppliesToTree p t t' = Applies p (map.get t) (map.get t') × (Deep (map.get t') → ⊥)
 

@@ -1,5 +1,6 @@
 //! When two primitives commute: the table, row by row.
 ghost use Rattle.std.specs.Prelude.{◌≡◌, ◌↔◌, ◌<◌, ℕ, IfOk, IsTrue, MatchOption, length};
+ghost use Rattle.dm_tree.specs.Limits.{most_names};
 ghost use Rattle.dm_tree.specs.Paths.{Apart, forward};
 ghost use Rattle.dm_prim.specs.Primitives.{At, Move};
 ghost use Rattle.dm_prim.specs.Table.{LiesAbove, WorkAndWork, WorkThenMove, MoveThenMove};
@@ -199,7 +200,7 @@ fn forward_work<A: Allocator + Copy>(
 ) -> Result<Option<Primitive<A>>, AllocError>
     requires { IsWork (prim_of work) }
     ensures value { IfOk result (λ answer. MatchOption answer
-        (32 < length (forward from.now to.now (path_of (prim_of work))))
+        (most_names < length (forward from.now to.now (path_of (prim_of work))))
         (λ moved. (prim_of moved ≡ At (forward from.now to.now (path_of (prim_of work))) (work_of (prim_of work))) × IsValidPrim (prim_of moved))) }
     ensures valid { IsValidPrim (prim_of work) }
 {
@@ -295,7 +296,7 @@ fn forward_path<A: Allocator + Copy>(
     to: &Path<A>,
 ) -> Result<Option<Path<A>>, AllocError>
     ensures { IfOk result (λ answer. MatchOption answer
-        (32 < length (forward from.now to.now path))
+        (most_names < length (forward from.now to.now path))
         (λ moved. moved ≡ forward from.now to.now path)) }
 {
     if !path.is_under(from) {

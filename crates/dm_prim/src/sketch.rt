@@ -10,7 +10,7 @@ use std::alloc::Allocator;
 use std::hash::{DefaultHasher, Hasher};
 
 /// A bit for each of some paths, and one for each directory above them, drawn by a hash of the names. Paths with no bit in
-/// common are apart. Others may be: two paths in some hundred draw one bit.
+/// common are apart. Others may be: one path draws the bit of another once in 128 times.
 #[derive(Clone, Copy)]
 pub(crate) struct Sketch {
     /// The bit of each path.

@@ -26,7 +26,7 @@ IsCommon repo b x = Common repo b x.1.info
 abbrev pub IsHeld : List Patch → Placed → Type 0
 IsHeld repo x = Holds repo x.1.info
 
--- a repository of more patches is full: the text of any other is within the limits for one's own
+-- a repository of more patches is full; the text of one's own repository may have as many
 abbrev pub most_patches : ℕ
 most_patches = own.patches
 

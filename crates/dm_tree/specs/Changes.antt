@@ -3,6 +3,7 @@ use Rattle.std.specs.Prelude.{◌≡◌, ◌≢◌, ℕ, ◌+◌, ◌-◌, ◌<�
 use Rattle.std.specs.FinMap as map
 use Rattle.dm_tree.specs.declared.fault.TreeFault.{TreeFault}
 use Rattle.dm_tree.specs.declared.fault.TreeFault.TheVariants.{NoParent, Occupied, Missing, NotFile, NotDir, NotEmpty, IntoItself, LineRange, OldDiffers, NoLines, TooDeep, NoMemory}
+use Rattle.dm_tree.specs.Limits.{most_names}
 use Rattle.dm_tree.specs.Paths.{Name, Path, Under}
 use Rattle.dm_tree.specs.Trees.{Lines, Dir, File, Map, Tree, HasParent, empty_file}
 
@@ -39,13 +40,13 @@ pub record MayMove (m : Map) (a b : Path) : Type 0 where
 
 -- what renaming a to b may answer
 abbrev pub RenameAnswers : {T : Type 0} → Map → Path → Path → Result T TreeFault → Type 0
-RenameAnswers m a b (Ok x) = MayMove m a b × ((r : Path) → m (a ++ r) ≢ None → length (b ++ r) ≤ 32)
+RenameAnswers m a b (Ok x) = MayMove m a b × ((r : Path) → m (a ++ r) ≢ None → length (b ++ r) ≤ most_names)
 RenameAnswers m a b (Err Missing) = m a ≡ None
 RenameAnswers m a b (Err IntoItself) = (m a ≢ None) × Under b a
 RenameAnswers m a b (Err NoParent) = (m a ≢ None) × (Under b a → ⊥) × (HasParent b m → ⊥)
 RenameAnswers m a b (Err Occupied) = (m a ≢ None) × (Under b a → ⊥) × HasParent b m × (m b ≢ None)
-RenameAnswers m a b (Err TooDeep) = MayMove m a b × ((r : Path) × (m (a ++ r) ≢ None) × (32 < length (b ++ r)))
-RenameAnswers m a b (Err NoMemory) = MayMove m a b × ((r : Path) → m (a ++ r) ≢ None → length (b ++ r) ≤ 32)
+RenameAnswers m a b (Err TooDeep) = MayMove m a b × ((r : Path) × (m (a ++ r) ≢ None) × (most_names < length (b ++ r)))
+RenameAnswers m a b (Err NoMemory) = MayMove m a b × ((r : Path) → m (a ++ r) ≢ None → length (b ++ r) ≤ most_names)
 RenameAnswers m a b (Err e) = ⊥
 
 -- what was at or under a is at or under b

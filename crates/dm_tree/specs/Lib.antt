@@ -1,3 +1,4 @@
+pub mod Limits
 pub mod Paths
 pub mod Validity
 pub mod Trees

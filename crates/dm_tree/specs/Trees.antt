@@ -6,6 +6,7 @@ use Rattle.std.specs.Cmp.Lexicographic.{slice_cmp}
 use Rattle.std.specs.FinMap.{FinMap, code}
 use Rattle.std.specs.Coded.{Coded, code_by, coded_option, coded_list, coded_ℕ}
 use Rattle.std.proofs.Common.{refl}
+use Rattle.dm_tree.specs.Limits.{most_names}
 use Rattle.dm_tree.specs.Paths.{Name, Path}
 
 -- the lines of a file: the pieces between its newlines
@@ -35,9 +36,9 @@ pub record IsLawful (t : Map) : Type 0 where
   pub parents : (p : Path) (n : Name) → t (p ++ n ∷ []) ≢ None → t p ≡ Some Dir
   pub lines : (p : Path) (ls : Lines) → t p ≡ Some (File ls) → ls ≢ []
 
--- a path of more than 32 names is there
+-- a path of too many names is there
 abbrev pub Deep : Map → Type 0
-Deep t = (q : Path) × (32 < length q) × (t q ≢ None)
+Deep t = (q : Path) × (most_names < length q) × (t q ≢ None)
 
 -- names are in the order of their bytes
 abbrev pub name_cmp : Name → Name → Ordering

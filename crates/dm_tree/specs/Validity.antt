@@ -6,6 +6,7 @@ use Rattle.dm_tree.specs.declared.fault.PathFault.{PathFault}
 use Rattle.dm_tree.specs.declared.fault.PathFault.TheVariants as path
 use Rattle.dm_tree.specs.declared.fault.LineFault.{LineFault}
 use Rattle.dm_tree.specs.declared.fault.LineFault.TheVariants as line
+use Rattle.dm_tree.specs.Limits.{most_names, most_name_bytes}
 use Rattle.dm_tree.specs.Paths.{Name, Path}
 use Rattle.dm_tree.specs.Trees.{Lines, name_cmp}
 
@@ -26,13 +27,13 @@ is_bad_name n =
 -- the first fault of the names, from left to right
 abbrev pub names_fault : List Name → Option PathFault
 names_fault [] = None
-names_fault (n ∷ ns) = cond (is_bad_name n) (Some path.BadName) (cond (nat_lt 255 (length n)) (Some path.TooLong) (names_fault ns))
+names_fault (n ∷ ns) = cond (is_bad_name n) (Some path.BadName) (cond (nat_lt most_name_bytes (length n)) (Some path.TooLong) (names_fault ns))
 
--- the first fault of the names as a path: none, more than 32, then name by name
+-- the first fault of the names as a path: none, too many, then name by name
 abbrev pub path_fault : List Name → Option PathFault
-path_fault ns = cond (length ns == 0) (Some path.Empty) (cond (nat_lt 32 (length ns)) (Some path.TooDeep) (names_fault ns))
+path_fault ns = cond (length ns == 0) (Some path.Empty) (cond (nat_lt most_names (length ns)) (Some path.TooDeep) (names_fault ns))
 
--- the path has 1 to 32 names, each of which may stand in a path
+-- the path has 1 to `most_names` names, each of which may stand in a path
 abbrev pub IsValidPath : Path → Type 0
 IsValidPath p = path_fault p ≡ None
 

@@ -21,6 +21,7 @@ mod fault;
 mod file;
 mod gap;
 pub mod laws;
+mod limits;
 mod lines;
 mod listing;
 mod node;
@@ -33,6 +34,7 @@ mod tree;
 
 pub use entry::{Entry, FileRef};
 pub use fault::{LineFault, PathFault, TreeFault};
+pub use limits::{MOST_NAME_BYTES, MOST_NAMES};
 pub use lines::Lines;
 pub use listing::{Kind, Listed};
 pub use path::Path;

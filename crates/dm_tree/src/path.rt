@@ -1,10 +1,12 @@
 //! The path of an entry: 1 to 32 names.
 ghost use Rattle.std.specs.Prelude.{◌≡◌, ◌<◌, ◌≤◌, ◌↔◌, ◌∷◌, [], length, map, IfOk, IfSome, IsTrue, MatchOption, Some, slice_index_or};
 ghost use Rattle.dm_tree.specs.Validity.{AnswersPath, IsValidPath, is_bad_name, names_fault, path_fault, path_fault_of};
+ghost use Rattle.dm_tree.specs.Limits.{most_names};
 ghost use Rattle.dm_tree.specs.Paths.{Inside, Under, forward};
 
 use crate::bytes::{Bytes, copy_all, is_same, push_all};
 use crate::fault::PathFault;
+use crate::limits::{MOST_NAME_BYTES, MOST_NAMES};
 use std::alloc::{AllocError, Allocator};
 use std::marker::Model;
 
@@ -66,7 +68,7 @@ fn refused(parts: &[&[u8]]) -> Option<PathFault>
     if parts.is_empty() {
         return Some(PathFault::Empty);
     }
-    if parts.len() > 32 {
+    if parts.len() > MOST_NAMES {
         return Some(PathFault::TooDeep);
     }
     for part in parts {
@@ -85,7 +87,7 @@ fn refused_owned<A: Allocator>(names: &[Vec<u8, A>]) -> Option<PathFault>
     if names.is_empty() {
         return Some(PathFault::Empty);
     }
-    if names.len() > 32 {
+    if names.len() > MOST_NAMES {
         return Some(PathFault::TooDeep);
     }
     for name in names {
@@ -104,7 +106,7 @@ fn refused_name(name: &[u8]) -> Option<PathFault>
     if is_bad(name) {
         return Some(PathFault::BadName);
     }
-    if name.len() > 255 {
+    if name.len() > MOST_NAME_BYTES {
         return Some(PathFault::TooLong);
     }
     None
@@ -201,7 +203,7 @@ impl<A: Allocator> Path<A> {
         to: &Path<C>,
     ) -> Result<Option<Path<D>>, AllocError>
         ensures value { IfOk result (λ answer. MatchOption answer
-            (32 < length (forward from.now to.now self.now))
+            (most_names < length (forward from.now to.now self.now))
             (λ path. path ≡ forward from.now to.now self.now)) }
         ensures valid { IsValidPath self.now × IsValidPath from.now × IsValidPath to.now }
     {
@@ -212,7 +214,7 @@ impl<A: Allocator> Path<A> {
             return Ok(Some(self.copy_into(alloc)?));
         }
         let rest = &names[front.len()..];
-        if base.len() + rest.len() > 32 {
+        if base.len() + rest.len() > MOST_NAMES {
             return Ok(None);
         }
         let mut moved = Vec::with_capacity(alloc, base.len() + rest.len())?;
@@ -231,7 +233,7 @@ impl<A: Allocator> Path<A> {
     pub(crate) fn names(&self) -> &[Bytes<A>]
         ensures value { result.now ≡ self.now }
         ensures not_root { 0 < length self.now }
-        ensures not_deep { length self.now ≤ 32 }
+        ensures not_deep { length self.now ≤ most_names }
         ensures valid { IsValidPath self.now }
     {
         self.names.as_slice()

@@ -3,11 +3,13 @@ ghost use Rattle.std.specs.Prelude.{◌≡◌, ◌<◌, ◌≤◌, length, OnOk,
 ghost use Rattle.dm_tree.specs.Trees.{IsLawful};
 ghost use Rattle.dm_tree.specs.Changes.{MayMove, Renamed, RenameAnswers};
 ghost use Rattle.dm_tree.specs.Children.{IsRising, flatten, look};
+ghost use Rattle.dm_tree.specs.Limits.{most_names};
 ghost use Rattle.dm_tree.specs.Nested.{under_of};
 ghost use Rattle.dm_tree.specs.Walks.{RefusesAdd, are_short};
 
 use crate::bytes::Bytes;
 use crate::fault::TreeFault;
+use crate::limits::MOST_NAMES;
 use crate::node::{Body, Leaf, Node, add, cut, find, is_dir, put};
 use crate::path::begins;
 use std::alloc::{AllocError, Allocator};
@@ -41,7 +43,7 @@ pub(crate) fn rename_allowed<A: Allocator, B: Allocator, C: Allocator>(
 ) -> Result<(), TreeFault>
     requires from_named { 0 < length from.now }
     requires to_named { 0 < length to.now }
-    requires not_deep { length to.now ≤ 32 }
+    requires not_deep { length to.now ≤ most_names }
     requires rising { IsRising children.now }
     ensures { RenameAnswers (look children.now) from.now to.now result }
 {
@@ -54,7 +56,7 @@ pub(crate) fn rename_allowed<A: Allocator, B: Allocator, C: Allocator>(
     if let Some(fault) = add_refused(children, to) {
         return Err(fault);
     }
-    if !is_short(body, 32 - to.len()) {
+    if !is_short(body, MOST_NAMES - to.len()) {
         return Err(TreeFault::TooDeep);
     }
     Ok(())

@@ -2,6 +2,7 @@
 ghost use Rattle.std.specs.Prelude.{◌≡◌, ◌<◌, ◌≤◌, ◌↔◌, map, length, IfOk, IsTrue};
 ghost use Rattle.std.specs.List.{All};
 ghost use Rattle.dm_mirror.specs.Deliveries.{mails_in};
+ghost use Rattle.dm_mail.specs.Limits.{most_posters};
 ghost use Rattle.dm_mirror.specs.Plans.{AreFew};
 
 use crate::poster::Poster;
@@ -24,7 +25,7 @@ pub(crate) fn are_few(posters: &[&[&[u8]]]) -> bool
 /// How many mails these posters send to each mirror.
 pub(crate) fn count_mails(posters: &[&[&[u8]]]) -> usize
     requires few { AreFew (map (λ texts. map (λ text. text.now) texts.now) posters.now) }
-    requires most { length posters.now ≤ 8 }
+    requires most { length posters.now ≤ most_posters }
     ensures { result ≡ mails_in (map (λ texts. map (λ text. text.now) texts.now) posters.now) }
 {
     let mut count = 0;

@@ -2,17 +2,15 @@
 
 ghost use Rattle.std.specs.Prelude.{◌≡◌, ◌<◌, ◌∷◌, Some, List, ℕ, length, IfOk, IfSome, IfNone, IfErr, MatchOption};
 ghost use Rattle.dm_named.specs.Paths.{IsCode, NameByte, IsNameText};
+ghost use Rattle.dm_tree.specs.Limits.{most_name_bytes};
 ghost use Rattle.dm_tree.specs.Validity.{path_fault_of};
 ghost use Rattle.dm_named.specs.declared.reading.names.NameFault.TheVariants.{BadPath, NoMemory};
 ghost use Rattle.dm_named.specs.Faults.{kind_of_name};
 
 use crate::fault::FaultKind;
-use dm_tree::PathFault;
+use dm_tree::{MOST_NAME_BYTES, PathFault};
 use memchr::memchr;
 use std::alloc::{AllocError, AllocFailed, Allocator};
-
-/// The most bytes that a name may have.
-const MOST_BYTES: usize = 255;
 
 /// Why a name or a path could not be read.
 #[derive(Clone, Copy)]
@@ -114,12 +112,12 @@ fn byte_of(text: &[u8]) -> Option<(u8, &[u8])>
 /// The bytes of a name, its escapes resolved. More than a name may have are a fault.
 pub(crate) fn name_of<A: Allocator>(alloc: A, text: &[u8]) -> Result<Vec<u8, A>, NameFault>
     ensures found { IfOk result (λ name. IsNameText text.now name.items) }
-    ensures none { IfErr result (λ e. (e ≡ NameFault.BadPath) → (name : List ℕ) → IsNameText text.now name → 255 < length name) }
+    ensures none { IfErr result (λ e. (e ≡ NameFault.BadPath) → (name : List ℕ) → IsNameText text.now name → most_name_bytes < length name) }
 {
-    let mut name = Vec::with_capacity(alloc, text.len().min(MOST_BYTES))?;
+    let mut name = Vec::with_capacity(alloc, text.len().min(MOST_NAME_BYTES))?;
     let mut rest = text;
     while !rest.is_empty() {
-        if name.len() >= MOST_BYTES {
+        if name.len() >= MOST_NAME_BYTES {
             return Err(NameFault::BadPath);
         }
         let Some((byte, next)) = byte_of(rest) else {

@@ -1,6 +1,7 @@
 //! Paths as text.
 
 ghost use Rattle.std.specs.Prelude.{◌≡◌, ◌<◌, ◌≤◌, [], List, ℕ, length, drop, map, IfOk, IfErr};
+ghost use Rattle.dm_tree.specs.Limits.{most_name_bytes};
 ghost use Rattle.dm_tree.specs.Validity.{IsValidPath};
 ghost use Rattle.dm_named.specs.Many.{Many};
 ghost use Rattle.dm_named.specs.Paths.{Piece, SlashName, IsPathText, NextPath};
@@ -9,7 +10,7 @@ ghost use Rattle.dm_named.specs.Faults.{PathFaultAt};
 use crate::fault::{FaultKind, ReadFault};
 use crate::reading::names::{NameFault, name_of, strip};
 use crate::text::{skip, word_at};
-use dm_tree::Path;
+use dm_tree::{MOST_NAMES, Path};
 use memchr::memchr;
 use std::alloc::Allocator;
 
@@ -26,7 +27,7 @@ fn piece_of(text: &[u8]) -> (&[u8], &[u8])
 /// The name after a slash, and the rest.
 fn slash_name<A: Allocator + Copy>(alloc: A, text: &[u8]) -> Result<(Vec<u8, A>, &[u8]), NameFault>
     ensures found { IfOk result (λ x. SlashName text.now x.0.items x.1.now) }
-    ensures none { IfErr result (λ e. (e ≡ NameFault.BadPath) → (name rest : List ℕ) → SlashName text.now name rest → 255 < length name) }
+    ensures none { IfErr result (λ e. (e ≡ NameFault.BadPath) → (name rest : List ℕ) → SlashName text.now name rest → most_name_bytes < length name) }
 {
     let Some(inside) = strip(b'/', text) else {
         return Err(NameFault::BadPath);
@@ -44,7 +45,7 @@ fn names_of<A: Allocator + Copy>(alloc: A, text: &[u8]) -> Result<Vec<Vec<u8, A>
     let mut names = Vec::new(alloc);
     let mut rest = text;
     while !rest.is_empty() {
-        if names.len() >= 32 {
+        if names.len() >= MOST_NAMES {
             return Err(NameFault::BadPath);
         }
         let (name, next) = slash_name(alloc, rest)?;

@@ -10,7 +10,7 @@ pub returns-in-Some-clause-fault : goal.returns-in-Some-clause-fault
 returns-in-Some-clause-fault g c =
     let here = sym (c.as_slice.ensures.value ∙ ap (λ v. v.items) c.name-item.is) in
     let fault = ap (λ n. names_fault (n ∷ [])) here ∙ sym c.in-Some.ensures.fault in
-    sym (path_names (λ v. v.items) c.args.names.now c.if-is_empty.ensures c.if-names-gt32.false ∙ name_refused (λ v. v.items) c.args.names.now c.loop-name.name-index c.name-item.result c.loop-name-test.true c.loop-name.invariant c.in-Some.fault fault)
+    sym (path_names (λ v. v.items) c.args.names.now c.if-is_empty.ensures c.if-names-gt-MOST_NAMES.false ∙ name_refused (λ v. v.items) c.args.names.now c.loop-name.name-index c.name-item.result c.loop-name-test.true c.loop-name.invariant c.in-Some.fault fault)
 
 pub loop-name-preserved : goal.loop-name-preserved
 loop-name-preserved g c =
@@ -19,4 +19,4 @@ loop-name-preserved g c =
     name_valid (λ v. v.items) c.args.names.now c.loop-name.name-index c.name-item.result c.loop-name-test.true c.loop-name.invariant valid
 
 pub returns-clause-fault : goal.returns-clause-fault
-returns-clause-fault g c = sym (path_names (λ v. v.items) c.args.names.now c.if-is_empty.ensures c.if-names-gt32.false ∙ names_end (λ v. v.items) c.args.names.now c.loop-name.name-index c.loop-name-test.false c.loop-name.invariant)
+returns-clause-fault g c = sym (path_names (λ v. v.items) c.args.names.now c.if-is_empty.ensures c.if-names-gt-MOST_NAMES.false ∙ names_end (λ v. v.items) c.args.names.now c.loop-name.name-index c.loop-name-test.false c.loop-name.invariant)

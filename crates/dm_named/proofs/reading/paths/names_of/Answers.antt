@@ -13,11 +13,11 @@ returns-in_err-name-clause-none g c =
     let p = err_from_is_err_and c.from_residual.result c.from_residual.ensures.1 in
     rw (p.1, p.2) (λ is ms s valid. no_names c.args.text.now (map (λ v. v.items) c.loop-rest.names.items) c.loop-rest.rest.now c.loop-rest.invariant (λ none. false≢true (c.loop-rest-test.ensures ∙ eq-eqb _ 0 none)) (c.in_err-name.ensures.none is) ms s valid)
 
-pub returns-then-len-ge32-clause-none : goal.returns-then-len-ge32-clause-none
-returns-then-len-ge32-clause-none g c = λ is ms s valid.
+pub returns-then-len-ge-MOST_NAMES-clause-none : goal.returns-then-len-ge-MOST_NAMES-clause-none
+returns-then-len-ge-MOST_NAMES-clause-none g c = λ is ms s valid.
     let more = more_names c.args.text.now (map (λ v. v.items) c.loop-rest.names.items) c.loop-rest.rest.now c.loop-rest.invariant (λ none. false≢true (c.loop-rest-test.ensures ∙ eq-eqb _ 0 none)) ms s in
     let few = (valid_parts ms valid).not_deep in
-    omega (arith, few, more, length-map c.loop-rest.names.items (λ v. v.items), c.if-len-ge32.true, c.len.ensures, c.loop-rest.names.ok)
+    omega (arith, few, more, length-map c.loop-rest.names.items (λ v. v.items), c.if-len-ge-MOST_NAMES.true, c.len.ensures, c.loop-rest.names.ok)
 
 pub loop-rest-preserved : goal.loop-rest-preserved
 loop-rest-preserved g c =

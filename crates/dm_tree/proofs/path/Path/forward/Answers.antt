@@ -15,15 +15,15 @@ offset_bounds-names-front g c = not_longer c.names-names.result.now c.names-fron
 pub slice_bounds-rest-count : goal.slice_bounds-rest-count
 slice_bounds-rest-count g c = not_longer c.names-names.result.now c.names-front.result.now (c.if-not-begins.ensures.0 refl)
 
-pub returns-then-base-rest-gt32-clause-value : goal.returns-then-base-rest-gt32-clause-value
-returns-then-base-rest-gt32-clause-value g c = too_long c.names-names.result.now c.names-front.result.now c.names-base.result.now c.args.self.now c.args.from.now c.args.to.now (length c.names-front.result.now)
+pub returns-then-base-rest-gt-MOST_NAMES-clause-value : goal.returns-then-base-rest-gt-MOST_NAMES-clause-value
+returns-then-base-rest-gt-MOST_NAMES-clause-value g c = too_long c.names-names.result.now c.names-front.result.now c.names-base.result.now c.args.self.now c.args.from.now c.args.to.now (length c.names-front.result.now)
     c.names-names.ensures.value c.names-front.ensures.value c.names-base.ensures.value refl (c.if-not-begins.ensures.0 refl)
-    c.names-names.result.now (length c.names-base.result.now) refl refl c.if-base-rest-gt32.true
+    c.names-names.result.now (length c.names-base.result.now) refl refl c.if-base-rest-gt-MOST_NAMES.true
 
 pub invariant_of-result : goal.invariant_of-result
 invariant_of-result g c =
     let n = length c.names-front.result.now in
-    let short = c.if-base-rest-gt32.false in
+    let short = c.if-base-rest-gt-MOST_NAMES.false in
     let pushed : c.push_all.new.copies.items ≡ c.names-base.result.now = rw c.in_ok-moved.ensures.items at c.in_ok-push_all.ensures in
     moved_valid c.names-names.result.now c.names-front.result.now c.names-base.result.now c.args.self.now c.args.from.now c.args.to.now n
     c.names-names.ensures.value c.names-front.ensures.value c.names-base.ensures.value refl (c.if-not-begins.ensures.0 refl)
@@ -54,8 +54,8 @@ returns-in_err-copy_into-clause-valid g c = (c.names-names.ensures.valid, c.name
 pub returns-then-not-begins-clause-valid : goal.returns-then-not-begins-clause-valid
 returns-then-not-begins-clause-valid g c = (c.names-names.ensures.valid, c.names-front.ensures.valid, c.names-base.ensures.valid)
 
-pub returns-then-base-rest-gt32-clause-valid : goal.returns-then-base-rest-gt32-clause-valid
-returns-then-base-rest-gt32-clause-valid g c = (c.names-names.ensures.valid, c.names-front.ensures.valid, c.names-base.ensures.valid)
+pub returns-then-base-rest-gt-MOST_NAMES-clause-valid : goal.returns-then-base-rest-gt-MOST_NAMES-clause-valid
+returns-then-base-rest-gt-MOST_NAMES-clause-valid g c = (c.names-names.ensures.valid, c.names-front.ensures.valid, c.names-base.ensures.valid)
 
 pub returns-in_err-moved-clause-valid : goal.returns-in_err-moved-clause-valid
 returns-in_err-moved-clause-valid g c = (c.names-names.ensures.valid, c.names-front.ensures.valid, c.names-base.ensures.valid)
