@@ -1,0 +1,10 @@
+pub mod Leading
+pub mod Stepping
+pub mod Commuted
+pub mod Members
+pub mod Determined
+pub mod Made
+pub mod Permuted
+pub mod Adding
+pub mod Once
+pub mod Turns

@@ -1,0 +1,4 @@
+pub mod Chains
+pub mod Sums
+pub mod HunksInTurn
+pub mod Laws

@@ -1,0 +1,10 @@
+pub mod Patches
+pub mod Names
+pub mod Orders
+pub mod Taking
+pub mod Converging
+pub mod Labels
+pub mod Merged
+pub mod Sent
+pub mod Networks
+pub mod Accepting

@@ -1,0 +1,5 @@
+use Rattle.dm_converge.proofs.Patches as proof
+use Rattle.dm_converge.proofs.laws.split_keeps_meaning.Goals as goal
+
+pub returns : goal.returns
+returns g c = proof.split_keeps_meaning _

@@ -1,0 +1,4 @@
+pub mod Meanings
+pub mod Pools
+pub mod Networks
+pub mod Laws

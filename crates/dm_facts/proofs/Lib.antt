@@ -1,0 +1,12 @@
+pub mod TreeLemmas
+pub mod StepLemmas
+pub mod Undoing
+pub mod SquareLemmas
+pub mod Made
+pub mod Kept
+pub mod Determined
+pub mod Sums
+pub mod Newness
+pub mod Order
+pub mod ListSteps
+pub mod LawProofs

@@ -1,0 +1,5 @@
+use Rattle.dm_facts.proofs.LawProofs as proof
+use Rattle.dm_facts.proofs.laws.list_effects_stay.Goals as goal
+
+pub returns : goal.returns
+returns g c = proof.list_effects_stay _

@@ -1,0 +1,69 @@
+-- What a primitive does to a tree with identities, and which facts it takes away and adds.
+use Rattle.std.specs.Prelude.{◌≡◌, ◌≢◌, ℕ, List, [], ◌∷◌, ◌++◌, map, Option, Some, None}
+use Rattle.dm_tree.specs.Paths.{Name, Path, Under, Apart}
+use Rattle.dm_tree.specs.Trees.{Lines}
+use Rattle.dm_prim.specs.Primitives.{Work, AddFile, RmFile, AddDir, RmDir, Hunk, Prim, At, Move}
+use Rattle.dm_prim.specs.Table.{IsDirectoryWork}
+use Rattle.dm_chain.specs.Chains.{Token, HunkSteps}
+use Rattle.dm_facts.specs.Nodes.{Node, Text, Named, IsFolder, IsFile, IsEmptyFile, IsNameIn}
+use Rattle.dm_facts.specs.Facts.{TokenOf, stands, facts_of, Effect, inverse}
+
+-- where nothing stood, a node of this kind stands in the directory d under the name n, and its facts are added
+pub record Creates {I : Type 0} (Is : Node I → Type 0) (d : I) (n : Name) (before after : Option (Node I)) (e : Effect I) : Type 0 where
+  pub node : Node I
+  pub is : Is node
+  pub nothing : before ≡ None
+  pub there : after ≡ Some node
+  pub effect : e ≡ record { taken = []; added = facts_of node d n }
+
+-- a file keeps its identity while lines of it are replaced
+pub record Edits {I : Type 0} (l : ℕ) (old new : Lines) (before after : Option (Node I)) (e : Effect I) : Type 0 where
+  pub file : I
+  pub tokens : List (Token I)
+  pub tokens' : List (Token I)
+  pub taken : List (Token I)
+  pub added : List (Token I)
+  pub stood : before ≡ Some (Text file tokens)
+  pub there : after ≡ Some (Text file tokens')
+  pub is_file : IsFile file tokens
+  pub replaced : HunkSteps l old new taken added tokens tokens'
+  pub effect : e ≡ record { taken = map (TokenOf file) taken; added = map (TokenOf file) added }
+
+-- what work finds under the name n of the directory d, and what it leaves there
+abbrev pub Makes : {I : Type 0} → Work → I → Name → Option (Node I) → Option (Node I) → Effect I → Type 0
+Makes AddFile d n before after e = Creates IsEmptyFile d n before after e
+Makes RmFile d n before after e = Creates IsEmptyFile d n after before (inverse e)
+Makes AddDir d n before after e = Creates IsFolder d n before after e
+Makes RmDir d n before after e = Creates IsFolder d n after before (inverse e)
+Makes (Hunk l old new) d n before after e = Edits l old new before after e
+
+-- work w at p makes t of s: the directory of p is there, and nothing is in a directory that is added or removed
+pub record StepsAt {I : Type 0} (p : Path) (w : Work) (e : Effect I) (s t : Named I) : Type 0 where
+  pub directory : I
+  pub name : Name
+  pub placed : IsNameIn p directory name s
+  pub empty : IsDirectoryWork w → (n : Name) (r : Path) → s (p ++ n ∷ r) ≡ None
+  pub here : Makes w directory name (s p) (t p) e
+  pub elsewhere : (q : Path) → q ≢ p → t q ≡ s q
+
+-- `move a b` makes t of s: one node changes its directory and its name, and all inside it goes along
+pub record StepsMove {I : Type 0} (a b : Path) (e : Effect I) (s t : Named I) : Type 0 where
+  pub apart : Apart a b
+  pub node : Node I
+  pub stood : s a ≡ Some node
+  pub from : I
+  pub old_name : Name
+  pub placed : IsNameIn a from old_name s
+  pub to : I
+  pub new_name : Name
+  pub place : IsNameIn b to new_name s
+  pub free : (r : Path) → s (b ++ r) ≡ None
+  pub there : (r : Path) → t (b ++ r) ≡ s (a ++ r)
+  pub gone : (r : Path) → t (a ++ r) ≡ None
+  pub elsewhere : (q : Path) → (Under q a → ⊥) → (Under q b → ⊥) → t q ≡ s q
+  pub effect : e ≡ record { taken = stands node from old_name ∷ []; added = stands node to new_name ∷ [] }
+
+-- p makes t of s with this effect
+abbrev pub Steps : {I : Type 0} → Prim → Effect I → Named I → Named I → Type 0
+Steps (At p w) e s t = StepsAt p w e s t
+Steps (Move a b) e s t = StepsMove a b e s t
