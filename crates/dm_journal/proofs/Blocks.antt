@@ -114,13 +114,13 @@ module _ (bytes : List ℕ) (n : ℕ) (rest : List ℕ) (some : 1 ≤ length byt
   }
 
 -- at the end of a file, a block more
-pub end_push : (file : List ℕ) (texts : List (List ℕ)) (text : List ℕ) → length text < 2 ^ 64 → Begins file texts [] → Begins (file ++ 1 ∷ [] ++ block text) (texts ++ text ∷ []) []
+pub end_push : (file : List ℕ) (texts : List (List ℕ)) (text : List ℕ) → length text < 2 ^ 64 → Begins file texts [] → Begins (file ++ 255 ∷ [] ++ block text) (texts ++ text ∷ []) []
 end_push file texts text fits begins =
     let f = file_front file texts [] begins in
-    let r = 1 ∷ (block text ++ []) in
-    let same : f.0 ++ 1 ∷ (block text ++ []) ≡ file ++ 1 ∷ [] ++ block text =
-    ap (λ (l : List ℕ). l ++ 1 ∷ (block text ++ [])) (sym (f.1 ∙ append-nil f.0)) ∙ ap (λ (l : List ℕ). file ++ 1 ∷ l) (append-nil (block text)) ∙ sym (append_assoc file (1 ∷ []) (block text)) in
-    subst (λ l. Begins l (texts ++ text ∷ []) []) same (begins_push (f.0 ++ r) texts text r [] (f.2 r) (record { gate = 1; is_open = omega arith; fits = fits; is = refl }))
+    let r = 255 ∷ (block text ++ []) in
+    let same : f.0 ++ 255 ∷ (block text ++ []) ≡ file ++ 255 ∷ [] ++ block text =
+    ap (λ (l : List ℕ). l ++ 255 ∷ (block text ++ [])) (sym (f.1 ∙ append-nil f.0)) ∙ ap (λ (l : List ℕ). file ++ 255 ∷ l) (append-nil (block text)) ∙ sym (append_assoc file (255 ∷ []) (block text)) in
+    subst (λ l. Begins l (texts ++ text ∷ []) []) same (begins_push (f.0 ++ r) texts text r [] (f.2 r) (record { gate = 255; is_open = omega arith; fits = fits; is = refl }))
 
 -- and a closed gate
 pub end_close : (file : List ℕ) (texts : List (List ℕ)) → Begins file texts [] → Begins (file ++ 0 ∷ []) texts (0 ∷ [])
@@ -129,8 +129,8 @@ end_close file texts begins =
     subst (λ (l : List ℕ). Begins (l ++ 0 ∷ []) texts (0 ∷ [])) (sym (f.1 ∙ append-nil f.0)) (f.2 (0 ∷ []))
 
 -- the text at an index joins those before it
-pub next_text : {X : Type 0} (f : X → List ℕ) (xs : List X) (i : ℕ) (d : X) (old mid new : List ℕ) → i < length xs → length (f (get_or xs i d)) < 2 ^ 64 → Begins old (map f (take i xs)) [] → mid ≡ old ++ 1 ∷ [] → new ≡ mid ++ block (f (get_or xs i d)) → Begins new (map f (take (i + 1) xs)) []
+pub next_text : {X : Type 0} (f : X → List ℕ) (xs : List X) (i : ℕ) (d : X) (old mid new : List ℕ) → i < length xs → length (f (get_or xs i d)) < 2 ^ 64 → Begins old (map f (take i xs)) [] → mid ≡ old ++ 255 ∷ [] → new ≡ mid ++ block (f (get_or xs i d)) → Begins new (map f (take (i + 1) xs)) []
 next_text f xs i d old mid new lt fits begins gate is =
     let texts : map f (take i xs) ++ f (get_or xs i d) ∷ [] ≡ map f (take (i + 1) xs) = sym (map-append f (take i xs) (get_or xs i d ∷ [])) ∙ ap (map f) (sym (take_more xs i d lt)) in
-    let file : old ++ 1 ∷ [] ++ block (f (get_or xs i d)) ≡ new = ap (λ (l : List ℕ). l ++ block (f (get_or xs i d))) (sym gate) ∙ sym is in
+    let file : old ++ 255 ∷ [] ++ block (f (get_or xs i d)) ≡ new = ap (λ (l : List ℕ). l ++ block (f (get_or xs i d))) (sym gate) ∙ sym is in
     subst (λ l. Begins new l []) texts (subst (λ l. Begins l (map f (take i xs) ++ f (get_or xs i d) ∷ []) []) file (end_push old (map f (take i xs)) (f (get_or xs i d)) fits begins))

@@ -44,12 +44,12 @@ module _ (front rest : List ℕ) (gate : ℕ) (size : length front ≡ gate) whe
       ∙ ap (λ (l : List ℕ). l ++ drop gate c) (torn.before ∙ take_at front (0 ∷ rest) gate size)
       ∙ ap (λ (l : List ℕ). front ++ l) (at ∙ ap (λ (l : List ℕ). get_or c gate 0 ∷ l) (torn.after ∙ behind))
 
-  pub written_gate : (c : List ℕ) → Holds (front ++ 0 ∷ rest) gate (1 ∷ []) c → c ≡ front ++ 1 ∷ rest
+  pub written_gate : (c : List ℕ) → Holds (front ++ 0 ∷ rest) gate (255 ∷ []) c → c ≡ front ++ 255 ∷ rest
   written_gate c holds =
       holds
-      ∙ append_assoc (take gate (front ++ 0 ∷ rest)) (1 ∷ []) (drop (gate + 1) (front ++ 0 ∷ rest))
-      ∙ ap (λ (l : List ℕ). l ++ 1 ∷ drop (gate + 1) (front ++ 0 ∷ rest)) (take_at front (0 ∷ rest) gate size)
-      ∙ ap (λ (l : List ℕ). front ++ 1 ∷ l) behind
+      ∙ append_assoc (take gate (front ++ 0 ∷ rest)) (255 ∷ []) (drop (gate + 1) (front ++ 0 ∷ rest))
+      ∙ ap (λ (l : List ℕ). l ++ 255 ∷ drop (gate + 1) (front ++ 0 ∷ rest)) (take_at front (0 ∷ rest) gate size)
+      ∙ ap (λ (l : List ℕ). front ++ 255 ∷ l) behind
 
 -- the file when the block of a text stands behind a closed gate
 pub record IsStaged (texts : List (List ℕ)) (text : List ℕ) (gate : ℕ) (file : List ℕ) : Type 0 where
@@ -115,18 +115,18 @@ module _ (texts : List (List ℕ)) (text : List ℕ) (fits : length text < 2 ^ 6
       without c is = (block text ++ 0 ∷ s.rest, subst (λ l. Begins l texts (0 ∷ (block text ++ 0 ∷ s.rest))) (sym is) (s.moves (0 ∷ (block text ++ 0 ∷ s.rest))))
 
   -- and when it is done, it has the text
-  pub acknowledged : {D : Type 0} (seen : D → List ℕ) (may_leave file_may_leave : D → List ℕ → Type 0) (journal : Journal D) → Holds file gate (1 ∷ []) (seen journal.device) → IsDurable seen may_leave file_may_leave journal.device → journal.gate ≡ gate + length (block text ++ 0 ∷ []) → HasTexts seen may_leave file_may_leave journal (texts ++ text ∷ [])
+  pub acknowledged : {D : Type 0} (seen : D → List ℕ) (may_leave file_may_leave : D → List ℕ → Type 0) (journal : Journal D) → Holds file gate (255 ∷ []) (seen journal.device) → IsDurable seen may_leave file_may_leave journal.device → journal.gate ≡ gate + length (block text ++ 0 ∷ []) → HasTexts seen may_leave file_may_leave journal (texts ++ text ∷ [])
   acknowledged seen may_leave file_may_leave journal holds only moved =
-      let is = written_gate s.front (block text ++ 0 ∷ s.rest) gate s.size (seen journal.device) (subst (λ l. Holds l gate (1 ∷ []) (seen journal.device)) s.is holds) in
+      let is = written_gate s.front (block text ++ 0 ∷ s.rest) gate s.size (seen journal.device) (subst (λ l. Holds l gate (255 ∷ []) (seen journal.device)) s.is holds) in
       record {
         rest = s.rest;
-        begins = subst (λ l. Begins l (texts ++ text ∷ []) (0 ∷ s.rest)) (sym is) (opened 1 (omega arith));
+        begins = subst (λ l. Begins l (texts ++ text ∷ []) (0 ∷ s.rest)) (sym is) (opened 255 (omega arith));
         place = omega (
           arith,
           moved,
           s.size,
           ap length is,
-          length-append s.front (1 ∷ (block text ++ 0 ∷ s.rest)),
+          length-append s.front (255 ∷ (block text ++ 0 ∷ s.rest)),
           length-block (sha256 text) text (0 ∷ []) (length-sha256 text),
           length-block (sha256 text) text (0 ∷ s.rest) (length-sha256 text),
         );

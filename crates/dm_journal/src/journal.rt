@@ -13,7 +13,7 @@ use crate::device::Device;
 use crate::fault::{OpenError, WriteError};
 use crate::reading::read_blocks;
 use crate::texts::Texts;
-use crate::writing::{MOST_BYTES, put_in_place, stage, whole, write_synced};
+use crate::writing::{MOST_BYTES, OPEN, put_in_place, stage, whole, write_synced};
 use std::alloc::Global;
 
 // The last place of a gate behind which a text is appended.
@@ -74,7 +74,7 @@ impl<D: Device> Journal<D> {
         let staged = stage(alloc, text)?;
         // The block stands on the disk before its gate is opened.
         write_synced(&mut self.device, self.gate + 1, &staged)?;
-        write_synced(&mut self.device, self.gate, &[1])?;
+        write_synced(&mut self.device, self.gate, &[OPEN])?;
         self.gate += staged.len();
         Ok(())
     }

@@ -15,6 +15,9 @@ use std::alloc::Global;
 /// The most bytes of a text that is written.
 pub const MOST_BYTES: usize = 1 << 40;
 
+// An open gate. Any byte but 0 is one, so no single bit that turns closes it.
+pub const OPEN: u8 = 255;
+
 // The block of a text, and a closed gate.
 pub fn stage(alloc: Global, text: &[u8]) -> Result<Vec<u8>, DeviceError>
     requires { length text.now ≤ 2 ^ 40 }
@@ -38,7 +41,7 @@ pub fn whole(alloc: Global, texts: &[&[u8]]) -> Result<Vec<u8>, WriteError>
         if text.len() > MOST_BYTES {
             return Err(WriteError::TooLong);
         }
-        bytes.push(1)?;
+        bytes.push(OPEN)?;
         push_block(&mut bytes, text)?;
     }
     bytes.push(0)?;

@@ -1,5 +1,5 @@
 -- A whole repository is taken again, into an empty one.
-use Rattle.std.proofs.Common.{arith, ◌≡◌, ◌≢◌, ◌≤◌, ◌+◌, ℕ, zero, suc, List, [], ◌∷◌, ◌++◌, length, take, slice_get, Some, inl, inr, refl, sym, ap, subst, ◌∙◌, append_assoc, append-nil}
+use Rattle.std.proofs.Common.{arith, ◌≡◌, ◌≢◌, ◌⊎◌, ◌≤◌, ◌+◌, ℕ, zero, suc, List, [], ◌∷◌, ◌++◌, length, take, slice_get, Some, inl, inr, refl, sym, ap, subst, ◌∙◌, append_assoc, append-nil}
 use Rattle.std.specs.List.{Contains}
 use Rattle.std.proofs.lemmas.List.{length-map}
 use Rattle.dm_info.specs.PatchInfo.{PatchInfo}
@@ -23,9 +23,10 @@ use Rattle.dm_repo.proofs.Placed.{patches_placed}
 use Rattle.dm_scratch.specs.declared.verdict.Verdict.{Verdict}
 use Rattle.dm_scratch.specs.declared.verdict.Verdict.TheVariants.{Taken, Refused}
 use Rattle.dm_scratch.specs.Taking.{TakesWithin, bundle}
+use Rattle.dm_journal.specs.Journal.{StandsFor}
 use Rattle.dm_journal.specs.Ready.{StandsForEither}
 use Rattle.dm_store.specs.Entries.{whole_entry, all_of}
-use Rattle.dm_store.specs.Keeping.{HasTaken, TakesEntry, FoldTo, KeepsRepo}
+use Rattle.dm_store.specs.Keeping.{HasTaken, TakesEntry, FoldTo, KeepsRepo, IsOrKeeps}
 use Rattle.dm_store.specs.Opening.{IsBadEntry}
 use Rattle.dm_store.specs.Laws.{RepositoryIsTakenAgain}
 use Rattle.dm_store.proofs.FoldLemmas.{whole_not_taken}
@@ -103,3 +104,8 @@ fold_whole entry repo t = (repo, t, refl)
 pub either_keeps : (old new : List (List ℕ)) (repo : List Patch) → FoldTo old repo → FoldTo new repo → (c : List ℕ) → StandsForEither old new c → KeepsRepo c repo
 either_keeps old new repo f g c (inl s) = (old, s, f)
 either_keeps old new repo f g c (inr s) = (new, s, g)
+
+-- the old file, or one with the entry of the repository alone
+pub old_or_whole : (old entry : List ℕ) (repo : List Patch) → TakesEntry [] entry repo → (c : List ℕ) → (c ≡ old) ⊎ StandsFor c (entry ∷ []) → IsOrKeeps old repo c
+old_or_whole old entry repo t c (inl same) = inl same
+old_or_whole old entry repo t c (inr s) = inr (entry ∷ [], s, fold_whole entry repo t)

@@ -60,9 +60,9 @@ abbrev pub KeepsWithOrWithout : List Patch → List ℕ → Policy → List ℕ 
 KeepsWithOrWithout repo text policy file =
     KeepsRepo file repo ⊎ ((after : List Patch) × TakesText repo (entry_of policy text) after × KeepsRepo file after)
 
--- the file is this one, or it keeps the repository without patches
-abbrev pub IsOrKeepsNone : List ℕ → List ℕ → Type 0
-IsOrKeepsNone old file = (file ≡ old) ⊎ KeepsRepo file []
+-- the file is the old one, or it keeps the repository
+abbrev pub IsOrKeeps : List ℕ → List Patch → List ℕ → Type 0
+IsOrKeeps old repo file = (file ≡ old) ⊎ KeepsRepo file repo
 
 -- a crash now leaves a file that keeps the repository
 abbrev pub CrashesKeep : {D : Type 0} → (D → List ℕ → Type 0) → D → List Patch → Type 0

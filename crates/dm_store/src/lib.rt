@@ -12,6 +12,7 @@
 
 mod entries;
 mod fault;
+mod growth;
 pub mod laws;
 mod opening;
 mod store;

@@ -1,5 +1,5 @@
 //! A store: a repository, and the journal that keeps it.
-ghost use Rattle.std.specs.Prelude.{◌≡◌, ◌↔◌, ◌<◌, ◌^◌, ℕ, [], ◌∷◌, length, IfOk, IfErr, OnOk, IsErrOf, IsTrue};
+ghost use Rattle.std.specs.Prelude.{◌≡◌, ◌≢◌, ◌↔◌, ◌<◌, ◌^◌, List, ℕ, [], ◌∷◌, length, IfOk, IfErr, OnOk, IsErrOf, IsTrue};
 ghost use Rattle.dm_journal.specs.declared.device.DeviceError.TheVariants.{Failed};
 ghost use Rattle.dm_journal.specs.declared.fault.Fault.{Fault as FileFault};
 ghost use Rattle.dm_journal.specs.declared.fault.OpenError.TheVariants.{Device as OpeningDevice, File as OpeningFile};
@@ -9,11 +9,12 @@ ghost use Rattle.dm_journal.specs.Faults.{HasFault};
 ghost use Rattle.dm_journal.specs.Ready.{HasTexts, IsUntouched};
 ghost use Rattle.dm_scratch.specs.Taking.{Takes};
 ghost use Rattle.dm_store.specs.declared.fault.StoreError.TheVariants.{Journal as OpeningJournal, BadEntry};
-ghost use Rattle.dm_store.specs.Keeping.{HasTaken, KeepsRepo, KeepsWithOrWithout, IsOrKeepsNone, CrashesKeep, IsStored, FitsOneEntry, entry_of_all};
+ghost use Rattle.dm_store.specs.Keeping.{HasTaken, KeepsRepo, KeepsWithOrWithout, IsOrKeeps, CrashesKeep, IsStored, FoldTo, FitsOneEntry, entry_of_all};
 ghost use Rattle.dm_store.specs.Opening.{HasBadEntry};
 
 use crate::entries::make_entry;
 use crate::fault::StoreError;
+use crate::growth::{Growth, growth_of};
 use crate::opening::{has_taken, take_again};
 use crate::whole::entry_of_repo;
 use bumpalo::Bump;
@@ -30,6 +31,7 @@ pub struct Store<D: Device> {
     repo: Repo<Global>,
     // For what is tried.
     arena: Bump,
+    growth: Growth,
 }
 
 impl<D: Device> Store<D> {
@@ -55,32 +57,34 @@ impl<D: Device> Store<D> {
                 journal,
                 repo,
                 arena,
+                growth: growth_of(&entries),
             }),
             Err(error) => Err((error, journal.device)),
         }
     }
 
-    /// Puts a store of the repository without patches in the place of the file, whatever is there, or nothing. At an error
-    /// the device comes back.
-    pub fn create(alloc: Global, device: D) -> Result<Store<D>, (WriteError, D)>
+    /// Puts a store of a repository in the place of the file, whatever is there, or nothing. At an error the device comes back;
+    /// [`WriteError::TooLong`] is told of a repository that is past [`dm_named::Limits::OWN`].
+    pub fn create(alloc: Global, device: D, repo: Repo<Global>) -> Result<Store<D>, (WriteError, D)>
         requires { IsDurable D.seen D.may_leave D.file_may_leave device }
-        ensures empty { IfOk result (λ store. store.repo.patches ≡ []) }
+        ensures same { IfOk result (λ store. store.repo ≡ repo) }
         ensures stored { IfOk result (IsStored D.seen D.may_leave D.file_may_leave) }
 
-        // A crash at any moment of the call leaves the file from before it, or one that keeps the repository without patches.
-        ensures any_moment { IfOk result (λ store. LeavesOnly D.moment D.left_since device store.journal.device (IsOrKeepsNone (D.seen device))) }
-        ensures any_moment_err { IfErr result (λ e. LeavesOnly D.moment D.left_since device e.1 (IsOrKeepsNone (D.seen device))) }
+        // A crash at any moment of the call leaves the file from before it, or one that keeps the repository.
+        ensures any_moment { IfOk result (λ store. LeavesOnly D.moment D.left_since device store.journal.device (IsOrKeeps (D.seen device) repo.patches)) }
+        ensures any_moment_err { IfErr result (λ e. LeavesOnly D.moment D.left_since device e.1 (IsOrKeeps (D.seen device) repo.patches)) }
 
         // It doesn't give up by itself.
         ensures failed { IfErr result (λ e. e.0 ≡ WritingDevice Failed → D.faults device < D.faults e.1) }
-        ensures not_too_long { IfErr result (λ e. e.0 ≡ TooLong → ⊥) }
+        ensures too_long { IfErr result (λ e. e.0 ≡ TooLong → (repo.patches ≢ []) × (FitsOneEntry repo.patches → ⊥)) }
         ensures not_full { IfErr result (λ e. e.0 ≡ Full → ⊥) }
     {
-        match Journal::create(alloc, device, &[]) {
-            Ok(journal) => Ok(Store {
+        match begin(alloc, device, &repo) {
+            Ok((journal, growth)) => Ok(Store {
                 journal,
-                repo: Repo::new(alloc),
+                repo,
                 arena: Bump::new(alloc),
+                growth,
             }),
             Err(error) => Err(error),
         }
@@ -131,7 +135,17 @@ impl<D: Device> Store<D> {
         }
         let entry = make_entry(alloc, text, policy)?;
         self.journal.append(alloc, &entry)?;
+        self.growth.add(entry.len());
         Ok(verdict)
+    }
+
+    /// Whether a checkpoint is worth its while: what was taken since the last one has more bytes than the repository had
+    /// then, and than 1 MiB. Who makes one whenever it is writes each byte about twice, and opens at most about twice what
+    /// the repository needs.
+    pub fn wants_checkpoint(&self) -> bool
+        ensures { IsTrue result ↔ ((self.now.growth.whole < self.now.growth.since) × (2 ^ 20 < self.now.growth.since)) }
+    {
+        self.growth.is_large()
     }
 
     /// Puts one entry in the place of all that the journal has: the bundle of all patches, with an empty context. The
@@ -163,6 +177,38 @@ impl<D: Device> Store<D> {
             return Ok(false);
         };
         self.journal.replace(alloc, &[entry.as_slice()])?;
+        self.growth = Growth::of_whole(entry.len());
         Ok(true)
+    }
+}
+
+// Puts a journal that keeps this repository in the place of the file.
+fn begin<D: Device>(
+    alloc: Global,
+    device: D,
+    repo: &Repo<Global>,
+) -> Result<(Journal<D>, Growth), (WriteError, D)>
+    requires { IsDurable D.seen D.may_leave D.file_may_leave device }
+    ensures stored { IfOk result (λ r. (entries : List (List ℕ)) × HasTexts D.seen D.may_leave D.file_may_leave r.0 entries × FoldTo entries repo.now.patches) }
+    ensures any_moment { IfOk result (λ r. LeavesOnly D.moment D.left_since device r.0.device (IsOrKeeps (D.seen device) repo.now.patches)) }
+    ensures any_moment_err { IfErr result (λ e. LeavesOnly D.moment D.left_since device e.1 (IsOrKeeps (D.seen device) repo.now.patches)) }
+    ensures failed { IfErr result (λ e. e.0 ≡ WritingDevice Failed → D.faults device < D.faults e.1) }
+    ensures too_long { IfErr result (λ e. e.0 ≡ TooLong → (repo.now.patches ≢ []) × (FitsOneEntry repo.now.patches → ⊥)) }
+    ensures not_full { IfErr result (λ e. e.0 ≡ Full → ⊥) }
+{
+    if repo.is_empty() {
+        return match Journal::create(alloc, device, &[]) {
+            Ok(journal) => Ok((journal, Growth::of_whole(0))),
+            Err(error) => Err(error),
+        };
+    }
+    let entry = match entry_of_repo(alloc, repo) {
+        Ok(Some(entry)) => entry,
+        Ok(None) => return Err((WriteError::TooLong, device)),
+        Err(error) => return Err((error, device)),
+    };
+    match Journal::create(alloc, device, &[entry.as_slice()]) {
+        Ok(journal) => Ok((journal, Growth::of_whole(entry.len()))),
+        Err(error) => Err(error),
     }
 }

@@ -2,7 +2,7 @@
 
 use crate::asking::{bad_entry_in, patches_in};
 use dm_journal::{Journal, Memory};
-use dm_repo::Policy;
+use dm_repo::{Policy, Repo};
 use dm_scratch::Verdict;
 use dm_store::Store;
 use std::alloc::Global;
@@ -21,7 +21,8 @@ const NEXT: &[u8] =
 
 /// Whether a new store takes two patches once, skips one of two others, and has three when it is opened again.
 fn lasts(alloc: Global) -> bool {
-    let Ok(mut store) = Store::create(alloc, Memory::new(alloc, Vec::new(alloc))) else {
+    let Ok(mut store) = Store::create(alloc, Memory::new(alloc, Vec::new(alloc)), Repo::new(alloc))
+    else {
         return false;
     };
     let Ok(Verdict::Taken(2)) = store.take(alloc, TWO, Policy::Refuse) else {
@@ -44,7 +45,8 @@ fn a_store_is_opened_again(rt: HostRuntime) {
 
 /// Whether a store of two texts has the same patches when it is opened again after a checkpoint, and takes another text then.
 fn lasts_in_one_entry(alloc: Global) -> bool {
-    let Ok(mut store) = Store::create(alloc, Memory::new(alloc, Vec::new(alloc))) else {
+    let Ok(mut store) = Store::create(alloc, Memory::new(alloc, Vec::new(alloc)), Repo::new(alloc))
+    else {
         return false;
     };
     let Ok(false) = store.checkpoint(alloc) else {
