@@ -1,0 +1,91 @@
+-- What the events of a file say of it. The newest event comes first.
+use Rattle.std.specs.Prelude.{◌≡◌, ◌⊎◌, ◌≤◌, ℕ, ◌+◌, Bool, true, false, not, if◌then◌else◌, List, [], ◌∷◌, ◌++◌, length, take, drop}
+use mathlib.Core.Logic.{inl, inr}
+use Rattle.std.proofs.Math.Nat.{not-suc-le_self}
+use Rattle.dm_journal.specs.Device.{Torn}
+use Rattle.dm_disk.specs.Events.{Event, opened, wrote, synced, wrote_beside, synced_beside, renamed, synced_folder, refused}
+
+-- a file with these bytes at this place
+abbrev pub overwritten : ℕ → List ℕ → List ℕ → List ℕ
+overwritten at bytes file = take at file ++ bytes ++ drop (at + length bytes) file
+
+-- the bytes of the new file beside this one
+abbrev pub beside : List Event → List ℕ
+beside [] = []
+beside (wrote_beside bytes done ∷ earlier) = bytes
+beside (renamed done ∷ earlier) = []
+beside (e ∷ earlier) = beside earlier
+
+-- what a crash may leave of the new file: anything until it is synced
+abbrev pub beside_may_leave : List Event → List ℕ → Type 0
+beside_may_leave [] c = Unit {0}
+beside_may_leave (wrote_beside bytes done ∷ earlier) c = Unit {0}
+beside_may_leave (renamed done ∷ earlier) c = Unit {0}
+beside_may_leave (synced_beside true ∷ earlier) c = c ≡ beside earlier
+beside_may_leave (e ∷ earlier) c = beside_may_leave earlier c
+
+-- the bytes of the file
+abbrev pub seen : List Event → List ℕ
+seen [] = []
+seen (opened bytes ∷ earlier) = bytes
+seen (wrote at bytes true ∷ earlier) = overwritten at bytes (seen earlier)
+seen (renamed true ∷ earlier) = beside earlier
+seen (e ∷ earlier) = seen earlier
+
+-- what a crash may leave of the file: after a write that, or any bytes in the range; after a sync the file as it is
+abbrev pub file_may_leave : List Event → List ℕ → Type 0
+file_may_leave [] c = c ≡ []
+file_may_leave (opened bytes ∷ earlier) c = c ≡ bytes
+file_may_leave (wrote at bytes done ∷ earlier) c = (c ≡ overwritten at bytes (seen earlier)) ⊎ ((d : List ℕ) × file_may_leave earlier d × Torn at (length bytes) d c)
+file_may_leave (synced true ∷ earlier) c = c ≡ seen earlier
+file_may_leave (renamed true ∷ earlier) c = beside_may_leave earlier c
+file_may_leave (e ∷ earlier) c = file_may_leave earlier c
+
+-- what a crash may leave of another file that may still have the name on the disk, or have it already: none once the folder is synced
+abbrev pub other_may_leave : List Event → List ℕ → Type 0
+other_may_leave [] c = ⊥
+other_may_leave (opened bytes ∷ earlier) c = ⊥
+other_may_leave (renamed true ∷ earlier) c = file_may_leave earlier c ⊎ other_may_leave earlier c
+other_may_leave (renamed false ∷ earlier) c = beside_may_leave earlier c ⊎ other_may_leave earlier c
+other_may_leave (synced_folder true ∷ earlier) c = ⊥
+other_may_leave (e ∷ earlier) c = other_may_leave earlier c
+
+-- what a crash may leave under the name
+abbrev pub may_leave : List Event → List ℕ → Type 0
+may_leave history c = file_may_leave history c ⊎ other_may_leave history c
+
+-- what a crash may have left under the name since there were so many events
+abbrev pub left_since : List Event → ℕ → List ℕ → Type 0
+left_since [] t c = may_leave [] c
+left_since (e ∷ earlier) t c = may_leave (e ∷ earlier) c ⊎ ((t ≤ length earlier) × left_since earlier t c)
+
+-- whether a call failed, or was refused
+abbrev pub is_fault : Event → Bool
+is_fault (opened bytes) = false
+is_fault (wrote at bytes done) = not done
+is_fault (synced done) = not done
+is_fault (wrote_beside bytes done) = not done
+is_fault (synced_beside done) = not done
+is_fault (renamed done) = not done
+is_fault (synced_folder done) = not done
+is_fault refused = true
+
+-- how many calls failed, or were refused
+abbrev pub faults : List Event → ℕ
+faults [] = 0
+faults (e ∷ earlier) = if is_fault e then faults earlier + 1 else faults earlier
+
+-- it was opened, and nothing has happened since
+abbrev pub IsFresh : List Event → Type 0
+IsFresh history = (bytes : List ℕ) × (history ≡ opened bytes ∷ [])
+
+-- what a crash may leave now it may have left since any moment
+pub left_now : (history : List Event) (t : ℕ) (c : List ℕ) → t ≤ length history → may_leave history c → left_since history t c
+left_now [] t c le left = left
+left_now (e ∷ earlier) t c le left = inl left
+
+-- since the last event there is only what a crash may leave now
+pub left_only_now : (history : List Event) (c : List ℕ) → left_since history (length history) c → may_leave history c
+left_only_now [] c left = left
+left_only_now (e ∷ earlier) c (inl left) = left
+left_only_now (e ∷ earlier) c (inr before) = absurd (not-suc-le_self (length earlier) before.0)

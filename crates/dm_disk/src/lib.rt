@@ -1,0 +1,38 @@
+//! A file on a disk, as a journal sees it: [`DiskFile`] is a [`dm_journal::Device`].
+//!
+//! Which bytes reach the disk no contract of the system's calls can say. So each method of [`DiskFile`] makes its call and
+//! notes it, with its outcome, in a [`record::Record`], which no memory has. A `DiskFile` is in contracts this list of events,
+//! and `specs/States` says what they tell of the file: what a read returns, and what a crash may leave under its name.
+//!
+//! # Proved
+//!
+//! Every clause of [`dm_journal::Device`], of that record. A file that was just opened is durable, as a store asks of it.
+//! No call fails without a fault in the record. The two functions of `record` are proved by hand, since they set what no
+//! memory holds.
+//!
+//! # Read from the code
+//!
+//! These no proof shows. Whoever trusts a store in a file trusts them.
+//!
+//! - Each method of `file` makes the call that it notes: a body that notes a sync and makes none would be proved as well.
+//!   What it calls stands in `file`, `opening` and `beside`. No other code writes to a `Record`.
+//! - The disk does what `specs/States` says: a sync that was done has put the file or the folder there; a write that a crash
+//!   cuts short changes no byte outside its range, and may leave any in it; a crash leaves the old name or the new one of
+//!   a file that is renamed. The folder itself stands on the disk already.
+//! - What a read returns is what the last sync put on the disk. Where an earlier process was told that a sync failed, the
+//!   system may show what isn't there, and the sync at the opening doesn't tell.
+//! - A crash in the middle of a call leaves what it might have left before the call or after it.
+//! - Nobody else writes to the file. The lock holds off everybody who opens it by this crate; on a network's file system it
+//!   does what that promises.
+#![tactic(auto)]
+
+mod beside;
+mod fault;
+mod file;
+mod notes;
+mod opening;
+mod record;
+
+pub use fault::OpenFault;
+pub use file::DiskFile;
+pub use opening::{Access, Lock};

@@ -1,0 +1,192 @@
+//! A file that is found, or made, and locked. No contract tells any of this.
+//!
+//! The lock is on the file itself, so that no other file has to be kept beside it. A checkpoint gives the name to a new file,
+//! which is locked before it has it: whoever waited for the old file finds, once the lock is there, that the name leads
+//! elsewhere, and begins anew. A file that is missing is first made with no bytes. Of two that make one at the same path, both
+//! find the same file, one gets the lock, and the other finds what the first has made of it. No sync is acknowledged, and no
+//! name is given, once somebody has removed the file or put another in its place.
+use crate::fault::OpenFault;
+use std::fs::{self, File, Metadata, OpenOptions, TryLockError};
+use std::io;
+use std::os::fd::AsRawFd;
+use std::os::unix::fs::MetadataExt;
+use std::path::Path;
+
+/// What a file is opened for.
+#[derive(Clone, Copy, Debug, PartialEq, Eq)]
+pub enum Access {
+    /// To be read. Others may read it meanwhile, and nobody writes to it. Every call that writes fails.
+    Read,
+    /// To be read and written. Nobody else has it open meanwhile.
+    Write,
+    /// As [`Access::Write`]; where nothing stands at the path, a file of no bytes is made.
+    Create,
+}
+
+/// What to do where somebody else has the file open.
+#[derive(Clone, Copy, Debug, PartialEq, Eq)]
+pub enum Lock {
+    /// Wait, without an end if this thread has it open itself.
+    Wait,
+    /// Answer [`OpenFault::Busy`].
+    Try,
+}
+
+// How often the name may lead to another file once the lock is there.
+const TRIES: usize = 1000;
+
+// The file at the path, locked.
+pub(crate) fn open_locked(
+    rt: &HostRuntime,
+    path: &str,
+    access: Access,
+    lock: Lock,
+) -> Result<File, OpenFault> {
+    for _ in 0..TRIES {
+        let Some(file) = find_or_make(rt, path, access)? else {
+            continue;
+        };
+        take_lock(&file, access, lock)?;
+        if leads_to(rt, path, &file) {
+            refuse_unfit(&file.metadata()?, access)?;
+            return Ok(file);
+        }
+    }
+    Err(OpenFault::Busy)
+}
+
+// The file at the path. `None` if somebody has removed or made it meanwhile.
+fn find_or_make(rt: &HostRuntime, path: &str, access: Access) -> Result<Option<File>, OpenFault> {
+    match fs::symlink_metadata(rt, path) {
+        Ok(found) => {
+            refuse_unfit(&found, access)?;
+            let mut how = OpenOptions::new();
+            how.read(true).write(access != Access::Read);
+            unless(io::ErrorKind::NotFound, how.open(rt, path))
+        }
+        Err(error) if error.kind() == io::ErrorKind::NotFound => {
+            if access != Access::Create {
+                return Err(OpenFault::Missing);
+            }
+            match unless(io::ErrorKind::AlreadyExists, make(rt, path)) {
+                Err(OpenFault::Io(error)) if error.kind() == io::ErrorKind::NotFound => {
+                    Err(OpenFault::NoFolder)
+                }
+                made => made,
+            }
+        }
+        Err(error) => Err(OpenFault::from(error)),
+    }
+}
+
+// `None` for an error of this kind.
+fn unless(kind: io::ErrorKind, opened: io::Result<File>) -> Result<Option<File>, OpenFault> {
+    match opened {
+        Ok(file) => Ok(Some(above_standard(file)?)),
+        Err(error) if error.kind() == kind => Ok(None),
+        Err(error) => Err(OpenFault::from(error)),
+    }
+}
+
+// A new file at the path, where nothing stands. It follows no link.
+fn make(rt: &HostRuntime, path: &str) -> io::Result<File> {
+    OpenOptions::new()
+        .read(true)
+        .write(true)
+        .create_new(true)
+        .open(rt, path)
+}
+
+// A new file at the path, where nothing stands, locked.
+pub(crate) fn make_locked(rt: &HostRuntime, path: &str) -> io::Result<File> {
+    let file = above_standard(make(rt, path)?)?;
+    match file.try_lock() {
+        Ok(()) => Ok(file),
+        Err(error) => Err(io::Error::from(error)),
+    }
+}
+
+// What the program prints must not land in a file that took the number of a standard stream that was closed.
+fn above_standard(file: File) -> io::Result<File> {
+    if file.as_raw_fd() > 2 {
+        return Ok(file);
+    }
+    file.try_clone()
+}
+
+// Where the file is to be written, a new one beside it must be able to have its name.
+pub(crate) fn refuse_name(
+    rt: &HostRuntime,
+    path: &str,
+    new_path: &str,
+    access: Access,
+) -> Result<(), OpenFault> {
+    if access == Access::Read {
+        return Ok(());
+    }
+    if path.ends_with(".new") {
+        return Err(OpenFault::NewName);
+    }
+    match fs::symlink_metadata(rt, new_path) {
+        Err(error) if error.kind() == io::ErrorKind::InvalidFilename => Err(OpenFault::LongName),
+        _ => Ok(()),
+    }
+}
+
+fn refuse_unfit(found: &Metadata, access: Access) -> Result<(), OpenFault> {
+    if found.is_symlink() {
+        return Err(OpenFault::Link);
+    }
+    if !found.is_file() {
+        return Err(OpenFault::NotAFile);
+    }
+    if access != Access::Read && found.nlink() > 1 {
+        return Err(OpenFault::TwoNames);
+    }
+    Ok(())
+}
+
+// The lock ends where the last handle of the file is dropped.
+fn take_lock(file: &File, access: Access, lock: Lock) -> Result<(), OpenFault> {
+    let tried = match (access, lock) {
+        (Access::Read, Lock::Wait) => return Ok(file.lock_shared()?),
+        (_, Lock::Wait) => return Ok(file.lock()?),
+        (Access::Read, Lock::Try) => file.try_lock_shared(),
+        (_, Lock::Try) => file.try_lock(),
+    };
+    match tried {
+        Ok(()) => Ok(()),
+        Err(TryLockError::WouldBlock) => Err(OpenFault::Busy),
+        Err(TryLockError::Error(error)) => Err(OpenFault::from(error)),
+    }
+}
+
+// Whether this file stands at the path.
+fn leads_to(rt: &HostRuntime, path: &str, file: &File) -> bool {
+    match (fs::symlink_metadata(rt, path), file.metadata()) {
+        (Ok(named), Ok(held)) => named.dev() == held.dev() && named.ino() == held.ino(),
+        _ => false,
+    }
+}
+
+// An error where another file stands at the path, or none.
+pub(crate) fn stands_at(rt: &HostRuntime, path: &str, file: &File) -> io::Result<()> {
+    if leads_to(rt, path, file) {
+        return Ok(());
+    }
+    let message = "somebody has removed the file, or put another in its place";
+    Err(io::Error::new(io::ErrorKind::NotFound, message))
+}
+
+pub(crate) fn folder_of(path: &str) -> &str {
+    match Path::new(path).parent() {
+        Some(folder) if !folder.as_str().is_empty() => folder.as_str(),
+        _ => ".",
+    }
+}
+
+// Syncs the file and its folder.
+pub(crate) fn settle(file: &File, folder: &File) -> io::Result<()> {
+    file.sync_all()?;
+    folder.sync_all()
+}

@@ -1,0 +1,34 @@
+-- How what a stranger wrote is shown.
+use Rattle.std.specs.Prelude.{ℕ, ◌/◌, ◌%◌, ◌==◌, Bool, not, ◌&&◌, ◌||◌, List, [], ◌∷◌, codes, slice_index, if◌then◌else◌}
+use Rattle.std.specs.List.{flat_map}
+use Rattle.std.specs.Int.{is_in_range}
+use Rattle.std.specs.Char.{is_control, encode_utf8}
+use Rattle.std.specs.Str.{chars, is_utf8}
+
+-- a byte as two digits
+abbrev pub digits : ℕ → List ℕ
+digits b = slice_index (codes "0123456789abcdef") (b / 16) ∷ slice_index (codes "0123456789abcdef") (b % 16) ∷ []
+
+-- a backslash, an `x`, and the byte as two digits
+abbrev pub escape : ℕ → List ℕ
+escape b = 92 ∷ 120 ∷ digits b
+
+-- a control character, but for the tab
+abbrev pub is_command : ℕ → Bool
+is_command c = is_control c && not (c == 9)
+
+-- a mark that ends a line or turns the direction in which text runs
+abbrev pub is_turn : ℕ → Bool
+is_turn c = c == 0x61C || (is_in_range 0x200E 0x200F c || (is_in_range 0x2028 0x202E c || is_in_range 0x2066 0x2069 c))
+
+-- a character: itself in UTF-8, or each of these bytes escaped where a terminal might act on it
+abbrev pub shown_char : ℕ → List ℕ
+shown_char c = if is_command c || is_turn c then flat_map escape (encode_utf8 c) else encode_utf8 c
+
+-- a byte of a text that isn't UTF-8: itself, or escaped if it is past ASCII or a terminal might act on it
+abbrev pub shown_byte : ℕ → List ℕ
+shown_byte b = if b == 9 || is_in_range 32 126 b then b ∷ [] else escape b
+
+-- a text: its characters if it is UTF-8, or else its bytes
+abbrev pub shown : List ℕ → List ℕ
+shown text = if is_utf8 text then flat_map shown_char (chars text) else flat_map shown_byte text
