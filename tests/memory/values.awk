@@ -5,6 +5,7 @@
 #   anywhere, where that is an `AllocError`, an `AllocFailed` or a `ResetError`;
 #   where that is a fault or an answer which may be out of memory (`faults` has their names), in an arm whose pattern says so, or under
 #   an `if` that asks so.
+# It may also stand under an `if` that compares what a call gave with a variant of such a fault, named by its enum.
 # In a pattern, a comparison, a type or a contract it is no value.
 
 BEGIN {
@@ -137,16 +138,21 @@ function open_function(    start, parens, gives) {
   if (word[at] == "{") open_block("fn", gives, 0)
 }
 
-# Whether these words are an `if` that compares something with out of memory.
+# Whether these words are an `if` that compares something with out of memory: 2 where that is a variant of a fault, named by its
+# enum.
 function asks_so(i, j,    asks) {
   for (; i <= j; i++) if (word[i] == "if") break
-  for (asks = 0; i <= j; i++) if (word[i] == "==") asks = names_it(i, j)
+  for (asks = 0; i <= j; i++) {
+    if (word[i] == "==") asks = names_it(i, j)
+    else if (asks && (word[i] in given_by) && word[i + 1] == "::") return 2
+  }
   return asks
 }
 
 # Whether out of memory stands here in a pattern, a comparison or a type.
 function is_no_value(i,    j, parens) {
   if (word[i + 1] ~ /^(::|>|<|==|!=)$/) return 1
+  for (j = i; j > 0 && word[j] !~ /^[;{}]$/; j--) if (word[j] == "type") return 1
   for (j = i - 1; word[j] == "::" || word[j] == "(" || word[j + 1] == "::" || word[j + 1] == "("; j--) ;
   if (word[j] ~ /^(==|!=|->)$/) return 1
   for (j = i + 1; j <= words && word[j] !~ /^[;{}]$/; j++) {
@@ -173,6 +179,7 @@ function is_guarded(i) {
 # Whether the function around this place is given what stands here.
 function is_allowed(    i, so) {
   for (i = depth; i > 0; i--) {
+    if (asked[i] == 2) return 1
     if (asked[i] || says_so[i]) so = 1
     if (kind[i] == "fn") return given[i] == 2 || (given[i] == 1 && so)
   }

@@ -10,12 +10,11 @@ use Rattle.dm_scratch.specs.declared.verdict.Verdict.{Verdict}
 use Rattle.dm_scratch.specs.declared.verdict.Verdict.TheVariants.{Refused}
 use Rattle.dm_scratch.specs.Taking.{TakesWithin, IsAccepted}
 use Rattle.dm_scratch.proofs.KeepLemmas.{refused_keeps}
-use Rattle.dm_scratch.specs.Words.{verdict_text}
 use Rattle.dm_tool.specs.declared.base.Base.{Base}
 use Rattle.dm_tool.specs.declared.fault.ToolFault.{ToolFault}
 use Rattle.dm_tool.specs.declared.fault.ToolFault.TheVariants.{Read, NoMemory, BadBase}
-use Rattle.dm_scratch.specs.Printing.{line_of, listing_text}
-use Rattle.dm_tool.specs.Applying.{RefusesBase, RefusesStart, Prints}
+use Rattle.dm_scratch.specs.Printing.{listing_text}
+use Rattle.dm_tool.specs.Applying.{RefusesBase, RefusesStart, Shows}
 
 pub refuses_base : (limits : Limits) (text : List ℕ) (v : Verdict) (after : List Patch) (e : ToolFault) → (IsAccepted v → ⊥) → TakesWithin limits [] text Refuse v after →
     ((v ≡ Refused refusals.NoMemory) × (e ≡ NoMemory)) ⊎ ((v ≢ Refused refusals.NoMemory) × (e ≡ BadBase v)) → RefusesBase limits text e
@@ -26,6 +25,6 @@ pub base_is_not_read : (base : Option Base) (e : ToolFault) → RefusesStart bas
 base_is_not_read None e h = absurd h
 base_is_not_read (Some b) e h = λ p. subst (RefusesBase b.limits b.text.now) p h
 
-pub prints_listing : (as_bundle : Bool) (v : Verdict) (repo : List Patch) (tree : Tree) (out : List ℕ) → as_bundle ≡ false → IsTreeOf repo tree →
-    out ≡ line_of (verdict_text v) ++ listing_text tree → Prints as_bundle v repo out
-prints_listing as_bundle v repo tree out e makes is = rw e (record { shown = listing_text tree; shows = (tree, makes, refl); bytes = is })
+pub shows_listing : (as_bundle : Bool) (repo : List Patch) (tree : Tree) (old new : List ℕ) → as_bundle ≡ false → IsTreeOf repo tree →
+    new ≡ old ++ listing_text tree → (shown : List ℕ) × Shows as_bundle repo shown × (new ≡ old ++ shown)
+shows_listing as_bundle repo tree old new e makes is = rw e (listing_text tree, (tree, makes, refl), is)

@@ -4,3 +4,4 @@ pub mod Checking
 pub mod Applying
 pub mod Running
 pub mod Sending
+pub mod Bundles

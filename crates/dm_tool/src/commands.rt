@@ -6,6 +6,7 @@ use crate::colour::{Colour, colour_of};
 use crate::explaining::{explain_applied, explain_unread};
 use crate::fault::ToolFault;
 use crate::files::{BaseFile, WordFault, read_base, read_file};
+use crate::mirror::{apply_to_mirror, check_out, log};
 use crate::plan_words::{policy_of, run_plan};
 use crate::send::{Sent, send_over};
 use clap::error::ErrorKind;
@@ -18,7 +19,7 @@ use std::thread::Threads;
 use std::{env, io};
 
 /// The exit status where there is no answer.
-const NO_ANSWER: u8 = 2;
+pub const NO_ANSWER: u8 = 2;
 
 /// What `dm --version` prints after the program's name.
 const VERSION: &str = "0.1.0";
@@ -104,6 +105,28 @@ fn minimal<'a>(alloc: Global) -> Arg<'a> {
         .help("Name in the context only what the patches rest on")
 }
 
+/// The word that names a mirror's file.
+fn mirror<'a>(alloc: Global, help: &'a str) -> Arg<'a> {
+    file(alloc, "mirror", help)
+}
+
+/// The word that has nobody wait.
+fn no_wait<'a>(alloc: Global) -> Arg<'a> {
+    Arg::new(alloc, "no-wait")
+        .long("no-wait")
+        .action(ArgAction::SetTrue)
+        .help("Where somebody else has the mirror open, say so and end")
+}
+
+/// The words that name bundles.
+fn bundles<'a>(alloc: Global) -> Result<Arg<'a>, AllocError> {
+    Arg::new(alloc, "bundles")
+        .value_name("BUNDLE")
+        .action(ArgAction::Append)
+        .help("Files of bundles, taken in turn, in place of standard input")
+        .requires_arg("mirror")
+}
+
 /// The words of `dm apply`.
 fn apply_words<'a>(alloc: Global) -> Result<Command<'a>, AllocError> {
     Command::new(alloc, "apply")
@@ -112,9 +135,15 @@ fn apply_words<'a>(alloc: Global) -> Result<Command<'a>, AllocError> {
         )
         .arg(file(alloc, "base", "Take the bundle of FILE first"))?
         .arg(repository(alloc)?)?
+        .arg(mirror(
+            alloc,
+            "Take bundles into the mirror that FILE keeps; it is made where there is none",
+        ))?
+        .arg(no_wait(alloc).requires_arg("mirror")?)?
         .arg(bundle(alloc))?
         .arg(explain(alloc))?
-        .arg(skip(alloc))
+        .arg(skip(alloc))?
+        .arg(bundles(alloc)?)
 }
 
 /// The words of `dm check`.
@@ -124,6 +153,28 @@ fn check_words<'a>(alloc: Global) -> Result<Command<'a>, AllocError> {
             "Read the patch bundle on standard input; print its canonical text, or what is wrong with it",
         )
         .arg(explain(alloc))
+}
+
+/// The words of `dm log`.
+fn log_words<'a>(alloc: Global) -> Result<Command<'a>, AllocError> {
+    Command::new(alloc, "log")
+        .about("Print the patches of a mirror, newest last")
+        .arg(mirror(alloc, "The mirror that FILE keeps").required(true))?
+        .arg(no_wait(alloc))
+}
+
+/// The words of `dm checkout`.
+fn checkout_words<'a>(alloc: Global) -> Result<Command<'a>, AllocError> {
+    Command::new(alloc, "checkout")
+        .about("Write the tree of a mirror to a folder, which is made, or is empty")
+        .arg(mirror(alloc, "The mirror that FILE keeps").required(true))?
+        .arg(no_wait(alloc))?
+        .arg(
+            Arg::new(alloc, "folder")
+                .value_name("FOLDER")
+                .required(true)
+                .help("Where the tree is written; nothing is written outside it"),
+        )
 }
 
 /// The words of `dm run`.
@@ -172,6 +223,8 @@ fn program<'a>(alloc: Global) -> Result<Command<'a>, AllocError> {
         .arg_required_else_help(true)
         .subcommand(apply_words(alloc)?)?
         .subcommand(check_words(alloc)?)?
+        .subcommand(checkout_words(alloc)?)?
+        .subcommand(log_words(alloc)?)?
         .subcommand(run_words(alloc)?)?
         .subcommand(send_words(alloc)?)
 }
@@ -208,7 +261,7 @@ fn check<'a, R: Runtime + AllocGlobal>(
 }
 
 /// The base that a file is, if there is one.
-fn base_of(file: &Option<BaseFile>) -> Option<Base<'_>> {
+pub fn base_of(file: &Option<BaseFile>) -> Option<Base<'_>> {
     match file {
         Some(file) => Some(file.base()),
         None => None,
@@ -216,11 +269,14 @@ fn base_of(file: &Option<BaseFile>) -> Option<Base<'_>> {
 }
 
 /// `dm apply`: the base is read before standard input.
-fn apply<'a, R: Runtime + AllocGlobal>(
-    rt: &R,
+fn apply<'a>(
+    rt: &HostRuntime,
     colour: Colour,
     words: &ArgMatches<'a>,
 ) -> Result<u8, WordFault<'a>> {
+    if let Some(path) = words.get_str("mirror") {
+        return apply_to_mirror(rt, colour, words, path);
+    }
     let file = read_base(rt, words)?;
     let as_bundle = words.get_flag("bundle");
     let policy = policy_of(words);
@@ -299,14 +355,18 @@ fn say_why<R: Runtime + AllocGlobal>(rt: &R, error: &Error) -> u8 {
 }
 
 /// Runs the command that was named, and returns the exit status.
-fn start<'a, R: Runtime + AllocGlobal + Threads + Wait + Sync>(
+fn start<R: Runtime + AllocGlobal + Threads + Wait + Sync>(
     rt: &R,
-    colour: Colour,
-    matches: &ArgMatches<'a>,
+    host: &HostRuntime,
+    is_terminal: bool,
+    matches: &ArgMatches<'_>,
 ) -> u8 {
+    let colour = colour_of(rt, is_terminal);
     match matches.subcommand() {
-        Some(("apply", words)) => exit_status(rt, apply(rt, colour, words)),
+        Some(("apply", words)) => exit_status(rt, apply(host, colour, words)),
         Some(("check", words)) => exit_status(rt, check(rt, colour, words)),
+        Some(("checkout", words)) => exit_status(rt, check_out(host, words, is_terminal)),
+        Some(("log", words)) => exit_status(rt, log(host, words)),
         Some(("run", words)) => exit_status(rt, run_plan(rt, colour, words)),
         Some(("send", words)) => exit_status(rt, send(rt, words)),
         _ => NO_ANSWER,
@@ -316,7 +376,8 @@ fn start<'a, R: Runtime + AllocGlobal + Threads + Wait + Sync>(
 /// Runs the command that these words name, and returns the exit status.
 fn run_command<R: Runtime + AllocGlobal + Threads + Wait + Sync>(
     rt: &R,
-    colour: Colour,
+    host: &HostRuntime,
+    is_terminal: bool,
     words: &[String],
 ) -> u8 {
     let program = match program(rt.alloc()) {
@@ -324,13 +385,18 @@ fn run_command<R: Runtime + AllocGlobal + Threads + Wait + Sync>(
         Err(fault) => return tell(rt, WordFault::from(fault)),
     };
     match program.try_get_matches_from(words) {
-        Ok(matches) => start(rt, colour, &matches),
+        Ok(matches) => start(rt, host, is_terminal, &matches),
         Err(error) => say_why(rt, &error),
     }
 }
 
-/// Runs the command of the process's own words, and returns the exit status. Standard error may be a terminal.
-pub fn run<R: Runtime + AllocGlobal + Threads + Wait + Sync>(rt: &R, is_terminal: bool) -> u8 {
+/// Runs the command of the process's own words, and returns the exit status. Standard error may be a terminal. `host` is the same
+/// runtime as `rt`, for the files of mirrors.
+pub fn run<R: Runtime + AllocGlobal + Threads + Wait + Sync>(
+    rt: &R,
+    host: &HostRuntime,
+    is_terminal: bool,
+) -> u8 {
     let Ok(args) = env::args(rt) else {
         let _ = eprintln!(rt; "dm: cannot read the command line");
         return NO_ANSWER;
@@ -338,7 +404,7 @@ pub fn run<R: Runtime + AllocGlobal + Threads + Wait + Sync>(rt: &R, is_terminal
     match args.collect(rt.alloc()) {
         Ok(words) => {
             let words: Vec<String> = words;
-            run_command(rt, colour_of(rt, is_terminal), &words)
+            run_command(rt, host, is_terminal, &words)
         }
         Err(fault) => tell(rt, WordFault::from(fault)),
     }

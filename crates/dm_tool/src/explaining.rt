@@ -126,6 +126,18 @@ pub fn explain_applied<R: Runtime + AllocGlobal>(
     );
 }
 
+/// Says whom the verdict on a text is about that was taken into this repository. Why patches were skipped isn't told.
+pub fn explain_taken<R: Runtime + AllocGlobal>(
+    rt: &R,
+    colour: Colour,
+    repo: &Repo<Global>,
+    text: &[u8],
+    policy: Policy,
+    verdict: Verdict,
+) {
+    explain_verdict(rt, colour, repo, text, policy, verdict, None);
+}
+
 /// Takes the text of a mail once more, and says whom its verdict is about. Returns whether the verdict is the one that the
 /// mirror gave: else memory ran out.
 fn explain_mail<R: Runtime + AllocGlobal>(

@@ -3,9 +3,14 @@ use crate::base::Base;
 use crate::fault::ToolFault;
 use crate::streams::read_within;
 use clap::ArgMatches;
+use dm_deliver::{AnswerError, DeliverError};
+use dm_disk::OpenFault;
+use dm_journal::WriteError;
 use dm_named::Limits;
+use dm_store::StoreError;
 use std::alloc::{AllocError, AllocFailed};
 use std::fs::File;
+use std::io;
 use std::rt::Runtime;
 use thiserror::Error;
 
@@ -18,9 +23,41 @@ pub enum WordFault<'a> {
     /// The file of this name can't be read.
     #[error("cannot read {0}")]
     Unreadable(&'a str),
+    /// The mirror of this name can't be opened as a file.
+    #[error("cannot open {0}: {1}")]
+    Unopened(&'a str, OpenFault),
+    /// The file of this name keeps no mirror.
+    #[error("cannot open {0}: {1}")]
+    BadMirror(&'a str, StoreError),
+    /// The mirror of this name can't be written. What was answered before stands; of the last bundle nobody knows until the mirror
+    /// is opened again.
+    #[error("cannot write {0}: {1}")]
+    Unwritten(&'a str, WriteError),
+    /// The same, with what the system says.
+    #[error("cannot write {0}: {1}")]
+    Failed(&'a str, io::Error),
     /// The command gives no answer.
     #[error("{0}")]
     Tool(ToolFault),
+}
+
+impl<'a> WordFault<'a> {
+    /// Why a bundle isn't answered that was to be taken into the mirror of this name.
+    pub fn of_answer(mirror: &'a str, fault: AnswerError) -> WordFault<'a> {
+        match fault {
+            AnswerError::Store(fault) => WordFault::Unwritten(mirror, fault),
+            AnswerError::NoMemory => WordFault::Tool(ToolFault::NoMemory),
+            AnswerError::Write => WordFault::Tool(ToolFault::Write),
+        }
+    }
+
+    /// Why bundles aren't all answered that were to be taken into the mirror of this name.
+    pub fn of_delivery(mirror: &'a str, fault: DeliverError<WordFault<'a>>) -> WordFault<'a> {
+        match fault {
+            DeliverError::Source(fault) => fault,
+            DeliverError::Answer(fault) => WordFault::of_answer(mirror, fault),
+        }
+    }
 }
 
 impl From<ToolFault> for WordFault<'_> {

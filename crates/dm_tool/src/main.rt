@@ -4,11 +4,13 @@
 //! it and where. `dm apply` reads a bundle, takes it into the repository that another bundle makes, or
 //! into an empty one, and prints the verdict with the listing of the repository's tree, or with all its
 //! patches as a bundle. `dm run` lets posters send bundles to mirrors, in threads, and prints what each
-//! mirror took, and its tree. `dm send` prints the bundle of what somebody lacks.
+//! mirror took, and its tree. `dm send` prints the bundle of what somebody lacks. `dm apply --mirror` takes
+//! bundles into a mirror that a file keeps; `dm log` prints its patches, and `dm checkout` writes its tree.
 //!
 //! The crate stands on `dm_scratch` for taking a text into a repository, on `dm_mirror` for posters and
-//! mirrors, on `dm_send` for what somebody lacks, on `dm_bundle` and `dm_named` for the text of bundles, and
-//! on `clap`, `indexmap` and `memchr` for the words of the command line. Its theorems are the contracts of
+//! mirrors, on `dm_send` for what somebody lacks, on `dm_deliver`, `dm_store` and `dm_disk` for a mirror on a
+//! file, on `dm_log` and `dm_checkout` for what is shown of it, on `dm_bundle` and `dm_named` for the text of
+//! bundles, and on `clap`, `indexmap` and `memchr` for the words of the command line. Its theorems are the contracts of
 //! [`check::check_over`], [`apply::apply_over`], [`running::run_over`] and [`send::send_over`]: over a reader
 //! and a writer that tell their bytes, what is written and the exit status are those of the bundle that the
 //! text stands for, or of the text's first fault, or those of taking it, or of a run in which no bundle is
@@ -17,14 +19,17 @@
 
 mod apply;
 mod base;
+mod bundles;
 mod check;
 mod colour;
 mod commands;
 mod explaining;
 mod fault;
 mod files;
+mod mirror;
 mod plan_words;
 mod print;
+mod progress;
 mod running;
 mod send;
 mod status;
@@ -35,5 +40,5 @@ use std::process::ExitCode;
 
 fn main(rt: HostRuntime) -> ExitCode {
     let is_terminal = rt.stderr().is_terminal();
-    ExitCode::from(commands::run(&rt, is_terminal))
+    ExitCode::from(commands::run(&rt, &rt, is_terminal))
 }
