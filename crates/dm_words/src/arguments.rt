@@ -1,0 +1,118 @@
+//! What a command takes.
+use clap::{Arg, ArgAction, value_parser};
+use std::alloc::{AllocError, Global};
+
+/// A word that names a file.
+pub fn file<'a>(alloc: Global, name: &'a str, help: &'a str) -> Arg<'a> {
+    Arg::new(alloc, name)
+        .long(name)
+        .value_name("FILE")
+        .help(help)
+}
+
+/// The word that names a repository of one's own.
+pub fn repository<'a>(alloc: Global) -> Result<Arg<'a>, AllocError> {
+    file(
+        alloc,
+        "repository",
+        "The same for a repository of your own: up to 100,000 patches in 1 GiB",
+    )
+    .conflicts_with("base")
+}
+
+/// The word that asks for a bundle.
+pub fn bundle<'a>(alloc: Global) -> Arg<'a> {
+    Arg::new(alloc, "bundle")
+        .long("bundle")
+        .action(ArgAction::SetTrue)
+        .help("Print the repository as a bundle in place of the listing")
+}
+
+/// The word that has patches skipped.
+pub fn skip<'a>(alloc: Global) -> Arg<'a> {
+    Arg::new(alloc, "skip")
+        .long("skip")
+        .action(ArgAction::SetTrue)
+        .help("Skip patches that conflict, and take the others")
+}
+
+/// The word that asks for an explanation.
+pub fn explain<'a>(alloc: Global) -> Arg<'a> {
+    Arg::new(alloc, "explain")
+        .long("explain")
+        .action(ArgAction::SetTrue)
+        .help(
+            "Say on standard error which patches the verdict is about, and what is wrong with a text",
+        )
+}
+
+/// A word that takes a number, which has to be there.
+pub fn number<'a>(alloc: Global, name: &'a str, value: &'a str, help: &'a str) -> Arg<'a> {
+    Arg::new(alloc, name)
+        .long(name)
+        .value_name(value)
+        .value_parser(value_parser!(u32))
+        .required(true)
+        .help(help)
+}
+
+/// The words of posters with their files.
+pub fn posters<'a>(alloc: Global) -> Arg<'a> {
+    Arg::new(alloc, "posters")
+        .value_name("POSTER=FILE")
+        .action(ArgAction::Append)
+        .help(
+            "A poster, and the next bundle that it sends; POSTER= alone names one that sends none",
+        )
+}
+
+/// The word that says how many patches are sent.
+pub fn first<'a>(alloc: Global) -> Arg<'a> {
+    Arg::new(alloc, "first")
+        .long("first")
+        .value_name("N")
+        .value_parser(value_parser!(u32))
+        .help("Send the first N patches of them alone")
+}
+
+/// The word that asks for the least context.
+pub fn minimal<'a>(alloc: Global) -> Arg<'a> {
+    Arg::new(alloc, "minimal")
+        .long("minimal")
+        .action(ArgAction::SetTrue)
+        .help("Name in the context only what the patches rest on")
+}
+
+/// The word that names a mirror's file.
+pub fn mirror<'a>(alloc: Global, help: &'a str) -> Arg<'a> {
+    file(alloc, "mirror", help)
+}
+
+/// The word that has nobody wait.
+pub fn no_wait<'a>(alloc: Global) -> Arg<'a> {
+    Arg::new(alloc, "no-wait")
+        .long("no-wait")
+        .action(ArgAction::SetTrue)
+        .help("Where somebody else has the mirror open, say so and end")
+}
+
+/// The word that has bundles come one after the other.
+pub fn stream<'a>(alloc: Global) -> Result<Arg<'a>, AllocError> {
+    Arg::new(alloc, "stream")
+        .long("stream")
+        .action(ArgAction::SetTrue)
+        .help(
+            "Read bundles from standard input, each after a line with its length in bytes, and answer each at once",
+        )
+        .requires_arg("mirror")?
+        .conflicts_with("bundles")
+}
+
+/// The words that name bundles.
+pub fn bundles<'a>(alloc: Global) -> Result<Arg<'a>, AllocError> {
+    Arg::new(alloc, "bundles")
+        .value_name("BUNDLE")
+        .action(ArgAction::Append)
+        .help("Files of bundles, taken in turn, in place of standard input")
+        .requires_arg("mirror")
+}

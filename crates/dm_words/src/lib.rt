@@ -1,0 +1,8 @@
+//! The words of the command line of `dm`: its commands, and what each of them takes. The crate stands on `clap` alone, and says
+//! nothing of what a command does.
+#![tactic(auto)]
+
+mod arguments;
+mod commands;
+
+pub use commands::program;
