@@ -25,7 +25,7 @@ impl<'w, 'a> Bundles<'w, 'a> {
 }
 
 /// The text of the file of this name.
-pub fn read_bundle<'a>(rt: &HostRuntime, name: &'a str) -> Result<Vec<u8>, WordFault<'a>> {
+fn read_bundle<'a>(rt: &HostRuntime, name: &'a str) -> Result<Vec<u8>, WordFault<'a>> {
     if name == INPUT {
         return Ok(read_text(rt.alloc(), &mut rt.reader())?);
     }

@@ -27,16 +27,12 @@ pub fn explain_unread<R: Runtime + AllocGlobal>(rt: &R, colour: Colour, unread: 
     say(rt, colour, &malformed);
 }
 
-/// Which patches of a text are skipped, and why, where some were. The repository is the one that the text wasn't taken into yet.
-fn skips_in<R: Runtime + AllocGlobal>(
+/// Which patches of a text are skipped where it is taken into this repository with `--skip`, and why.
+fn skips_of_text<R: Runtime + AllocGlobal>(
     rt: &R,
     before: &Repo<Global>,
     text: &[u8],
-    verdict: Verdict,
 ) -> Option<Vec<Skip>> {
-    let Verdict::TakenSome(_, _) = verdict else {
-        return None;
-    };
     let Ok(bundle) = read_bundle(rt.alloc(), text) else {
         return None;
     };
@@ -46,7 +42,33 @@ fn skips_in<R: Runtime + AllocGlobal>(
     }
 }
 
-/// The same after a base, which is taken once more.
+/// The same where some were. The repository is the one that the text wasn't taken into yet.
+fn skips_in<R: Runtime + AllocGlobal>(
+    rt: &R,
+    before: &Repo<Global>,
+    text: &[u8],
+    verdict: Verdict,
+) -> Option<Vec<Skip>> {
+    let Verdict::TakenSome(_, _) = verdict else {
+        return None;
+    };
+    skips_of_text(rt, before, text)
+}
+
+/// Which patches of a text will be skipped, and why, where it is taken into this repository by the policy.
+pub fn skips_ahead<R: Runtime + AllocGlobal>(
+    rt: &R,
+    before: &Repo<Global>,
+    text: &[u8],
+    policy: Policy,
+) -> Option<Vec<Skip>> {
+    match policy {
+        Policy::Refuse => None,
+        Policy::Skip => skips_of_text(rt, before, text),
+    }
+}
+
+/// The same as [`skips_in`] after a base, which is taken once more.
 fn skips_after<R: Runtime + AllocGlobal>(
     rt: &R,
     base: Option<Base<'_>>,
@@ -126,7 +148,8 @@ pub fn explain_applied<R: Runtime + AllocGlobal>(
     );
 }
 
-/// Says whom the verdict on a text is about that was taken into this repository. Why patches were skipped isn't told.
+/// Says whom the verdict on a text is about that was taken into this repository, and why patches were skipped, where
+/// [`skips_ahead`] has told before.
 pub fn explain_taken<R: Runtime + AllocGlobal>(
     rt: &R,
     colour: Colour,
@@ -134,8 +157,13 @@ pub fn explain_taken<R: Runtime + AllocGlobal>(
     text: &[u8],
     policy: Policy,
     verdict: Verdict,
+    skips: Option<Vec<Skip>>,
 ) {
-    explain_verdict(rt, colour, repo, text, policy, verdict, None);
+    let skips = match verdict {
+        Verdict::TakenSome(_, _) => skips,
+        _ => None,
+    };
+    explain_verdict(rt, colour, repo, text, policy, verdict, skips);
 }
 
 /// Takes the text of a mail once more, and says whom its verdict is about. Returns whether the verdict is the one that the

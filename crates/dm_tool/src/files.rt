@@ -3,7 +3,7 @@ use crate::base::Base;
 use crate::fault::ToolFault;
 use crate::streams::read_within;
 use clap::ArgMatches;
-use dm_deliver::{AnswerError, DeliverError};
+use dm_deliver::{AnswerError, DeliverError, FrameFault, FrameFaultKind};
 use dm_disk::OpenFault;
 use dm_journal::WriteError;
 use dm_named::Limits;
@@ -36,6 +36,9 @@ pub enum WordFault<'a> {
     /// The same, with what the system says.
     #[error("cannot write {0}: {1}")]
     Failed(&'a str, io::Error),
+    /// The bundles on standard input end, or can't be told apart. All before this frame are answered.
+    #[error("{0}")]
+    BadFrame(FrameFault),
     /// The command gives no answer.
     #[error("{0}")]
     Tool(ToolFault),
@@ -55,6 +58,17 @@ impl<'a> WordFault<'a> {
     pub fn of_delivery(mirror: &'a str, fault: DeliverError<WordFault<'a>>) -> WordFault<'a> {
         match fault {
             DeliverError::Source(fault) => fault,
+            DeliverError::Answer(fault) => WordFault::of_answer(mirror, fault),
+        }
+    }
+
+    /// The same of bundles that come one after the other on standard input.
+    pub fn of_stream(mirror: &'a str, fault: DeliverError<FrameFault>) -> WordFault<'a> {
+        match fault {
+            DeliverError::Source(fault) if fault.kind == FrameFaultKind::NoMemory => {
+                WordFault::Tool(ToolFault::NoMemory)
+            }
+            DeliverError::Source(fault) => WordFault::BadFrame(fault),
             DeliverError::Answer(fault) => WordFault::of_answer(mirror, fault),
         }
     }

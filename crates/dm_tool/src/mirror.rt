@@ -5,10 +5,10 @@ ghost use Rattle.dm_journal.specs.Device.{IsDurable};
 ghost use Rattle.dm_store.specs.Keeping.{IsStored};
 
 use crate::base::repo_of;
-use crate::bundles::{Bundles, INPUT, read_bundle};
+use crate::bundles::{Bundles, INPUT};
 use crate::colour::Colour;
 use crate::commands::{NO_ANSWER, base_of};
-use crate::explaining::explain_taken;
+use crate::explaining::{explain_taken, skips_ahead};
 use crate::fault::ToolFault;
 use crate::files::{WordFault, read_base};
 use crate::plan_words::policy_of;
@@ -17,7 +17,7 @@ use crate::progress::Meter;
 use crate::streams::write_text;
 use clap::ArgMatches;
 use dm_checkout::checkout;
-use dm_deliver::{answer, deliver};
+use dm_deliver::{DeliverError, Framed, Source, answer, deliver};
 use dm_disk::{Access, DiskFile, Lock};
 use dm_log::write_log;
 use dm_repo::Policy;
@@ -102,62 +102,88 @@ fn blame<'a>(fault: WordFault<'a>, file: &DiskFile) -> WordFault<'a> {
     }
 }
 
-/// Takes bundles into a mirror, and answers each once it stands on the disk. Returns whether all were accepted.
-fn take_all<'a>(
+/// Takes the texts of a source into a mirror, and answers each once it stands on the disk, with an explanation after each
+/// answer. Returns whether all were accepted.
+fn explain_each<S: Source>(
     rt: &HostRuntime,
+    colour: Colour,
+    store: &mut Store<DiskFile>,
+    source: &mut S,
+    policy: Policy,
+) -> Result<bool, DeliverError<S::Error>>
+    requires { IsStored seen may_leave file_may_leave store.old }
+    ensures { OnOk result (IsStored seen may_leave file_may_leave store.new) }
+{
+    let mut all_accepted = true;
+    loop {
+        match source.next_text() {
+            Ok(Some(text)) => {
+                let skips = skips_ahead(rt, store.repo(), &text, policy);
+                let verdict = answer(rt.alloc(), store, &text, policy, &mut io::writer(rt))?;
+                explain_taken(rt, colour, store.repo(), &text, policy, verdict, skips);
+                all_accepted = all_accepted && verdict.is_accepted();
+            }
+            Ok(None) => return Ok(all_accepted),
+            Err(error) => return Err(DeliverError::Source(error)),
+        }
+    }
+}
+
+/// The same, with explanations where the words ask for them.
+fn take_each<S: Source>(
+    rt: &HostRuntime,
+    colour: Colour,
+    words: &ArgMatches<'_>,
+    store: &mut Store<DiskFile>,
+    source: &mut S,
+) -> Result<bool, DeliverError<S::Error>>
+    requires { IsStored seen may_leave file_may_leave store.old }
+    ensures { OnOk result (IsStored seen may_leave file_may_leave store.new) }
+{
+    let policy = policy_of(words);
+    if words.get_flag("explain") {
+        return explain_each(rt, colour, store, source, policy);
+    }
+    deliver(rt.alloc(), store, source, policy, &mut io::writer(rt))
+}
+
+/// Takes each bundle that the words name, or standard input, in turn.
+fn take_named<'a>(
+    rt: &HostRuntime,
+    colour: Colour,
+    words: &ArgMatches<'a>,
     path: &'a str,
     store: &mut Store<DiskFile>,
-    bundles: &mut Bundles<'_, 'a>,
-    policy: Policy,
 ) -> Result<bool, WordFault<'a>>
     requires { IsStored seen may_leave file_may_leave store.old }
     ensures { OnOk result (IsStored seen may_leave file_may_leave store.new) }
 {
-    match deliver(rt.alloc(), store, bundles, policy, &mut io::writer(rt)) {
+    let names = words.get_strs("bundles").unwrap_or(&[INPUT]);
+    match take_each(rt, colour, words, store, &mut Bundles::new(*rt, names)) {
         Ok(all_accepted) => Ok(all_accepted),
         Err(fault) => Err(WordFault::of_delivery(path, fault)),
     }
 }
 
-/// The same, with an explanation of each answer.
-fn explain_all<'a>(
+/// Takes the bundles that come one after the other on standard input.
+fn take_stream<'a>(
     rt: &HostRuntime,
     colour: Colour,
+    words: &ArgMatches<'a>,
     path: &'a str,
     store: &mut Store<DiskFile>,
-    names: &[&'a str],
-    policy: Policy,
 ) -> Result<bool, WordFault<'a>>
     requires { IsStored seen may_leave file_may_leave store.old }
     ensures { OnOk result (IsStored seen may_leave file_may_leave store.new) }
 {
-    let mut all_accepted = true;
-    for name in names {
-        let text = read_bundle(rt, name)?;
-        let verdict = match answer(rt.alloc(), store, &text, policy, &mut io::writer(rt)) {
-            Ok(verdict) => verdict,
-            Err(fault) => return Err(WordFault::of_answer(path, fault)),
-        };
-        explain_taken(rt, colour, store.repo(), &text, policy, verdict);
-        all_accepted = all_accepted && verdict.is_accepted();
-    }
-    Ok(all_accepted)
-}
-
-/// Makes a checkpoint where one is worth its while. Where it fails the mirror is as it was, so that is only said.
-fn settle(rt: &HostRuntime, path: &str, store: &mut Store<DiskFile>)
-    requires { IsStored seen may_leave file_may_leave store.old }
-{
-    if !store.wants_checkpoint() {
-        return;
-    }
-    if let Err(fault) = store.checkpoint(rt.alloc()) {
-        let _ = eprintln!(rt; "dm: no checkpoint of {path}: {fault}");
+    let mut stream = Framed::new(rt.alloc(), rt.reader());
+    match take_each(rt, colour, words, store, &mut stream) {
+        Ok(all_accepted) => Ok(all_accepted),
+        Err(fault) => Err(WordFault::of_stream(path, fault)),
     }
 }
 
-/// Takes each bundle that the words name, or standard input, in turn; then prints what is shown of the repository. Returns the exit
-/// status.
+/// Takes what the words name; then prints what is shown of the repository. Returns the exit status.
 fn take_and_show<'a>(
     rt: &HostRuntime,
     colour: Colour,
@@ -166,13 +192,12 @@ fn take_and_show<'a>(
     store: &mut Store<DiskFile>,
 ) -> Result<u8, WordFault<'a>>
     requires { IsStored seen may_leave file_may_leave store.old }
+    ensures { OnOk result (IsStored seen may_leave file_may_leave store.new) }
 {
-    let names = words.get_strs("bundles").unwrap_or(&[INPUT]);
-    let policy = policy_of(words);
-    let all_accepted = if words.get_flag("explain") {
-        explain_all(rt, colour, path, store, names, policy)?
+    let all_accepted = if words.get_flag("stream") {
+        take_stream(rt, colour, words, path, store)?
     } else {
-        take_all(rt, path, store, &mut Bundles::new(*rt, names), policy)?
+        take_named(rt, colour, words, path, store)?
     };
     let mut text = Vec::new(rt.alloc());
     push_repo(
@@ -182,8 +207,24 @@ fn take_and_show<'a>(
         &mut text,
     )?;
     write_text(&text, &mut io::writer(rt))?;
-    settle(rt, path, store);
     Ok(if all_accepted { 0 } else { 1 })
+}
+
+/// Makes a checkpoint where one is worth its while. Where it fails the mirror is as it was, so that is only said.
+fn settle(rt: &HostRuntime, path: &str, store: Store<DiskFile>)
+    requires { IsStored seen may_leave file_may_leave store }
+{
+    let mut store = store;
+    if !store.wants_checkpoint() {
+        return;
+    }
+    let Err(fault) = store.checkpoint(rt.alloc()) else {
+        return;
+    };
+    let _ = match store.into_device().error() {
+        Some(error) => eprintln!(rt; "dm: no checkpoint of {path}: {error}"),
+        None => eprintln!(rt; "dm: no checkpoint of {path}: {fault}"),
+    };
 }
 
 /// `dm apply --mirror`.
@@ -195,7 +236,10 @@ pub fn apply_to_mirror<'a>(
 ) -> Result<u8, WordFault<'a>> {
     let mut store = open_mirror(rt, words, path)?;
     match take_and_show(rt, colour, words, path, &mut store) {
-        Ok(status) => Ok(status),
+        Ok(status) => {
+            settle(rt, path, store);
+            Ok(status)
+        }
         Err(fault) => Err(blame(fault, &store.into_device())),
     }
 }
