@@ -1,3 +1,5 @@
 pub mod Runs
 pub mod AnswerLemmas
 pub mod DeliverLemmas
+pub mod FrameLemmas
+pub mod LineLemmas

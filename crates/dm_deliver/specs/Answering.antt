@@ -1,5 +1,5 @@
 -- How one text is answered.
-use Rattle.std.specs.Prelude.{◌≡◌, ◌⊎◌, ℕ, List, take, Option}
+use Rattle.std.specs.Prelude.{◌⊎◌, ℕ, List, take, Option}
 use Rattle.std.specs.Io.KnownBytes.{Appends, Keeps}
 use Rattle.dm_named.specs.Patches.{Patch}
 use Rattle.dm_repo.specs.declared.policy.Policy.{Policy}

@@ -1,4 +1,4 @@
-use Rattle.std.proofs.Common.{◌≡◌, [], ◌∷◌, ◌++◌, ◌⊎◌, ◌↔◌, List, ℕ, Bool, IsTrue, true, false, inl, inr, subst, sym, append-nil}
+use Rattle.std.proofs.Common.{◌≡◌, [], ◌∷◌, ◌⊎◌, ◌↔◌, List, ℕ, Bool, IsTrue, true, false, inl, inr, subst, sym, append-nil}
 use Rattle.std.proofs.lemmas.Result.{err_from_is_err_and}
 use Rattle.dm_scratch.specs.Taking.{IsAccepted}
 use Rattle.dm_store.proofs.StoredLemmas.{crashes_keep}
