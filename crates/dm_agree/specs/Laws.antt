@@ -1,6 +1,6 @@
 -- What holds of the mirrors of every run.
 use Rattle.std.specs.Prelude.{◌≡◌, ◌↔◌, ℕ, List, ◌++◌, slice_get, Some}
-use Rattle.std.specs.List.{Contains, AllByRecursion}
+use Rattle.std.specs.List.{flat_map, Contains, AllByRecursion}
 use Rattle.dm_prim.specs.Primitives.{LawfulMap}
 use Rattle.dm_named.specs.Patches.{Patch}
 use Rattle.dm_repo.specs.declared.policy.Policy.{Policy}
@@ -17,7 +17,11 @@ use Rattle.dm_mirror.specs.Runs.{IsRunOf, IsAt}
 abbrev pub texts_of : Mirror → List (List ℕ)
 texts_of mirror = bundle_texts mirror.mails.items
 
--- each of them was taken into its repository, or brought nothing new
+-- the texts that all posters send
+abbrev pub sent_texts : List (List (List ℕ)) → List (List ℕ)
+sent_texts texts = flat_map (λ sent. sent) texts
+
+-- each text that the mirror took was taken into its repository, or brought nothing new
 abbrev pub AcceptedAll : Mirror → Type 0
 AcceptedAll mirror = AllByRecursion IsAccepted (verdicts_given mirror.verdicts.items)
 
@@ -35,9 +39,14 @@ MirrorsAgree = (texts : List (List (List ℕ))) (starts : List (List Patch)) (po
     (base : List Patch) → IsRepo base → (one other : Mirror) → IsMirrorOver starts policies o base one → IsMirrorOver starts policies o base other →
     NamesStandForOne (texts_of one ++ texts_of other) base → NamesDecideTree one.repo.patches other.repo.patches
 
--- where both took the same texts and accepted all of them, in any order, they have the same tree
+-- a mirror of a run took just the texts that the posters send
+abbrev pub MirrorsTakeWhatIsSent : Type 0
+MirrorsTakeWhatIsSent = (texts : List (List (List ℕ))) (starts : List (List Patch)) (policies : List Policy) (o : Outcome) → IsRunOf texts starts policies o →
+    (m : ℕ) (mirror : Mirror) → IsAt o m mirror → (text : List ℕ) → Contains (texts_of mirror) text ↔ Contains (sent_texts texts) text
+
+-- two mirrors of a run over one base that accepted all have the same tree, if a name stands for one patch in what the posters send
 abbrev pub AcceptingMirrorsAgree : Type 0
 AcceptingMirrorsAgree = (texts : List (List (List ℕ))) (starts : List (List Patch)) (policies : List Policy) (o : Outcome) → IsRunOf texts starts policies o →
     (base : List Patch) → IsRepo base → (one other : Mirror) → IsMirrorOver starts policies o base one → IsMirrorOver starts policies o base other →
-    NamesStandForOne (texts_of one) base → ((text : List ℕ) → Contains (texts_of one) text ↔ Contains (texts_of other) text) → AcceptedAll one → AcceptedAll other →
+    NamesStandForOne (sent_texts texts) base → AcceptedAll one → AcceptedAll other →
     (s t : LawfulMap) → Fold one.repo.patches s → Fold other.repo.patches t → s ≡ t

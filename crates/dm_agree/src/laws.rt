@@ -1,5 +1,5 @@
 //! The laws of the mirrors of a run. Each call does nothing; whoever calls it knows the law from there on.
-ghost use Rattle.dm_agree.specs.Laws.{AcceptingMirrorsAgree, MirrorsAgree};
+ghost use Rattle.dm_agree.specs.Laws.{AcceptingMirrorsAgree, MirrorsAgree, MirrorsTakeWhatIsSent};
 
 /// Two mirrors of a run over one base that hold the same names have the same tree, in whatever order they took the bundles, under
 /// whatever policies, and whatever was refused, where a name stands for one patch.
@@ -7,7 +7,13 @@ pub fn mirrors_agree()
     ensures { MirrorsAgree }
 {}
 
-/// Two mirrors of a run over one base that took the same texts, in any order, and accepted all of them, have the same tree.
+/// A mirror of a run took the texts that the posters send, all of them and no other.
+pub fn mirrors_take_what_is_sent()
+    ensures { MirrorsTakeWhatIsSent }
+{}
+
+/// Two mirrors of a run over one base that accepted all that they took have the same tree, in whatever order they took it and
+/// under whatever policies, where a name stands for one patch in what the posters send.
 pub fn accepting_mirrors_agree()
     ensures { AcceptingMirrorsAgree }
 {}

@@ -46,7 +46,7 @@ module _ (I : Type 0) where
       let a : Applies p x.map (plain v) = rw e at (facts.steps_apply I p f s v h) in
       plain_steps ps fs v t r q (same_map (plain v) w.map (applies_one p x.map (plain v) w.map x.lawful a k.applies))
 
-  plain_runs : (m : Meaning I) {xs : List Patch} {s t : Named I} {x y : LawfulMap} → Runs m xs s t → InTurn PatchLeads xs x y → plain s ≡ x.map → plain t ≡ y.map
+  pub plain_runs : (m : Meaning I) {xs : List Patch} {s t : Named I} {x y : LawfulMap} → Runs m xs s t → InTurn PatchLeads xs x y → plain s ≡ x.map → plain t ≡ y.map
   plain_runs m done done e = e
   plain_runs m {s} (step {p = x} {u = v} h r) (step k q) e = plain_runs m r q (plain_steps x.prims (m.effects x.info) s v h.steps k e)
 

@@ -6,5 +6,6 @@ pub mod Converging
 pub mod Labels
 pub mod Merged
 pub mod Sent
+pub mod Begun
 pub mod Networks
 pub mod Accepting

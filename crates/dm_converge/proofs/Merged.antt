@@ -1,5 +1,5 @@
 -- Which patches of a bundle are new, and which are merged.
-use Rattle.std.proofs.Common.{◌≡◌, ◌⊎◌, inl, inr, ℕ, List, [], ◌∷◌, refl, ap₂, ◌∙◌}
+use Rattle.std.proofs.Common.{◌≡◌, ◌⊎◌, inl, inr, ℕ, ◌+◌, List, [], ◌∷◌, ◌++◌, refl, ap, ap₂, ◌∙◌}
 use Rattle.std.specs.List.{Contains}
 use Rattle.dm_info.specs.PatchInfo.{PatchInfo}
 use Rattle.dm_prim.specs.Rectangles.{CellRow, none, next}
@@ -11,7 +11,7 @@ use Rattle.dm_repo.specs.declared.policy.Policy.TheVariants.{Refuse, Skip}
 use Rattle.dm_repo.specs.Staircases.{Split, nothing, stays, yields}
 use Rattle.dm_repo.specs.Merging.{MergeRectangle, bare, over}
 use Rattle.dm_repo.specs.Sifting.{Sifts, ends, MergesUnder}
-use Rattle.dm_repo.specs.Squares.{Placed, patches, PlacedCommutes, PlacedMerges}
+use Rattle.dm_repo.specs.Squares.{Placed, placed_from, patches, PlacedCommutes, PlacedMerges}
 use Rattle.dm_repo.specs.Repositories.{Holds}
 use Rattle.dm_repo.specs.Weighing.{IsHeld, IsMergeOf}
 use Rattle.dm_repo.proofs.Members.{here, more, one_of, none_of}
@@ -52,6 +52,18 @@ none_held repo (stays {h} {xs} held s) n = absurd (n h.1.info (here h.1.info (in
 none_held repo (yields {r} {xs} o s t) n =
     let a = none_held repo s (λ i c. n i (more r.1.info (infos_of (patches xs)) c)) in
     let b = strip_bare t a.0 in (b.0, ap₂ (λ x l. x ∷ l) b.1 a.1)
+
+-- where none of those behind is held, they are new, as they stand
+pub held_before : (repo : List Patch) (xs ys : List Placed) {front rest : List Placed} → Split PlacedCommutes (IsHeld repo) (xs ++ ys) front rest →
+    ((i : PatchInfo) → Contains (infos_of (patches ys)) i → Holds repo i → ⊥) → (new : List Placed) × (rest ≡ new ++ ys) × Split PlacedCommutes (IsHeld repo) xs front new
+held_before repo [] ys s n = let e = none_held repo s n in ([], e.1, rw e.0 nothing)
+held_before repo (x ∷ xs) ys (stays held s) n = let a = held_before repo xs ys s n in (a.0, a.1, stays held a.2)
+held_before repo (x ∷ xs) ys (yields {r'} o s t) n = let a = held_before repo xs ys s n in (r' ∷ a.0, ap (λ l. r' ∷ l) a.1, yields o a.2 t)
+
+-- the patches behind, with their places
+pub placed_behind : (n : ℕ) (xs ys : List Patch) → (zs : List Placed) × (placed_from n (xs ++ ys) ≡ placed_from n xs ++ zs) × (patches zs ≡ ys)
+placed_behind n [] ys = (placed_from n ys, refl, patches_placed n ys)
+placed_behind n (x ∷ xs) ys = let a = placed_behind (n + 1) xs ys in (a.0, ap (λ l. (n, x) ∷ l) a.1, a.2)
 
 -- the names of what is merged
 row_infos : {x x' : Placed} {ys ys' : List Placed} → CellRow PlacedMerges x ys ys' x' → infos_of (patches ys') ≡ infos_of (patches ys)

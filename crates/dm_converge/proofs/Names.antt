@@ -1,5 +1,5 @@
 -- The names of what a split puts in front, and what a context names.
-use Rattle.std.proofs.Common.{◌≡◌, List, [], ◌∷◌, ◌++◌, inl, inr, refl, ap₂, ◌∙◌}
+use Rattle.std.proofs.Common.{◌≡◌, ◌⊎◌, List, [], ◌∷◌, ◌++◌, inl, inr, refl, sym, ap₂, ◌∙◌}
 use Rattle.std.specs.List.{Contains}
 use Rattle.std.proofs.lemmas.List.Elements.{Contains-append_left, Contains-append_right, Contains-append_cases}
 use Rattle.dm_info.specs.PatchInfo.{PatchInfo}
@@ -76,12 +76,32 @@ pub distinct_right : (xs ys : List PatchInfo) → Distinct (xs ++ ys) → Distin
 distinct_right [] ys d = d
 distinct_right (x ∷ xs) ys d = distinct_right xs ys d.1
 
+pub distinct_left : (xs ys : List PatchInfo) → Distinct (xs ++ ys) → Distinct xs
+distinct_left [] ys d = tt
+distinct_left (x ∷ xs) ys d = (λ k. d.0 (Contains-append_left xs ys x k), distinct_left xs ys d.1)
+
+pub distinct_apart : (xs ys : List PatchInfo) → Distinct (xs ++ ys) → (i : PatchInfo) → Contains xs i → Contains ys i → ⊥
+distinct_apart [] ys d i c k = absurd (none_of c)
+distinct_apart (x ∷ xs) ys d i c k = elim (one_of x xs c) [ inl e ↦ d.0 (Contains-append_right xs ys x (rw e k)) | inr h ↦ distinct_apart xs ys d.1 i h k ]
+
 pub distinct_part : (xs ys zs : List PatchInfo) → Distinct (xs ++ ys) → Distinct zs → ((i : PatchInfo) → Contains zs i → Contains ys i) → Distinct (xs ++ zs)
 distinct_part [] ys zs d e f = e
 distinct_part (x ∷ xs) ys zs d e f = (
   λ k. d.0 (elim (Contains-append_cases xs zs x k) [ inl c ↦ Contains-append_left xs ys x c | inr c ↦ Contains-append_right xs ys x (f x c) ]),
   distinct_part xs ys zs d.1 e f,
 )
+
+-- of two beginnings of a list one is within the other
+within_more : (x y : PatchInfo) (xs ys : List PatchInfo) → x ≡ y → ((i : PatchInfo) → Contains xs i → Contains ys i) → (i : PatchInfo) → Contains (x ∷ xs) i → Contains (y ∷ ys) i
+within_more x y xs ys e f i c = elim (one_of x xs c) [ inl k ↦ let h : y ≡ i = cc in rw h (here i ys) | inr k ↦ more y ys (f i k) ]
+
+pub beginnings : (xs rest ys others : List PatchInfo) → xs ++ rest ≡ ys ++ others → ((i : PatchInfo) → Contains xs i → Contains ys i) ⊎ ((i : PatchInfo) → Contains ys i → Contains xs i)
+beginnings [] rest ys others e = inl (λ i c. absurd (none_of c))
+beginnings (x ∷ xs) rest [] others e = inr (λ i c. absurd (none_of c))
+beginnings (x ∷ xs) rest (y ∷ ys) others e =
+    let h : x ≡ y = cc in
+    let t : xs ++ rest ≡ ys ++ others = cc in
+    elim (beginnings xs rest ys others t) [ inl f ↦ inl (within_more x y xs ys h f) | inr f ↦ inr (within_more y x ys xs (sym h) f) ]
 
 -- a name that is held is that of a member
 pub member : (xs : List Patch) (i : PatchInfo) → Holds xs i → (x : Patch) × Contains xs x × (x.info ≡ i)
@@ -90,6 +110,11 @@ member (x ∷ xs) i k = elim (one_of x.info (infos_of xs) k) [
   | inl e ↦ (x, here x xs, e)
   | inr c ↦ let a = member xs i c in (a.0, more x xs a.1, a.2)
 ]
+
+-- what a context is closed to is what it is closed to with more names
+pub closed_more : (xs : List Patch) (context others : List PatchInfo) → ((i : PatchInfo) → Contains context i → Contains others i) → (i : PatchInfo) → Closed xs context i → Closed xs others i
+closed_more xs context others f i (given k) = given (f i k)
+closed_more xs context others f i (needed {x} k c d) = needed k (closed_more xs context others f x.info c) d
 
 module _ (I : Type 0) (m : Meaning I) where
   -- each names as dependencies what its name means

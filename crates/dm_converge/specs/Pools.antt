@@ -1,5 +1,5 @@
 -- Texts that mirrors may take, and what they come to.
-use Rattle.std.specs.Prelude.{◌≡◌, ℕ, List}
+use Rattle.std.specs.Prelude.{◌≡◌, ℕ, List, ◌++◌}
 use Rattle.std.specs.List.{Contains}
 use Rattle.dm_info.specs.PatchInfo.{PatchInfo}
 use Rattle.dm_prim.specs.Primitives.{LawfulMap}
@@ -17,9 +17,19 @@ use Rattle.dm_scratch.specs.Taking.{TakesWithin}
 abbrev pub HasBundle : List (List ℕ) → Contents → Type 0
 HasBundle pool b = (text : List ℕ) × Contains pool text × BundleText text b
 
--- a name stands for one patch: no two bundles of the pool have new patches of one name, and none has one of a name that the base holds
+-- two bundles begin alike: their contexts have the same names, their new patches begin with the same ones, and no name is among the others of both
+pub record BeginAlike (b c : Contents) : Type 0 where
+  pub context : SameMembers b.context c.context
+  pub shared : List Patch
+  pub rest : List Patch
+  pub other_rest : List Patch
+  pub is_one : b.patches ≡ shared ++ rest
+  pub is_other : c.patches ≡ shared ++ other_rest
+  pub apart : (i : PatchInfo) → Holds rest i → Holds other_rest i → ⊥
+
+-- a name stands for one patch: two bundles of the pool that have new patches of one name begin alike, and none has one of a name that the base holds
 pub record NamesStandForOne (pool : List (List ℕ)) (base : List Patch) : Type 0 where
-  pub among : (b c : Contents) (i : PatchInfo) → HasBundle pool b → HasBundle pool c → Holds b.patches i → Holds c.patches i → b ≡ c
+  pub among : (b c : Contents) (i : PatchInfo) → HasBundle pool b → HasBundle pool c → Holds b.patches i → Holds c.patches i → BeginAlike b c
   pub beside : (b : Contents) (i : PatchInfo) → HasBundle pool b → Holds b.patches i → Holds base i → ⊥
 
 -- what comes of a base by taking texts of a pool: in any order, any of them any number of times, taken or refused, each under some policy and
