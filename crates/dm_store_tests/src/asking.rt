@@ -1,5 +1,5 @@
 //! What the tests ask of files.
-ghost use Rattle.std.specs.Prelude.{◌≡◌, List, length, IfSome};
+ghost use Rattle.std.specs.Prelude.{◌≡◌, ◌⊎◌, List, length, IfSome, IsTrue};
 ghost use Rattle.dm_named.specs.Patches.{Patch};
 ghost use Rattle.dm_store.specs.Keeping.{KeepsRepo};
 ghost use Rattle.dm_store.specs.Opening.{HasBadEntry};
@@ -18,6 +18,16 @@ pub fn patches_in(alloc: Global, bytes: &[u8]) -> Option<usize>
     match Store::open(alloc, Memory::new(alloc, bytes)) {
         Ok(store) => Some(store.repo().len()),
         Err(_) => None,
+    }
+}
+
+/// Whether the repository that a file of these bytes keeps has so many patches, or so many.
+pub fn keeps_either(alloc: Global, bytes: &[u8], one: usize, other: usize) -> bool
+    ensures { IsTrue result → (repo : List Patch) × KeepsRepo bytes.now repo × ((length repo ≡ one) ⊎ (length repo ≡ other)) }
+{
+    match patches_in(alloc, bytes) {
+        Some(count) => count == one || count == other,
+        None => false,
     }
 }
 

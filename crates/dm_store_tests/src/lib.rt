@@ -5,3 +5,6 @@
 mod asking;
 #[cfg(test)]
 mod stores;
+mod tearing;
+#[cfg(test)]
+mod tears;

@@ -1,0 +1,118 @@
+//! A session that is cut short at each of its steps.
+ghost use Rattle.dm_store.specs.Keeping.{IsStored};
+
+use crate::asking::keeps_either;
+use crate::tearing::{Tear, Tearing};
+use dm_journal::{Device, Memory};
+use dm_repo::Policy;
+use dm_store::Store;
+use std::alloc::Global;
+
+/// The file of a store without patches.
+const EMPTY: &[u8] = b"dm journal 1\n\0";
+
+/// A patch (a) that adds a file, and a patch (m) that adds a line.
+const TWO: &[u8] =
+    b"New patches:\n\n[a\np**d] addfile ./f\n[m\np**d] hunk ./f 1\n+x\n\nContext:\n\n";
+
+/// A patch (n) that adds the same file, and a patch (o) that adds a directory.
+const CONFLICT: &[u8] =
+    b"New patches:\n\n[n\np**d] addfile ./f\n[o\np**d] adddir ./o\n\nContext:\n\n";
+
+/// Two patches (q) and (r) that add lines behind that of (m).
+const NEXT: &[u8] =
+    b"New patches:\n\n[q\np**d] hunk ./f 2\n+y\n[r\np**d] hunk ./f 3\n+z\n\nContext:\n\n[m\np**d]\n[a\np**d]\n";
+
+/// A patch (s) that adds a line before that of (m).
+const LAST: &[u8] =
+    b"New patches:\n\n[s\np**d] hunk ./f 1\n+w\n\nContext:\n\n[m\np**d]\n[a\np**d]\n";
+
+/// Takes five texts, makes a checkpoint, and takes one text more. How many patches there were when the last of these was
+/// answered, and how many there are with the next.
+fn session<D: Device>(alloc: Global, store: &mut Store<D>) -> (usize, usize)
+    requires { IsStored D.seen D.may_leave D.file_may_leave store.old }
+{
+    if store.take(alloc, TWO, Policy::Refuse).is_err() {
+        return (0, 2);
+    }
+    if store.take(alloc, TWO, Policy::Refuse).is_err() {
+        return (2, 2);
+    }
+    if store.take(alloc, CONFLICT, Policy::Refuse).is_err() {
+        return (2, 2);
+    }
+    if store.take(alloc, CONFLICT, Policy::Skip).is_err() {
+        return (2, 3);
+    }
+    if store.take(alloc, NEXT, Policy::Refuse).is_err() {
+        return (3, 5);
+    }
+    if store.checkpoint(alloc).is_err() {
+        return (5, 5);
+    }
+    if store.take(alloc, LAST, Policy::Refuse).is_err() {
+        return (5, 6);
+    }
+    (6, 6)
+}
+
+/// Whether the same session over a file of these bytes is answered whole, and leaves six patches.
+fn goes_on(alloc: Global, bytes: &[u8]) -> bool {
+    let Ok(bytes) = bytes.to_vec(alloc) else {
+        return false;
+    };
+    let Ok(mut store) = Store::open(alloc, Memory::new(alloc, bytes)) else {
+        return false;
+    };
+    session(alloc, &mut store) == (6, 6) && store.repo().len() == 6
+}
+
+/// How many patches a session had that is cut short after so many steps, when it was answered last. `None` if the file keeps
+/// neither these nor those with the text in flight, or if the session can't be had again over it.
+fn cut_short(alloc: Global, steps: usize, tear: Tear) -> Option<usize> {
+    let Ok(bytes) = EMPTY.to_vec(alloc) else {
+        return None;
+    };
+    let device = Tearing {
+        device: Memory::new(alloc, bytes),
+        alloc,
+        steps,
+        tear,
+    };
+    let Ok(mut store) = Store::open(alloc, device) else {
+        return None;
+    };
+    let (answered, with_next) = session(alloc, &mut store);
+    let left = store.into_device();
+    if !keeps_either(alloc, left.device.bytes(), answered, with_next) {
+        return None;
+    }
+    if !goes_on(alloc, left.device.bytes()) {
+        return None;
+    }
+    Some(answered)
+}
+
+/// Whether all is well after each number of steps, up to one at which the session is answered whole.
+fn lasts(alloc: Global, tear: Tear) -> bool {
+    for steps in 0..10_000 {
+        match cut_short(alloc, steps, tear) {
+            None => return false,
+            Some(6) => return true,
+            Some(_) => {}
+        }
+    }
+    false
+}
+
+#[test]
+fn a_crash_leaves_all_of_a_text_or_none(rt: HostRuntime) {
+    assert!(rt;
+        lasts(rt.alloc(), Tear::First),
+        "the first bytes of a write"
+    );
+    assert!(rt;
+        lasts(rt.alloc(), Tear::Last(7)),
+        "its last bytes, and others before them"
+    );
+}
