@@ -1,17 +1,21 @@
 //! How much longer a journal has become since its last checkpoint.
-ghost use Rattle.std.specs.Prelude.{◌↔◌, ◌+◌, ◌<◌, ◌^◌, IsTrue};
+ghost use Rattle.std.specs.Prelude.{◌↔◌, ◌⊎◌, ◌<◌, ◌^◌, IsTrue};
 
 use crate::entries::strip_whole;
 use dm_journal::Texts;
 
-// A checkpoint isn't worth its while before a journal has grown by so many bytes.
+// For fewer bytes than these no checkpoint is worth its while, unless they are of more entries than those.
 const LEAST: usize = 1 << 20;
 
-// The bytes of the entry of a whole repository that a journal begins with, or 0, and those of the entries behind it.
+const MOST_ENTRIES: usize = 16;
+
+// The bytes of the entry of a whole repository that a journal begins with, or 0, and the bytes and the number of the entries
+// behind it.
 #[derive(Clone, Copy)]
 pub struct Growth {
     pub whole: usize,
     pub since: usize,
+    pub entries: usize,
 }
 
 impl Growth {
@@ -20,18 +24,23 @@ impl Growth {
         Growth {
             whole: bytes,
             since: 0,
+            entries: 0,
         }
     }
 
     // One entry more.
     pub fn add(&mut self, bytes: usize) {
         self.since = self.since.saturating_add(bytes);
+        self.entries = self.entries.saturating_add(1);
     }
 
-    // Whether the entries behind the first have more bytes than it, and than a checkpoint is worth its while for.
+    // Whether there are so many entries behind the first, or they have so many bytes, that a checkpoint is worth its while.
     pub fn is_large(&self) -> bool
-        ensures { IsTrue result ↔ ((self.now.whole < self.now.since) × (2 ^ 20 < self.now.since)) }
+        ensures { IsTrue result ↔ ((2 ^ 4 < self.now.entries) ⊎ ((self.now.whole < self.now.since) × (2 ^ 20 < self.now.since))) }
     {
+        if self.entries > MOST_ENTRIES {
+            return true;
+        }
         self.since > self.whole && self.since > LEAST
     }
 }
