@@ -10,7 +10,7 @@ use Rattle.dm_named.specs.declared.fault.FaultKind.{FaultKind}
 use Rattle.dm_named.proofs.WordLemmas.{one_word}
 use Rattle.dm_named.proofs.ManyLemmas.{many_more}
 use Rattle.dm_bundle.specs.Patches.{SameMembers}
-use Rattle.dm_bundle.specs.Context.{context_word, ContextWord, AreDisjoint, Context}
+use Rattle.dm_bundle.specs.Context.{context_word, ContextWord, AreDisjoint, ContextEndsAt}
 use Rattle.dm_bundle.specs.Faults.{ContextInfoFaultAt, doubled, in_info, ContextFaultAt}
 use Rattle.dm_bundle.proofs.Members.{apart_more}
 
@@ -32,8 +32,10 @@ one_more known text infos here i after next r s none e =
 
 -- ---- the set stands for the new patches
 
-pub same_context : (known new : List PatchInfo) (text : List ℕ) (context : List PatchInfo) → SameMembers known new → Context known text context → Context new text context
-same_context known new text context same c = record { rest = c.rest; read = c.read; ends = c.ends; apart = λ i h k. c.apart i ((same i).1 h) k }
+pub same_context : (known new : List PatchInfo) (text : List ℕ) (context : List PatchInfo) (rest : List ℕ) → SameMembers known new → ContextEndsAt known text context rest → ContextEndsAt new text context rest
+same_context known new text context rest same c =
+    let s = c.stands in
+    record { stands = record { rest = s.rest; read = s.read; ends = s.ends; apart = λ i h k. s.apart i ((same i).1 h) k }; behind = c.behind }
 
 same_wrong : (kind : FaultKind) (known new : List PatchInfo) (text here : List ℕ) → SameMembers known new → ContextInfoFaultAt kind known text here → ContextInfoFaultAt kind new text here
 same_wrong kind known new text here same (doubled k e d) = doubled k e (record { info = d.info; rest = d.rest; stands = d.stands; is_known = (same d.info).0 d.is_known })

@@ -1,17 +1,19 @@
 -- A bundle that is written is read again.
 use Rattle.std.proofs.Common.{◌≡◌, ℕ, List, [], ◌∷◌, ◌++◌, refl, sym, ap, subst, ◌∙◌, arith, inl, append_assoc}
 use Rattle.std.proofs.lemmas.List.{append-nil}
+use Rattle.std.specs.Prelude.{codes}
 use Rattle.std.specs.List.{AllByRecursion, flat_map}
 use Rattle.dm_named.specs.Many.{Many}
-use Rattle.dm_named.specs.Words.{skipped, Word}
+use Rattle.dm_named.specs.Words.{skipped, Begins, Word}
 use Rattle.dm_named.specs.Patches.{Patch, PatchText, IsValidPatch, RunEnds, prim_words, unsupported_words}
 use Rattle.dm_named.specs.Canonical.{info_line, patch_text}
 use Rattle.dm_named.specs.Laws.{NoLine}
 use Rattle.dm_named.proofs.NoPatch.{no_lead}
 use Rattle.dm_named.proofs.PatchRoundTrip.{front_same, patch_back, infos_back, infos_skip}
+use Rattle.dm_bundle.specs.Heading.{heading_line}
 use Rattle.dm_bundle.specs.Patches.{NextPatch}
 use Rattle.dm_bundle.specs.Context.{context_word}
-use Rattle.dm_bundle.specs.Bundles.{Contents, IsValidBundle, BundleText}
+use Rattle.dm_bundle.specs.Bundles.{Contents, IsValidBundle, BundleText, EndsAt}
 use Rattle.dm_bundle.specs.Canonical.{bundle_text}
 
 -- new patches stand in a text; a newline may be left after them
@@ -55,22 +57,33 @@ patches_back (p ∷ ps) rest valid none ends =
 nothing : (rest : List ℕ) → [] ≡ 91 ∷ rest → ⊥
 nothing rest e = cc
 
-pub round_trip : (b : Contents) → IsValidBundle b → BundleText (bundle_text b) b
-round_trip b valid =
+joined : (head patches word infos rest : List ℕ) → head ++ (patches ++ (word ++ (infos ++ rest))) ≡ (head ++ (patches ++ (word ++ infos))) ++ rest
+joined head patches word infos rest = simp append_assoc refl
+
+-- a text that goes on behind the context, but not with a patch info
+pub round_trip_before : (b : Contents) (rest : List ℕ) → IsValidBundle b → (Begins 91 (skipped rest) → ⊥) → EndsAt (bundle_text b ++ rest) b (skipped rest)
+round_trip_before b rest valid closed =
     let infos = flat_map info_line b.context in
-    let context = 10 ∷ (context_word ++ 10 ∷ 10 ∷ infos) in
+    let context = 10 ∷ (context_word ++ 10 ∷ 10 ∷ (infos ++ rest)) in
     let patches = flat_map patch_text b.patches ++ context in
     let ps = patches_back b.patches context valid.patches (no_line_at 10 _ (λ e. omega (arith, e)) (λ e. omega (arith, e)) (λ e. omega (arith, e))) (run_ends_context _) in
     let new = patches_skip patches (10 ∷ patches) b.patches context refl ps in
-    let is = infos_skip (infos ++ []) (10 ∷ 10 ∷ infos) b.context [] (ap skipped (append-nil infos)) (infos_back b.context [] valid.context) in
-    record {
-      new = 10 ∷ patches;
-      heading = record { summary = []; here = bundle_text b; before = refl; line = record { free = (refl, (refl, (refl, (refl, (refl, (refl, (refl, (refl, (refl, (refl, (refl, (refl, tt)))))))))))); parts = inl refl } };
-      sections = record {
-        between = new.mid;
-        after_word = 10 ∷ 10 ∷ infos;
-        patches = record { read = new.read; distinct = valid.no_doubles.distinct };
-        word = subst (λ (t : List ℕ). Word t context_word (10 ∷ 10 ∷ infos)) (sym new.left) (record { parts = refl; solid = (refl, (refl, (refl, (refl, (refl, (refl, (refl, (refl, tt)))))))); ends = refl });
-        context = record { rest = is.mid; read = is.read; ends = λ o. nothing o.0 (sym is.left ∙ o.1); apart = valid.no_doubles.apart };
+    let is = infos_skip (infos ++ rest) (10 ∷ 10 ∷ (infos ++ rest)) b.context rest refl (infos_back b.context rest valid.context) in
+    let whole : codes "New patches:\n\n" ++ patches ≡ bundle_text b ++ rest = joined (codes "New patches:\n\n") (flat_map patch_text b.patches) (codes "\nContext:\n\n") infos rest in
+    subst (λ (t : List ℕ). EndsAt t b (skipped rest)) whole (record {
+      stands = record {
+        new = 10 ∷ patches;
+        heading = record { summary = []; here = heading_line ++ 10 ∷ 10 ∷ patches; before = refl; line = record { free = (refl, (refl, (refl, (refl, (refl, (refl, (refl, (refl, (refl, (refl, (refl, (refl, tt)))))))))))); parts = inl refl } };
+        sections = record {
+          between = new.mid;
+          after_word = 10 ∷ 10 ∷ (infos ++ rest);
+          patches = record { read = new.read; distinct = valid.no_doubles.distinct };
+          word = subst (λ (t : List ℕ). Word t context_word (10 ∷ 10 ∷ (infos ++ rest))) (sym new.left) (record { parts = refl; solid = (refl, (refl, (refl, (refl, (refl, (refl, (refl, (refl, tt)))))))); ends = refl });
+          context = record { rest = is.mid; read = is.read; ends = λ o. closed (o.0, sym is.left ∙ o.1); apart = valid.no_doubles.apart };
+        };
       };
-    }
+      behind = is.left;
+    })
+
+pub round_trip : (b : Contents) → IsValidBundle b → BundleText (bundle_text b) b
+round_trip b valid = subst (λ (t : List ℕ). BundleText t b) (append-nil (bundle_text b)) (round_trip_before b [] valid (λ o. nothing o.0 o.1)).stands

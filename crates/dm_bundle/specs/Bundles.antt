@@ -1,7 +1,8 @@
 -- What a bundle is, and the texts that stand for it (Darcs manual, "darcs send"; Darcs.Patch.Bundle).
-use Rattle.std.specs.Prelude.{ℕ, List}
+use Rattle.std.specs.Prelude.{◌≡◌, ℕ, List}
 use Rattle.std.specs.List.{AllByRecursion}
 use Rattle.dm_info.specs.PatchInfo.{PatchInfo, IsInfo}
+use Rattle.dm_named.specs.Words.{skipped}
 use Rattle.dm_named.specs.Patches.{Patch, IsValidPatch}
 use Rattle.dm_bundle.specs.Heading.{Heading}
 use Rattle.dm_bundle.specs.Patches.{infos_of, Distinct, NewPatches}
@@ -31,8 +32,18 @@ pub record Sections (text : List ℕ) (b : Contents) : Type 0 where
   pub word : ContextWord between after_word
   pub context : Context (infos_of b.patches) after_word b.context
 
+-- the same, and past the white space behind the context stands this rest
+pub record SectionsEndAt (text : List ℕ) (b : Contents) (rest : List ℕ) : Type 0 where
+  pub stands : Sections text b
+  pub behind : skipped stands.context.rest ≡ rest
+
 -- the text stands for the bundle: the heading, and the rest after it
 pub record BundleText (text : List ℕ) (b : Contents) : Type 0 where
   pub new : List ℕ
   pub heading : Heading text new
   pub sections : Sections new b
+
+-- the text stands for the bundle, and past the white space behind the context stands this rest
+pub record EndsAt (text : List ℕ) (b : Contents) (rest : List ℕ) : Type 0 where
+  pub stands : BundleText text b
+  pub behind : skipped stands.sections.context.rest ≡ rest

@@ -1,5 +1,5 @@
 -- The context of a bundle: the patch infos that it rests on.
-use Rattle.std.specs.Prelude.{ℕ, List, codes, Contains}
+use Rattle.std.specs.Prelude.{◌≡◌, ℕ, List, codes, Contains}
 use Rattle.dm_info.specs.PatchInfo.{PatchInfo}
 use Rattle.dm_info.specs.Spelling.{open_bracket}
 use Rattle.dm_named.specs.Many.{Many}
@@ -24,3 +24,8 @@ pub record Context (new : List PatchInfo) (text : List ℕ) (context : List Patc
   pub read : Many NextInfo text context rest
   pub ends : Begins open_bracket (skipped rest) → ⊥
   pub apart : AreDisjoint new context
+
+-- they are the context, and past the white space behind it stands this rest
+pub record ContextEndsAt (new : List PatchInfo) (text : List ℕ) (context : List PatchInfo) (rest : List ℕ) : Type 0 where
+  pub stands : Context new text context
+  pub behind : skipped stands.rest ≡ rest

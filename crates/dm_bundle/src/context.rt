@@ -1,7 +1,7 @@
 //! The context of a bundle.
 
 ghost use Rattle.std.specs.Prelude.{◌≡◌, ◌≢◌, ◌≤◌, length, drop, IfOk, IfErr, MatchBool};
-ghost use Rattle.dm_bundle.specs.Context.{context_word, Context};
+ghost use Rattle.dm_bundle.specs.Context.{context_word, ContextEndsAt};
 ghost use Rattle.dm_bundle.specs.Faults.{ContextFaultAt};
 
 use crate::known::Known;
@@ -17,15 +17,17 @@ pub(crate) fn is_context_word(word: &[u8]) -> bool
     word == b"Context:".as_slice()
 }
 
-/// All patch infos that follow one another from a place on, each after white space. One of a known patch is a fault.
+/// All patch infos that follow one another from a place on, each after white space, and the place past the white space behind
+/// them. One of a known patch is a fault.
 pub(crate) fn context_at<A: Allocator + Copy>(
     alloc: A,
     known: &Known<A>,
     text: &[u8],
     start: usize,
-) -> Result<Vec<Info<A>, A>, ReadFault>
+) -> Result<(Vec<Info<A>, A>, usize), ReadFault>
     requires { start ≤ length text.now }
-    ensures ok { IfOk result (λ infos. Context known.now (drop start text.now) infos.items) }
+    ensures ok { IfOk result (λ x. ContextEndsAt known.now (drop start text.now) x.0.items (drop x.1 text.now)) }
+    ensures within { IfOk result (λ x. x.1 ≤ length text.now) }
     ensures err { IfErr result (λ e. ContextFaultAt e.kind known.now (drop start text.now) (drop e.at text.now)) }
     ensures place { IfErr result (λ e. e.at ≤ length text.now) }
 {
@@ -44,5 +46,5 @@ pub(crate) fn context_at<A: Allocator + Copy>(
         }
         here = skip(text, next);
     }
-    Ok(infos)
+    Ok((infos, here))
 }

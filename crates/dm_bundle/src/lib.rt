@@ -5,8 +5,8 @@
 //!
 //! What is proved: [`read_bundle_within`] returns a bundle only if the text stands for it, and then the text stands for no
 //! other. It returns a fault only if the text has that fault at that place, within the limits given; [`read_bundle`] reads
-//! within those of a text that somebody else wrote. [`write_bundle`] returns the canonical text, which stands for the bundle
-//! that was written.
+//! within those of a text that somebody else wrote, and [`read_bundle_to`] says too where the bundle ends. [`write_bundle`]
+//! returns the canonical text, which stands for the bundle that was written.
 #![tactic(auto)]
 
 mod bundle;
@@ -19,5 +19,5 @@ mod reading;
 mod writing;
 
 pub use bundle::{Bundle, Doubled};
-pub use reading::{read_bundle, read_bundle_within};
+pub use reading::{read_bundle, read_bundle_to, read_bundle_within};
 pub use writing::write_bundle;

@@ -2,7 +2,7 @@
 
 ghost use Rattle.std.specs.Prelude.{◌≡◌, ◌≢◌, ◌≤◌, ◌<◌, length, drop, MatchResult, IfOk, IfErr, IsErrOf};
 ghost use Rattle.dm_bundle.specs.Patches.{AreFew, AreFewWithin};
-ghost use Rattle.dm_bundle.specs.Bundles.{Contents, IsValidBundle, Sections, BundleText};
+ghost use Rattle.dm_bundle.specs.Bundles.{Contents, IsValidBundle, SectionsEndAt, BundleText, EndsAt};
 ghost use Rattle.dm_bundle.specs.Canonical.{bundle_text};
 ghost use Rattle.dm_bundle.specs.Faults.{most_bytes, IsWithinSize, IsWithinSizeOf, HasNoHeading, AfterHeadingFaultWithin, FaultAt, FaultWithin, ExcludesBundle};
 
@@ -14,16 +14,17 @@ use dm_named::text::{skip, word_at};
 use dm_named::{FaultKind, Limits, ReadFault};
 use std::alloc::Allocator;
 
-/// The bundle of the text after the heading.
+/// The bundle of the text after the heading, and the place past the white space behind its context.
 fn sections_at<A: Allocator + Copy>(
     alloc: A,
     text: &[u8],
     new: usize,
     limits: Limits,
-) -> Result<Bundle<A>, ReadFault>
+) -> Result<(Bundle<A>, usize), ReadFault>
     requires { new ≤ length text.now }
-    ensures ok { IfOk result (λ b. Sections (drop new text.now) b) }
-    ensures few { IfOk result (λ b. AreFewWithin limits b.patches) }
+    ensures ok { IfOk result (λ x. SectionsEndAt (drop new text.now) x.0 (drop x.1 text.now)) }
+    ensures within { IfOk result (λ x. x.1 ≤ length text.now) }
+    ensures few { IfOk result (λ x. AreFewWithin limits x.0.patches) }
     ensures err { IfErr result (λ e. AfterHeadingFaultWithin limits e.kind (drop new text.now) (drop e.at text.now)) }
     ensures place { IfErr result (λ e. e.at ≤ length text.now) }
 {
@@ -40,18 +41,19 @@ fn sections_at<A: Allocator + Copy>(
             at: here,
         });
     }
-    let context = context_at(alloc, &known, text, after_word)?;
-    Ok(Bundle::without_doubles(patches, context))
+    let (context, behind) = context_at(alloc, &known, text, after_word)?;
+    Ok((Bundle::without_doubles(patches, context), behind))
 }
 
-/// The bundle of a text, or the text's fault.
+/// The bundle of a text and the place past the white space behind its context, or the text's fault.
 fn bundle_of<A: Allocator + Copy>(
     alloc: A,
     text: &[u8],
     limits: Limits,
-) -> Result<Bundle<A>, ReadFault>
-    ensures ok { IfOk result (λ b. BundleText text.now b) }
-    ensures few { IfOk result (λ b. AreFewWithin limits b.patches) }
+) -> Result<(Bundle<A>, usize), ReadFault>
+    ensures ok { IfOk result (λ x. EndsAt text.now x.0 (drop x.1 text.now)) }
+    ensures within { IfOk result (λ x. x.1 ≤ length text.now) }
+    ensures few { IfOk result (λ x. AreFewWithin limits x.0.patches) }
     ensures err { IfErr result (λ e. e.kind ≢ FaultKind.NoMemory → FaultWithin limits text.now e.kind e.at) }
     ensures too_large { limits.bytes < length text.now → IsErrOf result (record { kind = FaultKind.TooLarge; at = limits.bytes }) }
     ensures no_heading { IsWithinSizeOf limits text.now → HasNoHeading text.now
@@ -69,8 +71,47 @@ fn bundle_of<A: Allocator + Copy>(
             at: text.len(),
         });
     };
-    let bundle = sections_at(alloc, text, new, limits)?;
-    Ok(bundle)
+    let (bundle, behind) = sections_at(alloc, text, new, limits)?;
+    Ok((bundle, behind))
+}
+
+/// The bundle that a text stands for, and the place where what is behind its context begins, past white space. That rest is
+/// not read.
+///
+/// The fault is the first from left to right, with its place. `NoMemory` is returned if an allocation
+/// failed, and never for a text that is too large or has no heading.
+pub fn read_bundle_to<A: Allocator + Copy>(
+    alloc: A,
+    text: &[u8],
+    limits: Limits,
+) -> Result<(Bundle<A>, usize), ReadFault>
+    // The text stands for the bundle that is returned, and for no other.
+    ensures ok { IfOk result (λ x. BundleText text.now x.0) }
+    ensures only { IfOk result (λ x. (c : Contents) → BundleText text.now c → x.0 ≡ c) }
+    // Past the white space behind the context stands what begins at the place.
+    ensures end { IfOk result (λ x. EndsAt text.now x.0 (drop x.1 text.now)) }
+    ensures within { IfOk result (λ x. x.1 ≤ length text.now) }
+    // It has no more new patches than the limits allow, each of no more primitives.
+    ensures few { IfOk result (λ x. AreFewWithin limits x.0.patches) }
+    // A bundle is read if it and its text are within the limits, unless memory runs out.
+    ensures within_limits { (b : Contents) → BundleText text.now b → IsWithinSizeOf limits text.now → AreFewWithin limits b.patches
+        → MatchResult result (λ found. found.0 ≡ b) (λ e. e.kind ≡ FaultKind.NoMemory) }
+    // So is a valid bundle from its canonical text.
+    ensures canonical { (b : Contents) → IsValidBundle b → text.now ≡ bundle_text b → IsWithinSizeOf limits text.now → AreFewWithin limits b.patches
+        → MatchResult result (λ found. found.0 ≡ b) (λ e. e.kind ≡ FaultKind.NoMemory) }
+    // What is wrong, and where.
+    ensures err { IfErr result (λ e. e.kind ≢ FaultKind.NoMemory → FaultWithin limits text.now e.kind e.at) }
+    // A text with a fault stands for no bundle, unless it is too large, has too many parts, or memory ran out.
+    ensures none { IfErr result (λ e. ExcludesBundle e.kind → (b : Contents) → BundleText text.now b → ⊥) }
+    // To find these two faults takes no memory.
+    ensures too_large { limits.bytes < length text.now → IsErrOf result (record { kind = FaultKind.TooLarge; at = limits.bytes }) }
+    ensures no_heading { IsWithinSizeOf limits text.now → HasNoHeading text.now
+        → IsErrOf result (record { kind = FaultKind.NoNewPatches; at = length text.now }) }
+{
+    match bundle_of(alloc, text, limits) {
+        Ok((bundle, behind)) => Ok((bundle, behind)),
+        Err(e) => Err(e),
+    }
 }
 
 /// The bundle that a text stands for. What follows the context is not read.
@@ -102,8 +143,8 @@ pub fn read_bundle_within<A: Allocator + Copy>(
     ensures no_heading { IsWithinSizeOf limits text.now → HasNoHeading text.now
         → IsErrOf result (record { kind = FaultKind.NoNewPatches; at = length text.now }) }
 {
-    match bundle_of(alloc, text, limits) {
-        Ok(bundle) => Ok(bundle),
+    match read_bundle_to(alloc, text, limits) {
+        Ok((bundle, _)) => Ok(bundle),
         Err(e) => Err(e),
     }
 }

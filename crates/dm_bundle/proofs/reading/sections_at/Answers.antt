@@ -28,17 +28,21 @@ pub without_doubles-requires : goal.without_doubles-requires
 without_doubles-requires g c =
     let s = c.in_ok-patches.field-0 in
     let after_word = drop c.word_at-after_word.result.1 c.args.text.now in
-    record { distinct = c.in_ok-patches.ensures.ok.distinct; apart = (same_context s.known (infos_of s.patches.items) after_word c.in_ok-context.context.items c.in_ok-patches.ensures.known c.in_ok-context.ensures.ok).apart }
+    record { distinct = c.in_ok-patches.ensures.ok.distinct; apart = (same_context s.known (infos_of s.patches.items) after_word c.in_ok-context.context.items (drop c.in_ok-context.behind c.args.text.now) c.in_ok-patches.ensures.known c.in_ok-context.ensures.ok).stands.apart }
 
 pub returns-clause-ok : goal.returns-clause-ok
 returns-clause-ok g c =
     let text = c.args.text.now in
     let s = c.in_ok-patches.field-0 in
     let after_word = drop c.word_at-after_word.result.1 text in
+    let context = same_context s.known (infos_of s.patches.items) after_word c.in_ok-context.context.items (drop c.in_ok-context.behind text) c.in_ok-patches.ensures.known c.in_ok-context.ensures.ok in
     rw c.without_doubles.ensures (record {
-      between = drop s.end text;
-      after_word = after_word;
-      patches = c.in_ok-patches.ensures.ok;
-      word = context_here (drop s.end text) (drop c.skip-here.result text) c.word_at-after_word.result.0.now after_word c.skip-here.ensures.rest c.word_at-after_word.ensures.word c.if-not-is_context_word.ensures;
-      context = same_context s.known (infos_of s.patches.items) after_word c.in_ok-context.context.items c.in_ok-patches.ensures.known c.in_ok-context.ensures.ok;
+      stands = record {
+        between = drop s.end text;
+        after_word = after_word;
+        patches = c.in_ok-patches.ensures.ok;
+        word = context_here (drop s.end text) (drop c.skip-here.result text) c.word_at-after_word.result.0.now after_word c.skip-here.ensures.rest c.word_at-after_word.ensures.word c.if-not-is_context_word.ensures;
+        context = context.stands;
+      };
+      behind = context.behind;
     })
