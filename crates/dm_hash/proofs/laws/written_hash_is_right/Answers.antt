@@ -1,0 +1,5 @@
+use Rattle.dm_hash.proofs.TrailerLemmas.{written_right, written_ends}
+use Rattle.dm_hash.proofs.laws.written_hash_is_right.Goals as goal
+
+pub returns : goal.returns
+returns c = λ b valid. (written_ends b valid, written_right b.patches)
