@@ -8,11 +8,11 @@ use Rattle.dm_disk.specs.States.{overwritten, beside, beside_may_leave, seen, fi
 -- a crash may leave the new file as it is
 beside_stays : (history : List Event) → beside_may_leave history (beside history)
 beside_stays [] = tt
-beside_stays (wrote_beside bytes done ∷ earlier) = tt
-beside_stays (renamed done ∷ earlier) = tt
+beside_stays (wrote_beside mode bytes done ∷ earlier) = tt
+beside_stays (renamed old new done ∷ earlier) = tt
 beside_stays (synced_beside true ∷ earlier) = refl
 beside_stays (synced_beside false ∷ earlier) = beside_stays earlier
-beside_stays (opened bytes ∷ earlier) = beside_stays earlier
+beside_stays (opened size bytes ∷ earlier) = beside_stays earlier
 beside_stays (wrote at bytes done ∷ earlier) = beside_stays earlier
 beside_stays (synced done ∷ earlier) = beside_stays earlier
 beside_stays (synced_folder done ∷ earlier) = beside_stays earlier
@@ -24,15 +24,15 @@ unwritten at n file = record { before = refl; after = refl; no_shorter = omega a
 -- a crash may leave the file as it is
 seen_stays : (history : List Event) → file_may_leave history (seen history)
 seen_stays [] = refl
-seen_stays (opened bytes ∷ earlier) = refl
+seen_stays (opened size bytes ∷ earlier) = refl
 seen_stays (wrote at bytes true ∷ earlier) = inl refl
 seen_stays (wrote at bytes false ∷ earlier) = inr (seen earlier, seen_stays earlier, unwritten at (length bytes) (seen earlier))
 seen_stays (synced true ∷ earlier) = refl
 seen_stays (synced false ∷ earlier) = seen_stays earlier
-seen_stays (wrote_beside bytes done ∷ earlier) = seen_stays earlier
+seen_stays (wrote_beside mode bytes done ∷ earlier) = seen_stays earlier
 seen_stays (synced_beside done ∷ earlier) = seen_stays earlier
-seen_stays (renamed true ∷ earlier) = beside_stays earlier
-seen_stays (renamed false ∷ earlier) = seen_stays earlier
+seen_stays (renamed old new true ∷ earlier) = beside_stays earlier
+seen_stays (renamed old new false ∷ earlier) = seen_stays earlier
 seen_stays (synced_folder done ∷ earlier) = seen_stays earlier
 seen_stays (refused ∷ earlier) = seen_stays earlier
 

@@ -1,37 +1,42 @@
 -- What has happened to a file: the calls of the system that were made on it, each with its outcome.
-use Rattle.std.specs.Prelude.{◌==◌, ℕ, Bool, if◌then◌else◌, List, slice_index}
+use Rattle.std.specs.Prelude.{◌==◌, ℕ, Bool, if◌then◌else◌, List, [], ◌∷◌, take, drop, slice_index}
+use Rattle.dm_disk.specs.declared.beside.Rights.{Rights}
 
 -- one call; where it wasn't done, the system may still have done all of it, a part, or nothing
 pub data Event : Type 0 where
-  -- a sync had put the file and its name on the disk, and these bytes were read
-  opened : (bytes : List ℕ) → Event
+  -- a sync had put the file and its name on the disk, these bytes were read, and the system told this size
+  opened : (size : ℕ) (bytes : List ℕ) → Event
   -- these bytes were written at this place
   wrote : (at : ℕ) (bytes : List ℕ) (done : Bool) → Event
   -- the file was synced
   synced : (done : Bool) → Event
-  -- a new file of these bytes was written beside this one
-  wrote_beside : (bytes : List ℕ) (done : Bool) → Event
+  -- a new file was made beside this one with this mode, and these bytes were written to it
+  wrote_beside : (mode : ℕ) (bytes : List ℕ) (done : Bool) → Event
   -- the new file was synced
   synced_beside : (done : Bool) → Event
-  -- the new file was given the name
-  renamed : (done : Bool) → Event
+  -- the new file was given the name; the file had the one owner, group and mode, and the new file the other
+  renamed : (old new : List ℕ) (done : Bool) → Event
   -- the folder was synced
   synced_folder : (done : Bool) → Event
   -- a read was refused
   refused : Event
 
 -- the event of this kind
-abbrev event_of_kind : ℕ → ℕ → List ℕ → Bool → Event
-event_of_kind kind at bytes done =
-    if kind == 0 then opened bytes else
+abbrev event_of_kind : ℕ → ℕ → List ℕ → List ℕ → Bool → Event
+event_of_kind kind at rights bytes done =
+    if kind == 0 then opened at bytes else
     if kind == 1 then wrote at bytes done else
     if kind == 2 then synced done else
-    if kind == 3 then wrote_beside bytes done else
+    if kind == 3 then wrote_beside at bytes done else
     if kind == 4 then synced_beside done else
-    if kind == 5 then renamed done else
+    if kind == 5 then renamed (take 3 rights) (drop 3 rights) done else
     if kind == 6 then synced_folder done else
     refused
 
--- the event that the kind, the place, a 1 for done, and the bytes stand for
+-- the event that the kind, the place, size or mode, a 1 for done, the owners, groups and modes, and the bytes stand for
 abbrev pub event_of : List ℕ → List ℕ → Event
-event_of numbers bytes = event_of_kind (slice_index numbers 0) (slice_index numbers 1) bytes (slice_index numbers 2 == 1)
+event_of numbers bytes = event_of_kind (slice_index numbers 0) (slice_index numbers 1) (drop 3 numbers) bytes (slice_index numbers 2 == 1)
+
+-- the owner, the group and the mode
+abbrev pub rights : Rights → List ℕ
+rights r = r.owner ∷ r.group ∷ r.mode ∷ []

@@ -12,41 +12,41 @@ overwritten at bytes file = take at file ++ bytes ++ drop (at + length bytes) fi
 -- the bytes of the new file beside this one
 abbrev pub beside : List Event → List ℕ
 beside [] = []
-beside (wrote_beside bytes done ∷ earlier) = bytes
-beside (renamed done ∷ earlier) = []
+beside (wrote_beside mode bytes done ∷ earlier) = bytes
+beside (renamed old new done ∷ earlier) = []
 beside (e ∷ earlier) = beside earlier
 
 -- what a crash may leave of the new file: anything until it is synced
 abbrev pub beside_may_leave : List Event → List ℕ → Type 0
 beside_may_leave [] c = Unit {0}
-beside_may_leave (wrote_beside bytes done ∷ earlier) c = Unit {0}
-beside_may_leave (renamed done ∷ earlier) c = Unit {0}
+beside_may_leave (wrote_beside mode bytes done ∷ earlier) c = Unit {0}
+beside_may_leave (renamed old new done ∷ earlier) c = Unit {0}
 beside_may_leave (synced_beside true ∷ earlier) c = c ≡ beside earlier
 beside_may_leave (e ∷ earlier) c = beside_may_leave earlier c
 
 -- the bytes of the file
 abbrev pub seen : List Event → List ℕ
 seen [] = []
-seen (opened bytes ∷ earlier) = bytes
+seen (opened size bytes ∷ earlier) = bytes
 seen (wrote at bytes true ∷ earlier) = overwritten at bytes (seen earlier)
-seen (renamed true ∷ earlier) = beside earlier
+seen (renamed old new true ∷ earlier) = beside earlier
 seen (e ∷ earlier) = seen earlier
 
 -- what a crash may leave of the file: after a write that, or any bytes in the range; after a sync the file as it is
 abbrev pub file_may_leave : List Event → List ℕ → Type 0
 file_may_leave [] c = c ≡ []
-file_may_leave (opened bytes ∷ earlier) c = c ≡ bytes
+file_may_leave (opened size bytes ∷ earlier) c = c ≡ bytes
 file_may_leave (wrote at bytes done ∷ earlier) c = (c ≡ overwritten at bytes (seen earlier)) ⊎ ((d : List ℕ) × file_may_leave earlier d × Torn at (length bytes) d c)
 file_may_leave (synced true ∷ earlier) c = c ≡ seen earlier
-file_may_leave (renamed true ∷ earlier) c = beside_may_leave earlier c
+file_may_leave (renamed old new true ∷ earlier) c = beside_may_leave earlier c
 file_may_leave (e ∷ earlier) c = file_may_leave earlier c
 
 -- what a crash may leave of another file that may still have the name on the disk, or have it already: none once the folder is synced
 abbrev pub other_may_leave : List Event → List ℕ → Type 0
 other_may_leave [] c = ⊥
-other_may_leave (opened bytes ∷ earlier) c = ⊥
-other_may_leave (renamed true ∷ earlier) c = file_may_leave earlier c ⊎ other_may_leave earlier c
-other_may_leave (renamed false ∷ earlier) c = beside_may_leave earlier c ⊎ other_may_leave earlier c
+other_may_leave (opened size bytes ∷ earlier) c = ⊥
+other_may_leave (renamed old new true ∷ earlier) c = file_may_leave earlier c ⊎ other_may_leave earlier c
+other_may_leave (renamed old new false ∷ earlier) c = beside_may_leave earlier c ⊎ other_may_leave earlier c
 other_may_leave (synced_folder true ∷ earlier) c = ⊥
 other_may_leave (e ∷ earlier) c = other_may_leave earlier c
 
@@ -61,12 +61,12 @@ left_since (e ∷ earlier) t c = may_leave (e ∷ earlier) c ⊎ ((t ≤ length 
 
 -- whether a call failed, or was refused
 abbrev pub is_fault : Event → Bool
-is_fault (opened bytes) = false
+is_fault (opened size bytes) = false
 is_fault (wrote at bytes done) = not done
 is_fault (synced done) = not done
-is_fault (wrote_beside bytes done) = not done
+is_fault (wrote_beside mode bytes done) = not done
 is_fault (synced_beside done) = not done
-is_fault (renamed done) = not done
+is_fault (renamed old new done) = not done
 is_fault (synced_folder done) = not done
 is_fault refused = true
 
@@ -75,9 +75,16 @@ abbrev pub faults : List Event → ℕ
 faults [] = 0
 faults (e ∷ earlier) = if is_fault e then faults earlier + 1 else faults earlier
 
--- it was opened, and nothing has happened since
+-- it was opened, as many bytes were read as the system tells that it has, and nothing has happened since
 abbrev pub IsFresh : List Event → Type 0
-IsFresh history = (bytes : List ℕ) × (history ≡ opened bytes ∷ [])
+IsFresh history = (bytes : List ℕ) × (history ≡ opened (length bytes) bytes ∷ [])
+
+-- a new file is made for its owner alone, and takes a name only from a file of the same owner, group and mode
+abbrev pub KeepsRights : List Event → Type 0
+KeepsRights [] = Unit {0}
+KeepsRights (wrote_beside mode bytes done ∷ earlier) = (mode ≡ 0o600) × KeepsRights earlier
+KeepsRights (renamed old new true ∷ earlier) = (old ≡ new) × KeepsRights earlier
+KeepsRights (e ∷ earlier) = KeepsRights earlier
 
 -- what a crash may leave now it may have left since any moment
 pub left_now : (history : List Event) (t : ℕ) (c : List ℕ) → t ≤ length history → may_leave history c → left_since history t c

@@ -26,15 +26,21 @@ pub enum OpenFault {
     /// The name ends as that of the new file of a checkpoint, which takes away what stands there. Only reading is open to it.
     #[error("its name ends in .new, as a new file beside another does")]
     NewName,
-    /// The name is too long for a new file beside it, whose name has four bytes more.
+    /// The name is too long for a new file beside it, whose name has up to 28 bytes more.
     #[error("its name is too long")]
     LongName,
     /// Somebody else has the file open, and there was to be no wait.
     #[error("it is in use")]
     Busy,
+    /// The system gave another number of bytes than it says that the file has. An empty read isn't an empty file.
+    #[error("the system gives other bytes than it says that there are")]
+    OtherSize,
     /// An allocation failed.
     #[error("out of memory")]
     NoMemory,
+    /// The file or its folder could not be synced. What is read then may not be on the disk.
+    #[error("{0}")]
+    Sync(io::Error),
     /// A call of the system failed.
     #[error("{0}")]
     Io(io::Error),

@@ -1,18 +1,21 @@
 //! A file on a disk. Each method makes the call that it notes, and notes it with its outcome.
-ghost use Rattle.std.specs.Prelude.{◌≡◌, ℕ, List, [], length, IfOk, IfSome, IsTrue};
+ghost use Rattle.std.specs.Prelude.{◌≡◌, ℕ, List, [], length, IfOk, Ok, IfSome, IsTrue};
 ghost use Rattle.dm_journal.specs.Device.{IsDurable};
-ghost use Rattle.dm_disk.specs.States.{seen, may_leave, file_may_leave, beside, beside_may_leave, other_may_leave, left_since, faults, IsFresh, left_now, left_only_now};
+ghost use Rattle.dm_disk.specs.States.{seen, may_leave, file_may_leave, beside, beside_may_leave, other_may_leave, left_since, faults, IsFresh, KeepsRights, left_now, left_only_now};
 
-use crate::beside::{take_name, write_new};
+use crate::beside::{NEW_MODE, NO_RIGHTS, NewFile, take_name, write_new};
 use crate::fault::OpenFault;
-use crate::opening::{Access, Lock, folder_of, open_locked, refuse_name, settle, stands_at};
+use crate::limit::{size_limit, write_within};
+use crate::opening::{
+    Access, Lock, folder_of, open_locked, read_whole, refuse_name, settle, stands_at,
+};
 use crate::record::Record;
+use crate::rehearsal::Rehearsal;
 use dm_journal::{Device, DeviceError};
 use std::alloc::Global;
 use std::fs::File;
-use std::io::{self, Read};
+use std::io;
 use std::marker::Model;
-use std::os::unix::fs::FileExt;
 
 // Which calls are made.
 #[derive(Clone, Copy, PartialEq, Eq)]
@@ -25,6 +28,13 @@ enum Phase {
     Stopped,
 }
 
+// Why a call failed, and whether it was a sync.
+#[derive(Clone, Copy)]
+struct Failure {
+    error: io::Error,
+    is_sync: bool,
+}
+
 /// A file on a disk, which is locked until it is dropped. Once a call has failed, every later one fails: open the file again.
 #[derive(Drop)]
 pub struct DiskFile {
@@ -32,20 +42,21 @@ pub struct DiskFile {
     file: File,
     folder: File,
     // Made by the last `write_beside`.
-    new_file: Option<File>,
+    new_file: Option<NewFile>,
     path: String,
-    new_path: String,
+    // How many bytes a file may have.
+    limit: u64,
     phase: Phase,
     // What was read, until it is handed out or the file is written.
     bytes: Option<Vec<u8>>,
-    error: Option<io::Error>,
+    failure: Option<Failure>,
     log: Record,
 }
 
 impl Model for DiskFile {
     ghost use Rattle.std.specs.Prelude.{◌≡◌, List, ℕ, IfSome};
     ghost use Rattle.dm_disk.specs.Events.{Event};
-    ghost use Rattle.dm_disk.specs.States.{seen, other_may_leave};
+    ghost use Rattle.dm_disk.specs.States.{seen, other_may_leave, KeepsRights};
     ghost use Rattle.dm_disk.specs.declared.file.Phase.TheVariants.{Ready};
 
     ghost Value = { List Event };
@@ -53,7 +64,8 @@ impl Model for DiskFile {
     ghost view = { λ d. d.log.events };
 
     ghost invariant = { λ d. IfSome d.bytes (λ bytes. bytes.items ≡ seen d.log.events)
-        × (d.phase ≡ Ready → (c : List ℕ) → other_may_leave d.log.events c → ⊥) };
+        × (d.phase ≡ Ready → (c : List ℕ) → other_may_leave d.log.events c → ⊥)
+        × KeepsRights d.log.events };
 }
 
 impl Device for DiskFile {
@@ -89,7 +101,11 @@ impl Device for DiskFile {
     fn write_at(&mut self, at: usize, bytes: &[u8]) -> Result<(), DeviceError> {
         self.bytes = None;
         if self.phase == Phase::Ready
-            && done(&mut self.error, self.file.write_all_at(bytes, at as u64)).is_some()
+            && done(
+                &mut self.failure,
+                write_within(self.limit, &self.file, bytes, at as u64),
+            )
+            .is_some()
         {
             self.log.wrote(at, bytes, true);
             return Ok(());
@@ -102,9 +118,9 @@ impl Device for DiskFile {
     /// It fails also where somebody has removed the file, or has put another in its place.
     fn sync(&mut self) -> Result<(), DeviceError> {
         if self.phase == Phase::Ready
-            && done(&mut self.error, self.file.sync_data()).is_some()
+            && sync_done(&mut self.failure, self.file.sync_data()).is_some()
             && done(
-                &mut self.error,
+                &mut self.failure,
                 stands_at(&self.rt, self.path.as_str(), &self.file),
             )
             .is_some()
@@ -120,15 +136,15 @@ impl Device for DiskFile {
     fn write_beside(&mut self, bytes: &[u8]) -> Result<(), DeviceError> {
         if self.phase == Phase::Ready
             && let Some(made) = done(
-                &mut self.error,
-                write_new(&self.rt, self.new_path.as_str(), &self.file, bytes),
+                &mut self.failure,
+                write_new(&self.rt, self.path.as_str(), &self.file, self.limit, bytes),
             )
         {
             self.new_file = Some(made);
-            self.log.wrote_beside(bytes, true);
+            self.log.wrote_beside(NEW_MODE, bytes, true);
             return Ok(());
         }
-        self.log.wrote_beside(bytes, false);
+        self.log.wrote_beside(NEW_MODE, bytes, false);
         self.phase = Phase::Stopped;
         Err(DeviceError::Failed)
     }
@@ -136,7 +152,7 @@ impl Device for DiskFile {
     fn sync_beside(&mut self) -> Result<(), DeviceError> {
         if self.phase == Phase::Ready
             && let Some(new_file) = &self.new_file
-            && done(&mut self.error, new_file.sync_all()).is_some()
+            && sync_done(&mut self.failure, new_file.file.sync_all()).is_some()
         {
             self.log.synced_beside(true);
             return Ok(());
@@ -150,30 +166,25 @@ impl Device for DiskFile {
         self.bytes = None;
         if self.phase == Phase::Ready
             && let Some(new_file) = self.new_file.take()
-            && done(
-                &mut self.error,
-                take_name(
-                    &self.rt,
-                    self.path.as_str(),
-                    self.new_path.as_str(),
-                    &self.file,
-                    &new_file,
-                ),
+            && let Some((old, new)) = done(
+                &mut self.failure,
+                take_name(&self.rt, self.path.as_str(), &self.file, &new_file),
             )
-            .is_some()
         {
-            self.file = new_file;
+            self.file = new_file.file;
             self.phase = Phase::Renamed;
-            self.log.renamed(true);
+            self.log.renamed(old, new, true);
             return Ok(());
         }
-        self.log.renamed(false);
+        self.log.renamed(NO_RIGHTS, NO_RIGHTS, false);
         self.phase = Phase::Stopped;
         Err(DeviceError::Failed)
     }
 
     fn sync_folder(&mut self) -> Result<(), DeviceError> {
-        if self.phase != Phase::Stopped && done(&mut self.error, self.folder.sync_all()).is_some() {
+        if self.phase != Phase::Stopped
+            && sync_done(&mut self.failure, self.folder.sync_all()).is_some()
+        {
             self.log.synced_folder(true);
             self.phase = Phase::Ready;
             return Ok(());
@@ -187,7 +198,8 @@ impl Device for DiskFile {
 impl DiskFile {
     /// Opens and locks a file, and reads it. It is synced before, with its folder, so that what is read is on the disk.
     ///
-    /// A new file that a checkpoint writes has the path with `.new` behind; what stands there is removed.
+    /// A new file that a checkpoint writes has the path with the number of the file's inode and `.new` behind. What a checkpoint
+    /// that was cut short has left there is removed.
     pub fn open(
         rt: &HostRuntime,
         path: &str,
@@ -197,32 +209,60 @@ impl DiskFile {
         ensures fresh { IfOk result IsFresh }
         ensures durable { IfOk result (IsDurable seen may_leave file_may_leave) }
     {
-        let new_path = format!(in rt.alloc(); "{path}.new")?;
-        refuse_name(rt, path, new_path.as_str(), access)?;
+        refuse_name(rt, path, access)?;
+        let limit = size_limit(rt)?;
         let mut file = open_locked(rt, path, access, lock)?;
         let folder = File::open(rt, folder_of(path))?;
         settle(&file, &folder)?;
-        let mut bytes = Vec::new(rt.alloc());
-        file.read_to_end(&mut bytes)?;
+        let (size, bytes) = read_whole(rt, &mut file)?;
         let mut log = Record::new();
-        log.opened(&bytes);
+        log.opened(size, &bytes);
         Ok(DiskFile {
             rt: *rt,
             file,
             folder,
             new_file: None,
             path: path.to_string(rt.alloc())?,
-            new_path,
+            limit,
             phase: phase_of(access),
             bytes: Some(bytes),
-            error: None,
+            failure: None,
             log,
         })
     }
 
+    /// The same file as it was when it was opened, for a rehearsal: what is taken into it is written nowhere. `None` where the
+    /// bytes were handed out or written over. The lock is let go.
+    pub fn rehearse(self) -> Option<Rehearsal>
+        ensures seen { IfSome result (λ rehearsal. seen rehearsal ≡ seen self) }
+        ensures durable { IfSome result (IsDurable seen may_leave file_may_leave) }
+    {
+        let bytes = self.bytes?;
+        Some(Rehearsal::new(bytes))
+    }
+
     /// Why the first call that failed did, as the system says. `None` where all were done, or were refused.
     pub fn error(&self) -> Option<io::Error> {
-        self.error
+        match &self.failure {
+            Some(failure) => Some(failure.error),
+            None => None,
+        }
+    }
+
+    /// Whether the first call that failed was a sync. Then the system may show what isn't on the disk, also to whoever opens the
+    /// file next, until it is mounted anew.
+    pub fn failed_to_sync(&self) -> bool {
+        let Some(failure) = &self.failure else {
+            return false;
+        };
+        failure.is_sync
+    }
+
+    /// A new file was made for its owner alone, and took the name only from a file of the same owner, group and mode.
+    pub fn keeps_rights(&self)
+        ensures { KeepsRights self.now }
+    {
+        let _limit = self.limit;
     }
 
     /// Whether the file had no bytes when it was opened, and was neither read nor written since. Then nothing is lost where a
@@ -238,11 +278,30 @@ impl DiskFile {
 }
 
 // What a call gave. An error is kept.
-fn done<T: Drop>(kept: &mut Option<io::Error>, outcome: io::Result<T>) -> Option<T> {
+fn done<T: Drop>(kept: &mut Option<Failure>, outcome: io::Result<T>) -> Option<T>
+    ensures { IfSome result (λ value. outcome ≡ Ok value) }
+{
     match outcome {
         Ok(value) => Some(value),
         Err(error) => {
-            *kept = Some(error);
+            *kept = Some(Failure {
+                error,
+                is_sync: false,
+            });
+            None
+        }
+    }
+}
+
+// Whether a sync was done. An error is kept.
+fn sync_done(kept: &mut Option<Failure>, outcome: io::Result<()>) -> Option<()> {
+    match outcome {
+        Ok(()) => Some(()),
+        Err(error) => {
+            *kept = Some(Failure {
+                error,
+                is_sync: true,
+            });
             None
         }
     }

@@ -7,7 +7,8 @@
 //! # Proved
 //!
 //! Every clause of [`dm_journal::Device`], of that record. A file that was just opened is durable, as a store asks of it.
-//! No call fails without a fault in the record. The two functions of `record` are proved by hand, since they set what no
+//! No call fails without a fault in the record. As many bytes were read as the system told that there are. A new file was made
+//! for its owner alone, and took the name only from a file of the same owner, group and mode. The two functions of `record` are proved by hand, since they set what no
 //! memory holds.
 //!
 //! # Read from the code
@@ -22,6 +23,9 @@
 //! - What a read returns is what the last sync put on the disk. Where an earlier process was told that a sync failed, the
 //!   system may show what isn't there, and the sync at the opening doesn't tell.
 //! - A crash in the middle of a call leaves what it might have left before the call or after it.
+//! - What stands under the name of a new file, which has the number of the file's inode in it, is removed only where it is a
+//!   regular file of one name that nobody has locked. An access control list isn't kept: no call of the toolchain tells one.
+//! - No write goes past the limit on the size of files that `/proc/self/limits` tells.
 //! - Nobody else writes to the file. The lock holds off everybody who opens it by this crate; on a network's file system it
 //!   does what that promises.
 #![tactic(auto)]
@@ -29,10 +33,13 @@
 mod beside;
 mod fault;
 mod file;
+mod limit;
 mod notes;
 mod opening;
 mod record;
+mod rehearsal;
 
 pub use fault::OpenFault;
 pub use file::DiskFile;
 pub use opening::{Access, Lock};
+pub use rehearsal::Rehearsal;

@@ -1,7 +1,8 @@
 //! The events by name.
 ghost use Rattle.std.specs.Prelude.{◌≡◌, ◌∷◌};
-ghost use Rattle.dm_disk.specs.Events.{opened, wrote, synced, wrote_beside, synced_beside, renamed, synced_folder, refused};
+ghost use Rattle.dm_disk.specs.Events.{opened, wrote, synced, wrote_beside, synced_beside, renamed, synced_folder, refused, rights};
 
+use crate::beside::Rights;
 use crate::record::Record;
 
 const OPENED: u64 = 0;
@@ -21,11 +22,11 @@ const SYNCED_FOLDER: u64 = 6;
 const REFUSED: u64 = 7;
 
 impl Record {
-    // The file and its name are on the disk, and these bytes were read.
-    pub(crate) fn opened(&mut self, bytes: &[u8])
-        ensures { self.new.events ≡ opened bytes.now ∷ self.old.events }
+    // The file and its name are on the disk, these bytes were read, and the system told this size.
+    pub(crate) fn opened(&mut self, size: u64, bytes: &[u8])
+        ensures { self.new.events ≡ opened size bytes.now ∷ self.old.events }
     {
-        self.note(&[OPENED, 0, 1], bytes);
+        self.note(&[OPENED, size, 1], bytes);
     }
 
     // These bytes were written at this place.
@@ -42,11 +43,11 @@ impl Record {
         self.note(&[SYNCED, 0, u64::from(done)], &[]);
     }
 
-    // A new file of these bytes was written beside this one.
-    pub(crate) fn wrote_beside(&mut self, bytes: &[u8], done: bool)
-        ensures { self.new.events ≡ wrote_beside bytes.now done ∷ self.old.events }
+    // A new file was made beside this one with this mode, and these bytes were written to it.
+    pub(crate) fn wrote_beside(&mut self, mode: u32, bytes: &[u8], done: bool)
+        ensures { self.new.events ≡ wrote_beside mode bytes.now done ∷ self.old.events }
     {
-        self.note(&[WROTE_BESIDE, 0, u64::from(done)], bytes);
+        self.note(&[WROTE_BESIDE, u64::from(mode), u64::from(done)], bytes);
     }
 
     // The new file was synced.
@@ -56,11 +57,24 @@ impl Record {
         self.note(&[SYNCED_BESIDE, 0, u64::from(done)], &[]);
     }
 
-    // The new file was given the name.
-    pub(crate) fn renamed(&mut self, done: bool)
-        ensures { self.new.events ≡ renamed done ∷ self.old.events }
+    // The new file was given the name; the rights of the file, and its own.
+    pub(crate) fn renamed(&mut self, old: Rights, new: Rights, done: bool)
+        ensures { self.new.events ≡ renamed (rights old) (rights new) done ∷ self.old.events }
     {
-        self.note(&[RENAMED, 0, u64::from(done)], &[]);
+        self.note(
+            &[
+                RENAMED,
+                0,
+                u64::from(done),
+                u64::from(old.owner),
+                u64::from(old.group),
+                u64::from(old.mode),
+                u64::from(new.owner),
+                u64::from(new.group),
+                u64::from(new.mode),
+            ],
+            &[],
+        );
     }
 
     // The folder was synced.

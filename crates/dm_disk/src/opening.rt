@@ -5,11 +5,14 @@
 //! elsewhere, and begins anew. A file that is missing is first made with no bytes. Of two that make one at the same path, both
 //! find the same file, one gets the lock, and the other finds what the first has made of it. No sync is acknowledged, and no
 //! name is given, once somebody has removed the file or put another in its place.
+ghost use Rattle.std.specs.Prelude.{◌≡◌, length, IfOk};
+
+use crate::beside::longest_path;
 use crate::fault::OpenFault;
 use std::fs::{self, File, Metadata, OpenOptions, TryLockError};
-use std::io;
+use std::io::{self, Read};
 use std::os::fd::AsRawFd;
-use std::os::unix::fs::MetadataExt;
+use std::os::unix::fs::{MetadataExt, OpenOptionsExt};
 use std::path::Path;
 
 /// What a file is opened for.
@@ -31,6 +34,9 @@ pub enum Lock {
     /// Answer [`OpenFault::Busy`].
     Try,
 }
+
+// The mode of a file that is made where none stands, which the system narrows by the umask.
+const MODE: u32 = 0o666;
 
 // How often the name may lead to another file once the lock is there.
 const TRIES: usize = 1000;
@@ -68,7 +74,7 @@ fn find_or_make(rt: &HostRuntime, path: &str, access: Access) -> Result<Option<F
             if access != Access::Create {
                 return Err(OpenFault::Missing);
             }
-            match unless(io::ErrorKind::AlreadyExists, make(rt, path)) {
+            match unless(io::ErrorKind::AlreadyExists, make(rt, path, MODE)) {
                 Err(OpenFault::Io(error)) if error.kind() == io::ErrorKind::NotFound => {
                     Err(OpenFault::NoFolder)
                 }
@@ -88,21 +94,25 @@ fn unless(kind: io::ErrorKind, opened: io::Result<File>) -> Result<Option<File>,
     }
 }
 
-// A new file at the path, where nothing stands. It follows no link.
-fn make(rt: &HostRuntime, path: &str) -> io::Result<File> {
+// A new file of this mode at the path, where nothing stands. It follows no link.
+fn make(rt: &HostRuntime, path: &str, mode: u32) -> io::Result<File> {
     OpenOptions::new()
         .read(true)
         .write(true)
         .create_new(true)
+        .mode(mode)
         .open(rt, path)
 }
 
-// A new file at the path, where nothing stands, locked.
-pub(crate) fn make_locked(rt: &HostRuntime, path: &str) -> io::Result<File> {
-    let file = above_standard(make(rt, path)?)?;
+// A new file of this mode at the path, where nothing stands, locked.
+pub(crate) fn make_locked(rt: &HostRuntime, path: &str, mode: u32) -> io::Result<File> {
+    let file = above_standard(make(rt, path, mode)?)?;
     match file.try_lock() {
         Ok(()) => Ok(file),
-        Err(error) => Err(io::Error::from(error)),
+        Err(error) => {
+            let _ = fs::remove_file(rt, path);
+            Err(io::Error::from(error))
+        }
     }
 }
 
@@ -115,19 +125,14 @@ fn above_standard(file: File) -> io::Result<File> {
 }
 
 // Where the file is to be written, a new one beside it must be able to have its name.
-pub(crate) fn refuse_name(
-    rt: &HostRuntime,
-    path: &str,
-    new_path: &str,
-    access: Access,
-) -> Result<(), OpenFault> {
+pub(crate) fn refuse_name(rt: &HostRuntime, path: &str, access: Access) -> Result<(), OpenFault> {
     if access == Access::Read {
         return Ok(());
     }
     if path.ends_with(".new") {
         return Err(OpenFault::NewName);
     }
-    match fs::symlink_metadata(rt, new_path) {
+    match fs::symlink_metadata(rt, longest_path(rt, path)?.as_str()) {
         Err(error) if error.kind() == io::ErrorKind::InvalidFilename => Err(OpenFault::LongName),
         _ => Ok(()),
     }
@@ -162,7 +167,7 @@ fn take_lock(file: &File, access: Access, lock: Lock) -> Result<(), OpenFault> {
 }
 
 // Whether this file stands at the path.
-fn leads_to(rt: &HostRuntime, path: &str, file: &File) -> bool {
+pub(crate) fn leads_to(rt: &HostRuntime, path: &str, file: &File) -> bool {
     match (fs::symlink_metadata(rt, path), file.metadata()) {
         (Ok(named), Ok(held)) => named.dev() == held.dev() && named.ino() == held.ino(),
         _ => false,
@@ -186,7 +191,28 @@ pub(crate) fn folder_of(path: &str) -> &str {
 }
 
 // Syncs the file and its folder.
-pub(crate) fn settle(file: &File, folder: &File) -> io::Result<()> {
+pub(crate) fn settle(file: &File, folder: &File) -> Result<(), OpenFault> {
+    match sync_both(file, folder) {
+        Ok(()) => Ok(()),
+        Err(error) => Err(OpenFault::Sync(error)),
+    }
+}
+
+fn sync_both(file: &File, folder: &File) -> io::Result<()> {
     file.sync_all()?;
     folder.sync_all()
+}
+
+// All the bytes of a file, and how many the system says that it has. Where these differ, as an empty read of a file that isn't
+// empty, that is an error.
+pub(crate) fn read_whole(rt: &HostRuntime, file: &mut File) -> Result<(u64, Vec<u8>), OpenFault>
+    ensures { IfOk result (λ read. read.0 ≡ length read.1.items) }
+{
+    let mut bytes = Vec::new(rt.alloc());
+    file.read_to_end(&mut bytes)?;
+    let size = file.metadata()?.len();
+    if size != bytes.len() as u64 {
+        return Err(OpenFault::OtherSize);
+    }
+    Ok((size, bytes))
 }

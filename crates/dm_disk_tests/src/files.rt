@@ -10,8 +10,6 @@ const FOLDER: &str = "dm_disk_test";
 
 const PATH: &str = "dm_disk_test/mirror";
 
-const NEW: &str = "dm_disk_test/mirror.new";
-
 /// Whether a journal in a new file takes a text.
 fn makes(rt: &HostRuntime) -> bool {
     let Ok(file) = DiskFile::open(rt, PATH, Access::Create, Lock::Try) else {
@@ -73,9 +71,13 @@ fn a_journal_in_a_file_lasts(rt: HostRuntime) -> Result<(), Fail> {
     let _ = fs::remove_dir_all(&rt, FOLDER);
     fs::create_dir(&rt, FOLDER)?;
     assert!(rt; makes(&rt), "a journal is made, and takes a text");
-    // What an earlier checkpoint left is removed, and the link there isn't followed.
+    // A link where the new file is made stays, and isn't followed; what an earlier checkpoint left is removed.
+    let inode = fs::metadata(&rt, PATH)?.ino();
+    let link = format!(in rt.alloc(); "{PATH}.{inode}.new")?;
+    let left = format!(in rt.alloc(); "{PATH}.{inode}-1.new")?;
     fs::write(&rt, "dm_disk_test/other", b"kept".as_slice())?;
-    symlink(&rt, "other", NEW)?;
+    symlink(&rt, "other", link.as_str())?;
+    fs::write(&rt, left.as_str(), b"left".as_slice())?;
     fs::set_permissions(&rt, PATH, fs::Permissions::from_mode(0o640))?;
     assert!(rt;
         replaces(&rt),
@@ -85,6 +87,14 @@ fn a_journal_in_a_file_lasts(rt: HostRuntime) -> Result<(), Fail> {
     assert_eq!(rt;
         fs::read(&rt, "dm_disk_test/other")?.as_slice(),
         b"kept".as_slice()
+    );
+    assert!(rt;
+        fs::symlink_metadata(&rt, link.as_str()).is_ok(),
+        "the link stays"
+    );
+    assert!(rt;
+        fs::symlink_metadata(&rt, left.as_str()).is_err(),
+        "what was left is removed"
     );
     assert!(rt; reads(&rt), "it is read");
     assert!(rt; count(&rt) == Some(2), "it has two texts");
