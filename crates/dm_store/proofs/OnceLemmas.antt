@@ -1,5 +1,5 @@
 -- What was accepted brings nothing new to a later repository.
-use Rattle.std.proofs.Common.{◌≡◌, ◌≢◌, ◌⊎◌, inl, inr, ℕ, List, ◌∷◌, ◌++◌, refl, sym, subst, ap, ap₂, ◌∙◌}
+use Rattle.std.proofs.Common.{◌≡◌, ◌≢◌, ◌⊎◌, inl, inr, ℕ, List, [], ◌∷◌, ◌++◌, refl, sym, subst, ap, ap₂, ◌∙◌}
 use Rattle.std.specs.List.{Contains}
 use Rattle.std.proofs.lemmas.List.Elements.{Contains-append_left, Contains-append_right}
 use Rattle.dm_info.specs.PatchInfo.{PatchInfo}
@@ -12,12 +12,14 @@ use Rattle.dm_repo.specs.Merging.{MergeRectangle, bare, over}
 use Rattle.dm_repo.specs.Staircases.{Split, nothing, stays, yields}
 use Rattle.dm_repo.specs.Squares.{Placed, patches, PlacedCommutes, PlacedMerges}
 use Rattle.dm_repo.specs.Repositories.{Holds}
+use Rattle.dm_repo.specs.Sifting.{MergesUnder}
 use Rattle.dm_repo.specs.Weighing.{IsHeld, IsMergeOf, IsNothingNew}
 use Rattle.dm_repo.specs.declared.policy.Policy.{Policy}
-use Rattle.dm_repo.specs.declared.policy.Policy.TheVariants.{Refuse}
+use Rattle.dm_repo.specs.declared.policy.Policy.TheVariants.{Refuse, Skip}
 use Rattle.dm_repo.specs.declared.refusal.Refusal.TheVariants.{NoMemory}
 use Rattle.dm_repo.proofs.Members.{here, more, one_of, none_of, infos_of-append}
 use Rattle.dm_repo.proofs.Placed.{patches_placed}
+use Rattle.dm_repo.proofs.SiftLemmas.{policies_agree, some_new}
 use Rattle.dm_scratch.specs.declared.verdict.Verdict.{Verdict}
 use Rattle.dm_scratch.specs.declared.verdict.Verdict.TheVariants.{Taken, TakenSome, NothingNew, Malformed, Refused}
 use Rattle.dm_scratch.specs.Taking.{Takes, Reads, IsAccepted, bundle, malformed, no_memory}
@@ -58,10 +60,16 @@ held_last repo others i h = subst (λ (l : List PatchInfo). Contains l i) (sym (
 nothing_new_on : (repo others : List Patch) (b : Contents) → IsNothingNew repo b → IsNothingNew (repo ++ others) b
 nothing_new_on repo others b n = record { knows = λ i k. held_on repo others i (n.knows i k); all_held = λ i k. held_on repo others i (n.all_held i k) }
 
-merged_held : (repo : List Patch) (b : Contents) (merged : List Patch) → IsMergeOf repo b Refuse merged 0 → IsNothingNew (repo ++ merged) b
-merged_held repo b merged m =
+-- where nothing is skipped, what is merged keeps its names under both policies
+whole_names : (policy : Policy) (rest new merged : List Placed) → new ≢ [] → MergesUnder policy rest new merged 0 → infos_of (patches merged) ≡ infos_of (patches new)
+whole_names Refuse rest new merged some m = merge_names m.0.1
+whole_names Skip rest [] merged some m = absurd (some refl)
+whole_names Skip rest (n ∷ new) merged some m = merge_names ((policies_agree rest n new merged).1 m).0.1
+
+merged_held : (repo : List Patch) (b : Contents) (policy : Policy) (merged : List Patch) → IsMergeOf repo b policy merged 0 → IsNothingNew (repo ++ merged) b
+merged_held repo b policy merged m =
     let split = m.fits.bundle_split in
-    let names : infos_of merged ≡ infos_of (patches m.new) = ap (λ (l : List Patch). infos_of l) m.is_merged ∙ merge_names m.merge.0.1 in
+    let names : infos_of merged ≡ infos_of (patches m.new) = ap (λ (l : List Patch). infos_of l) m.is_merged ∙ whole_names policy m.rest m.new m.new' (some_new repo b split) m.merge in
     record {
       knows = λ i k. held_on repo merged i (split.repo_split.prerequisites.knows i k);
       all_held = λ i k. elim (held_or_new repo split.split i (subst (λ (l : List Patch). Contains (infos_of l) i) (sym (patches_placed 0 b.patches)) k)) [
@@ -76,16 +84,16 @@ has_nothing_new repo text b policy w last r n m t =
     taking_one standard repo text policy w NothingNew last repo m (λ e. absurd (subst (λ (v : Verdict). IsAccepted v) e tt)) t (bundle b r (n, refl))
 
 pub twice : TwiceIsOnce
-twice repo text (Taken count) after others ok (bundle b r t) policy w last m s =
-    let n = subst (λ (l : List Patch). IsNothingNew l b) (sym t.appended) (merged_held repo b t.merged t.is_merge) in
+twice repo text first (Taken count) after others ok (bundle b r t) policy w last m s =
+    let n = subst (λ (l : List Patch). IsNothingNew l b) (sym t.appended) (merged_held repo b first t.merged t.is_merge) in
     has_nothing_new (after ++ others) text b policy w last r (nothing_new_on after others b n) m s
-twice repo text (Taken count) after others ok (malformed f at e same) policy w last m s = absurd (subst (λ (v : Verdict). IsAccepted v) e tt)
-twice repo text (Taken count) after others ok (no_memory e same) policy w last m s = absurd (subst (λ (v : Verdict). IsAccepted v) e tt)
-twice repo text NothingNew after others ok (bundle b r t) policy w last m s =
+twice repo text first (Taken count) after others ok (malformed f at e same) policy w last m s = absurd (subst (λ (v : Verdict). IsAccepted v) e tt)
+twice repo text first (Taken count) after others ok (no_memory e same) policy w last m s = absurd (subst (λ (v : Verdict). IsAccepted v) e tt)
+twice repo text first NothingNew after others ok (bundle b r t) policy w last m s =
     let n = subst (λ (l : List Patch). IsNothingNew l b) (sym t.1) t.0 in
     has_nothing_new (after ++ others) text b policy w last r (nothing_new_on after others b n) m s
-twice repo text NothingNew after others ok (malformed f at e same) policy w last m s = absurd (subst (λ (v : Verdict). IsAccepted v) e tt)
-twice repo text NothingNew after others ok (no_memory e same) policy w last m s = absurd (subst (λ (v : Verdict). IsAccepted v) e tt)
-twice repo text (TakenSome count skipped) after others ok t policy w last m s = absurd ok
-twice repo text (Malformed fault) after others ok t policy w last m s = absurd ok
-twice repo text (Refused why) after others ok t policy w last m s = absurd ok
+twice repo text first NothingNew after others ok (malformed f at e same) policy w last m s = absurd (subst (λ (v : Verdict). IsAccepted v) e tt)
+twice repo text first NothingNew after others ok (no_memory e same) policy w last m s = absurd (subst (λ (v : Verdict). IsAccepted v) e tt)
+twice repo text first (TakenSome count skipped) after others ok t policy w last m s = absurd ok
+twice repo text first (Malformed fault) after others ok t policy w last m s = absurd ok
+twice repo text first (Refused why) after others ok t policy w last m s = absurd ok

@@ -21,9 +21,9 @@ KeepsOneRepo = (file : List ℕ) (a b : List Patch) → KeepsRepo file a → Kee
 abbrev pub KeepsOrHasBadEntry : Type 0
 KeepsOrHasBadEntry = (file : List ℕ) (repo : List Patch) (number : ℕ) → KeepsRepo file repo → HasBadEntry file number → ⊥
 
--- a text that was accepted where conflicts are refused brings nothing new to any later repository, under either policy, where memory doesn't run out
+-- a text that was accepted, under either policy, brings nothing new to any later repository, under either policy, where memory doesn't run out
 abbrev pub TwiceIsOnce : Type 0
-TwiceIsOnce = (repo : List Patch) (text : List ℕ) (v : Verdict) (after more : List Patch) → IsAccepted v → Takes repo text Refuse v after →
+TwiceIsOnce = (repo : List Patch) (text : List ℕ) (first : Policy) (v : Verdict) (after more : List Patch) → IsAccepted v → Takes repo text first v after →
     (policy : Policy) (w : Verdict) (last : List Patch) → w ≢ Refused NoMemory → Takes (after ++ more) text policy w last → (w ≡ NothingNew) × (last ≡ after ++ more)
 
 -- a text that stands for all patches of a repository, both within the limits for one's own, is taken into the empty repository, which leaves that repository

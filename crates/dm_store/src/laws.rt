@@ -11,8 +11,8 @@ pub fn a_file_keeps_one_repository()
     a_file_has_one_answer();
 }
 
-/// Where conflicts are refused, a bundle that was accepted and comes again, to any repository that begins with the patches
-/// which it left, brings nothing new.
+/// A bundle that was accepted, under either policy, and comes again, under either, to any repository that begins with the
+/// patches which it left, brings nothing new. One that was taken in part isn't accepted.
 pub fn twice_is_once()
     ensures { TwiceIsOnce }
 {}

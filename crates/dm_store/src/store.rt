@@ -63,10 +63,11 @@ impl<D: Device> Store<D> {
         }
     }
 
-    /// Puts a store of a repository in the place of the file, whatever is there, or nothing. At an error the device comes back;
-    /// [`WriteError::TooLong`] is told of a repository that is past [`dm_named::Limits::OWN`].
+    /// Makes a store of a repository of a file that has no bytes, or isn't there: no store is lost. At an error the device comes
+    /// back; [`WriteError::TooLong`] is told of a repository that is past [`dm_named::Limits::OWN`].
     pub fn create(alloc: Global, device: D, repo: Repo<Global>) -> Result<Store<D>, (WriteError, D)>
-        requires { IsDurable D.seen D.may_leave D.file_may_leave device }
+        requires durable { IsDurable D.seen D.may_leave D.file_may_leave device }
+        requires empty { D.seen device ≡ [] }
         ensures same { IfOk result (λ store. store.repo ≡ repo) }
         ensures stored { IfOk result (IsStored D.seen D.may_leave D.file_may_leave) }
 
@@ -95,6 +96,14 @@ impl<D: Device> Store<D> {
         ensures { result ≡ self.journal.device }
     {
         self.journal.device
+    }
+
+    /// The device, and the repository.
+    pub fn into_parts(self) -> (D, Repo<Global>)
+        ensures device { result.0 ≡ self.journal.device }
+        ensures repo { result.1 ≡ self.repo }
+    {
+        (self.journal.device, self.repo)
     }
 
     /// The repository.

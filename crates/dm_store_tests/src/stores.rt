@@ -45,8 +45,8 @@ fn a_store_is_opened_again(rt: HostRuntime) {
 
 /// Whether a store of two texts has the same patches when it is opened again after a checkpoint, and takes another text then.
 fn lasts_in_one_entry(alloc: Global) -> bool {
-    let Ok(mut store) = Store::create(alloc, Memory::new(alloc, Vec::new(alloc)), Repo::new(alloc))
-    else {
+    let file = Memory::new(alloc, Vec::new(alloc));
+    let Ok(mut store) = Store::create(alloc, file, Repo::new(alloc)) else {
         return false;
     };
     let Ok(false) = store.checkpoint(alloc) else {
