@@ -1,5 +1,5 @@
 -- What a text leaves that was taken.
-use Rattle.std.proofs.Common.{◌≡◌, ◌≢◌, ◌⊎◌, inl, inr, ⊎_elim, ℕ, List, sym, subst}
+use Rattle.std.proofs.Common.{◌≡◌, ◌≢◌, ◌⊎◌, inl, inr, ⊎_elim, ℕ, List, refl, sym, subst}
 use Rattle.dm_named.specs.Limits.{standard}
 use Rattle.dm_named.specs.Patches.{Patch}
 use Rattle.dm_repo.specs.declared.policy.Policy.{Policy}
@@ -14,7 +14,13 @@ use Rattle.dm_store.proofs.StoredLemmas.{at_rest, weakened}
 use Rattle.dm_store.specs.Entries.{entry_of}
 use Rattle.dm_store.specs.Keeping.{HasTaken, TakesText, KeepsRepo, KeepsWithOrWithout, CrashesKeep}
 use Rattle.dm_store.proofs.EntryLemmas.{one_entry}
-use Rattle.dm_deliver.specs.Answering.{KeepsEither}
+use Rattle.dm_deliver.specs.declared.hash_rule.HashRule.{HashRule}
+use Rattle.dm_deliver.specs.Hashes.{PassesRule}
+use Rattle.dm_deliver.specs.declared.answers.Answer.{Answer}
+use Rattle.dm_deliver.specs.declared.fault.AnswerError.{AnswerError}
+use Rattle.dm_deliver.specs.declared.fault.AnswerError.TheVariants.{Store as OfStore, NoMemory as NoRoom, Write as Unwritten}
+use Rattle.dm_deliver.specs.Answering.{Answers, KeepsEither, KeepsAnswered, LeavesUnanswered}
+use Rattle.dm_deliver.specs.Outputs.{Output}
 
 has_memory : (v : Verdict) → HasTaken v → v ≢ Refused NoMemory
 has_memory v taken e = absurd (subst (λ (w : Verdict). HasTaken w) e taken)
@@ -42,11 +48,27 @@ either_of : (repo : List Patch) (text : List ℕ) (policy : Policy) (v : Verdict
 either_of repo text policy v after taken takes c (inl k) = inl k
 either_of repo text policy v after taken takes c (inr k) = inr (subst (λ (r : List Patch). KeepsRepo c r) (one_after repo text policy v after k.0 taken takes k.1) k.2)
 
+-- why a text has no answer, before a line of it
+pub not_answered : (e : AnswerError) (repo : List Patch) (text : List ℕ) (policy : Policy) (rule : HashRule) (after : List Patch) (out : Output) →
+    (e ≡ NoRoom → (after ≡ repo) ⊎ ((answer : Answer) × Answers repo text policy rule answer after)) → e ≢ Unwritten → LeavesUnanswered e repo text policy rule after out out
+not_answered (OfStore why) repo text policy rule after out none only = refl
+not_answered NoRoom repo text policy rule after out none only = (none refl, refl)
+not_answered Unwritten repo text policy rule after out none only = absurd (only refl)
+
 module _ {D : Type 0} (moment : D → ℕ) (left_since : D → ℕ → List ℕ → Type 0) (may_leave : D → List ℕ → Type 0)
     (only_now : (device : D) (c : List ℕ) → left_since device (moment device) c → may_leave device c) where
   -- nothing was done
-  untaken : (journal : Journal D) (repo after : List Patch) → CrashesKeep may_leave journal.device repo → LeavesOnly moment left_since journal.device journal.device (KeepsEither repo after)
+  pub untaken : (journal : Journal D) (repo after : List Patch) → CrashesKeep may_leave journal.device repo → LeavesOnly moment left_since journal.device journal.device (KeepsEither repo after)
   untaken journal repo after keeps = at_rest moment left_since journal.device (KeepsEither repo after) (λ c left. inl (keeps c (only_now journal.device c left)))
+
+  pub unread : (journal : Journal D) (repo : List Patch) (text : List ℕ) (policy : Policy) (rule : HashRule) → CrashesKeep may_leave journal.device repo →
+      LeavesOnly moment left_since journal.device journal.device (KeepsAnswered repo text policy rule)
+  unread journal repo text policy rule keeps = at_rest moment left_since journal.device (KeepsAnswered repo text policy rule) (λ c left. inl (keeps c (only_now journal.device c left)))
+
+  -- the text was taken, since the rule refuses nothing of it
+  pub passed : (old new : D) (repo : List Patch) (text : List ℕ) (policy : Policy) (rule : HashRule) → PassesRule rule text →
+      LeavesOnly moment left_since old new (KeepsWithOrWithout repo text policy) → LeavesOnly moment left_since old new (KeepsAnswered repo text policy rule)
+  passed old new repo text policy rule passes run = weakened moment left_since old new (KeepsWithOrWithout repo text policy) (KeepsAnswered repo text policy rule) (λ c k. inr (passes, k)) run
 
   -- a crash leaves the repository from before it, or the one after it
   pub leaves_either : (old new : Journal D) (repo : List Patch) (text : List ℕ) (policy : Policy) (v : Verdict) (after : List Patch) → Takes repo text policy v after →

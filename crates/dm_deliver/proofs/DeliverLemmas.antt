@@ -1,90 +1,108 @@
 -- Texts that were delivered, and one more.
-use Rattle.std.proofs.Common.{◌≡◌, ◌∙◌, ◌⊎◌, ◌↔◌, ◌<◌, ◌^◌, inl, inr, length, ℕ, Bool, true, false, All, IsTrue, List, [], ◌∷◌, ◌++◌, Option, Some, refl, sym, subst, ap, append_assoc, append-nil, true≢false}
+use Rattle.std.proofs.Common.{◌≡◌, ◌∙◌, ◌⊎◌, ◌↔◌, ◌<◌, ◌^◌, inl, inr, length, map, ℕ, Bool, true, false, All, IsTrue, List, [], ◌∷◌, ◌++◌, Some, refl, sym, subst, ap, append_assoc, append-nil, true≢false}
 use Rattle.std.proofs.KnownBytes.{Appends-nil, Appends-trans}
 use Rattle.std.proofs.lemmas.Grind.{flat_map-append}
+use Rattle.std.proofs.lemmas.List.{map-append}
 use Rattle.std.proofs.lemmas.List.Elements.{All-nil, All-push, All-pop}
 use Rattle.std.specs.Io.KnownBytes.{Appends}
 use Rattle.dm_named.specs.Patches.{Patch}
 use Rattle.dm_repo.specs.declared.policy.Policy.{Policy}
-use Rattle.dm_scratch.specs.declared.verdict.Verdict.{Verdict}
 use Rattle.dm_scratch.specs.declared.verdict.Verdict.TheVariants.{NothingNew}
-use Rattle.dm_scratch.specs.Taking.{Takes, TakesEach, IsAccepted}
-use Rattle.dm_scratch.proofs.EachLemmas.{each_more}
 use Rattle.dm_journal.specs.declared.device.DeviceError.TheVariants.{Failed}
 use Rattle.dm_journal.specs.declared.fault.WriteError.TheVariants.{Device as WritingDevice, TooLong, Full}
 use Rattle.dm_journal.specs.Device.{LeavesOnly}
 use Rattle.dm_deliver.proofs.Runs.{followed}
-use Rattle.dm_store.specs.Keeping.{KeepsRepo, KeepsWithOrWithout, CrashesKeep}
+use Rattle.dm_store.specs.Keeping.{KeepsRepo, CrashesKeep}
 use Rattle.dm_store.specs.declared.store.Store.{Store}
 use Rattle.dm_store.proofs.StoredLemmas.{at_rest, weakened}
+use Rattle.dm_deliver.specs.declared.answers.Answer.{Answer}
+use Rattle.dm_deliver.specs.declared.answers.Answer.TheVariants.{Verdict}
 use Rattle.dm_deliver.specs.declared.fault.AnswerError.{AnswerError}
 use Rattle.dm_deliver.specs.declared.fault.AnswerError.TheVariants.{Store as OfStore}
-use Rattle.dm_deliver.specs.Answering.{verdict_line, KeepsEither, LeavesUnanswered}
+use Rattle.dm_deliver.specs.declared.hash_rule.HashRule.{HashRule}
+use Rattle.dm_deliver.specs.Answering.{answer_line, Answers, AnswersEach, IsAcceptedAnswer, KeepsEither, KeepsAnswered, LeavesUnanswered}
 use Rattle.dm_deliver.specs.Delivering.{lines_of, KeepsFirst, KeepsSome, Delivers, DeliversButLast}
+use Rattle.dm_deliver.specs.Outputs.{Output, Puts, PutsEach}
 use Rattle.dm_deliver.proofs.AnswerLemmas.{takes_of_entry}
 
--- the last of the verdicts has its line at the end
-lines_more : (vs : List Verdict) (v : Verdict) → lines_of (vs ++ v ∷ []) ≡ lines_of vs ++ verdict_line v
-lines_more vs v = flat_map-append verdict_line vs (v ∷ []) ∙ ap (λ (l : List ℕ). lines_of vs ++ l) (append-nil (verdict_line v))
+-- one text more is answered
+pub answers_more : (repo : List Patch) (texts : List (List ℕ)) (policy : Policy) (rule : HashRule) (answers : List Answer) (mid : List Patch) (text : List ℕ) (answer : Answer) (after : List Patch) →
+    AnswersEach repo texts policy rule answers mid → Answers mid text policy rule answer after → AnswersEach repo (texts ++ text ∷ []) policy rule (answers ++ answer ∷ []) after
+answers_more repo [] policy rule [] mid text answer after so_far last = (after, rw so_far at last, refl)
+answers_more repo [] policy rule (v ∷ vs) mid text answer after so_far last = absurd so_far
+answers_more repo (t ∷ ts) policy rule [] mid text answer after so_far last = absurd so_far
+answers_more repo (t ∷ ts) policy rule (v ∷ vs) mid text answer after so_far last = (so_far.0, so_far.1, answers_more so_far.0 ts policy rule vs mid text answer after so_far.2 last)
+
+-- one line more is written
+puts_more : (old : Output) (lines : List (List ℕ)) (mid : Output) (line : List ℕ) (new : Output) → PutsEach old lines mid → Puts mid new line → PutsEach old (lines ++ line ∷ []) new
+puts_more old [] mid line new so_far last = (new, rw so_far at last, refl)
+puts_more old (l ∷ ls) mid line new so_far last = (so_far.0, so_far.1, puts_more so_far.0 ls mid line new so_far.2 last)
+
+-- the last of the answers has its line at the end
+lines_more : (vs : List Answer) (v : Answer) → lines_of (vs ++ v ∷ []) ≡ lines_of vs ++ answer_line v
+lines_more vs v = flat_map-append answer_line vs (v ∷ []) ∙ ap (λ (l : List ℕ). lines_of vs ++ l) (append-nil (answer_line v))
 
 -- the first of them are the first of more
-first_of_more : (repo : List Patch) (texts : List (List ℕ)) (policy : Policy) (verdicts : List Verdict) (text : List ℕ) (v : Verdict) (c : List ℕ) → KeepsFirst repo texts policy verdicts c → KeepsFirst repo (texts ++ text ∷ []) policy (verdicts ++ v ∷ []) c
-first_of_more repo texts policy verdicts text v c k = record {
+first_of_more : (repo : List Patch) (texts : List (List ℕ)) (policy : Policy) (rule : HashRule) (answers : List Answer) (text : List ℕ) (v : Answer) (c : List ℕ) → KeepsFirst repo texts policy rule answers c → KeepsFirst repo (texts ++ text ∷ []) policy rule (answers ++ v ∷ []) c
+first_of_more repo texts policy rule answers text v c k = record {
   first = k.first;
   others = k.others ++ text ∷ [];
   made = k.made;
   to_make = k.to_make ++ v ∷ [];
   after = k.after;
   are_texts = ap (λ (l : List (List ℕ)). l ++ text ∷ []) k.are_texts ∙ append_assoc k.first k.others (text ∷ []);
-  are_verdicts = ap (λ (l : List Verdict). l ++ v ∷ []) k.are_verdicts ∙ append_assoc k.made k.to_make (v ∷ []);
+  are_answers = ap (λ (l : List Answer). l ++ v ∷ []) k.are_answers ∙ append_assoc k.made k.to_make (v ∷ []);
   takes = k.takes;
   keeps = k.keeps;
 }
 
 -- all of them are the first of them
-pub all_are_first : (repo : List Patch) (texts : List (List ℕ)) (policy : Policy) (verdicts : List Verdict) (after : List Patch) (c : List ℕ) → TakesEach repo texts policy verdicts after → KeepsRepo c after → KeepsFirst repo texts policy verdicts c
-all_are_first repo texts policy verdicts after c takes keeps = record {
+pub all_are_first : (repo : List Patch) (texts : List (List ℕ)) (policy : Policy) (rule : HashRule) (answers : List Answer) (after : List Patch) (c : List ℕ) → AnswersEach repo texts policy rule answers after → KeepsRepo c after → KeepsFirst repo texts policy rule answers c
+all_are_first repo texts policy rule answers after c takes keeps = record {
   first = texts;
   others = [];
-  made = verdicts;
+  made = answers;
   to_make = [];
   after = after;
   are_texts = sym (append-nil texts);
-  are_verdicts = sym (append-nil verdicts);
+  are_answers = sym (append-nil answers);
   takes = takes;
   keeps = keeps;
 }
 
 -- one text more, and the repository before it or after it
-either_is_first : (repo : List Patch) (texts : List (List ℕ)) (policy : Policy) (verdicts : List Verdict) (mid : List Patch) (text : List ℕ) (v : Verdict) (after : List Patch) →
-    TakesEach repo texts policy verdicts mid → Takes mid text policy v after → (c : List ℕ) → KeepsEither mid after c → KeepsFirst repo (texts ++ text ∷ []) policy (verdicts ++ v ∷ []) c
-either_is_first repo texts policy verdicts mid text v after takes last c (inl k) = first_of_more repo texts policy verdicts text v c (all_are_first repo texts policy verdicts mid c takes k)
-either_is_first repo texts policy verdicts mid text v after takes last c (inr k) =
-    all_are_first repo (texts ++ text ∷ []) policy (verdicts ++ v ∷ []) after c (each_more repo texts policy verdicts mid text v after takes last) k
+either_is_first : (repo : List Patch) (texts : List (List ℕ)) (policy : Policy) (rule : HashRule) (answers : List Answer) (mid : List Patch) (text : List ℕ) (v : Answer) (after : List Patch) →
+    AnswersEach repo texts policy rule answers mid → Answers mid text policy rule v after → (c : List ℕ) → KeepsEither mid after c → KeepsFirst repo (texts ++ text ∷ []) policy rule (answers ++ v ∷ []) c
+either_is_first repo texts policy rule answers mid text v after takes last c (inl k) = first_of_more repo texts policy rule answers text v c (all_are_first repo texts policy rule answers mid c takes k)
+either_is_first repo texts policy rule answers mid text v after takes last c (inr k) =
+    all_are_first repo (texts ++ text ∷ []) policy rule (answers ++ v ∷ []) after c (answers_more repo texts policy rule answers mid text v after takes last) k
+
+-- one text more, which isn't answered, and the repository before it
+before_last : (repo : List Patch) (texts : List (List ℕ)) (policy : Policy) (rule : HashRule) (answers : List Answer) (mid : List Patch) (text : List ℕ) →
+    AnswersEach repo texts policy rule answers mid → (c : List ℕ) → KeepsRepo c mid → KeepsFirst repo (texts ++ text ∷ []) policy rule answers c
+before_last repo texts policy rule answers mid text takes c keeps = record {
+  first = texts;
+  others = text ∷ [];
+  made = answers;
+  to_make = [];
+  after = mid;
+  are_texts = refl;
+  are_answers = sym (append-nil answers);
+  takes = takes;
+  keeps = keeps;
+}
 
 -- one text more, which isn't answered, and the repository before it or after it
-unanswered_is_first : (repo : List Patch) (texts : List (List ℕ)) (policy : Policy) (verdicts : List Verdict) (mid : List Patch) (text : List ℕ) →
-    TakesEach repo texts policy verdicts mid → (c : List ℕ) → KeepsWithOrWithout mid text policy c → (vs : List Verdict) × KeepsFirst repo (texts ++ text ∷ []) policy vs c
-unanswered_is_first repo texts policy verdicts mid text takes c (inl k) = (
-  verdicts,
-  record {
-    first = texts;
-    others = text ∷ [];
-    made = verdicts;
-    to_make = [];
-    after = mid;
-    are_texts = refl;
-    are_verdicts = sym (append-nil verdicts);
-    takes = takes;
-    keeps = k;
-  },
-)
-unanswered_is_first repo texts policy verdicts mid text takes c (inr k) =
-    let v = k.1.verdict in
-    (verdicts ++ v ∷ [], all_are_first repo (texts ++ text ∷ []) policy (verdicts ++ v ∷ []) k.0 c (each_more repo texts policy verdicts mid text v k.0 takes (takes_of_entry mid text policy k.0 k.1)) k.2)
+unanswered_is_first : (repo : List Patch) (texts : List (List ℕ)) (policy : Policy) (rule : HashRule) (answers : List Answer) (mid : List Patch) (text : List ℕ) →
+    AnswersEach repo texts policy rule answers mid → (c : List ℕ) → KeepsAnswered mid text policy rule c → (vs : List Answer) × KeepsFirst repo (texts ++ text ∷ []) policy rule vs c
+unanswered_is_first repo texts policy rule answers mid text takes c (inl k) = (answers, before_last repo texts policy rule answers mid text takes c k)
+unanswered_is_first repo texts policy rule answers mid text takes c (inr (passes, inl k)) = (answers, before_last repo texts policy rule answers mid text takes c k)
+unanswered_is_first repo texts policy rule answers mid text takes c (inr (passes, inr k)) =
+    let v = Verdict k.1.verdict in
+    (answers ++ v ∷ [], all_are_first repo (texts ++ text ∷ []) policy rule (answers ++ v ∷ []) k.0 c (answers_more repo texts policy rule answers mid text v k.0 takes (passes, takes_of_entry mid text policy k.0 k.1)) k.2)
 
--- all of the verdicts and one more
-all_more : (P : Verdict → Type 0) (all more : Bool) (vs : List Verdict) (v : Verdict) → (IsTrue all ↔ All P vs) →
+-- all of the answers and one more
+all_more : (P : Answer → Type 0) (all more : Bool) (vs : List Answer) (v : Answer) → (IsTrue all ↔ All P vs) →
     ((all ≡ true) × (IsTrue more ↔ P v)) ⊎ ((all ≡ false) × (more ≡ all)) → IsTrue more ↔ All P (vs ++ v ∷ [])
 all_more P all more vs v so_far (inl x) = (
   λ m. All-push P vs v (so_far.0 x.0) (x.1.0 m),
@@ -96,94 +114,98 @@ all_more P all more vs v so_far (inr x) = (
 )
 
 -- texts were delivered, and this says whether all were accepted
-abbrev pub Accepts : {D : Type 0} → (D → ℕ) → (D → ℕ → List ℕ → Type 0) → (List (List ℕ) → Type 0) → Policy → Store D → Store D → Option (List ℕ) → Option (List ℕ) → Bool → Type 0
-Accepts moment left_since Gave policy old new before now all = (d : Delivers moment left_since Gave policy old new before now) × (IsTrue all ↔ All IsAccepted d.verdicts)
+abbrev pub Accepts : {D : Type 0} → (D → ℕ) → (D → ℕ → List ℕ → Type 0) → (List (List ℕ) → Type 0) → Policy → HashRule → Store D → Store D → Output → Output → Bool → Type 0
+Accepts moment left_since Gave policy rule old new before now all = (d : Delivers moment left_since Gave policy rule old new before now) × (IsTrue all ↔ All IsAcceptedAnswer d.answers)
 
 module _ {D : Type 0} (moment : D → ℕ) (left_since : D → ℕ → List ℕ → Type 0) where
   -- nothing came yet
   pub begun : (may_leave : D → List ℕ → Type 0) (only_now : (device : D) (c : List ℕ) → left_since device (moment device) c → may_leave device c)
-      (Gave : List (List ℕ) → Type 0) (policy : Policy) (store : Store D) (out : Option (List ℕ)) → Gave [] → CrashesKeep may_leave store.journal.device store.repo.patches →
-      Accepts moment left_since Gave policy store store out out true
-  begun may_leave only_now Gave policy store out none keeps = (
+      (Gave : List (List ℕ) → Type 0) (policy : Policy) (rule : HashRule) (store : Store D) (out : Output) → Gave [] → CrashesKeep may_leave store.journal.device store.repo.patches →
+      Accepts moment left_since Gave policy rule store store out out true
+  begun may_leave only_now Gave policy rule store out none keeps = (
     record {
       texts = [];
-      verdicts = [];
+      answers = [];
       came = none;
       takes = refl;
-      lines = Appends-nil out;
-      any_moment = at_rest moment left_since store.journal.device (KeepsFirst store.repo.patches [] policy [])
-          (λ c left. all_are_first store.repo.patches [] policy [] store.repo.patches c refl (keeps c (only_now store.journal.device c left)));
+      lines = Appends-nil out.contents;
+      flushed = refl;
+      any_moment = at_rest moment left_since store.journal.device (KeepsFirst store.repo.patches [] policy rule [])
+          (λ c left. all_are_first store.repo.patches [] policy rule [] store.repo.patches c refl (keeps c (only_now store.journal.device c left)));
     },
-    (λ t. All-nil IsAccepted, λ h. refl),
+    (λ t. All-nil IsAcceptedAnswer, λ h. refl),
   )
 
-  -- one text more was taken, and its line written
-  pub one_more : (Gave Gives : List (List ℕ) → Type 0) (policy : Policy) (old mid new : Store D) (before out now : Option (List ℕ)) (all more : Bool)
-      (s : Accepts moment left_since Gave policy old mid before out all) (text : List ℕ) (v : Verdict) → Gives (s.0.texts ++ text ∷ []) →
-      Takes mid.repo.patches text policy v new.repo.patches → Appends out now (verdict_line v) →
+  -- one text more was answered, and its line written
+  pub one_more : (Gave Gives : List (List ℕ) → Type 0) (policy : Policy) (rule : HashRule) (old mid new : Store D) (before out now : Output) (all more : Bool)
+      (s : Accepts moment left_since Gave policy rule old mid before out all) (text : List ℕ) (v : Answer) → Gives (s.0.texts ++ text ∷ []) →
+      Answers mid.repo.patches text policy rule v new.repo.patches → Puts out now (answer_line v) →
       LeavesOnly moment left_since mid.journal.device new.journal.device (KeepsEither mid.repo.patches new.repo.patches) →
-      ((all ≡ true) × (IsTrue more ↔ IsAccepted v)) ⊎ ((all ≡ false) × (more ≡ all)) →
-      Accepts moment left_since Gives policy old new before now more
-  one_more Gave Gives policy old mid new before out now all more s text v came takes line run both =
+      ((all ≡ true) × (IsTrue more ↔ IsAcceptedAnswer v)) ⊎ ((all ≡ false) × (more ≡ all)) →
+      Accepts moment left_since Gives policy rule old new before now more
+  one_more Gave Gives policy rule old mid new before out now all more s text v came takes line run both =
       let d = s.0 in (
         record {
           texts = d.texts ++ text ∷ [];
-          verdicts = d.verdicts ++ v ∷ [];
+          answers = d.answers ++ v ∷ [];
           came = came;
-          takes = each_more old.repo.patches d.texts policy d.verdicts mid.repo.patches text v new.repo.patches d.takes takes;
-          lines = subst (λ (l : List ℕ). Appends before now l) (sym (lines_more d.verdicts v)) (Appends-trans before out now (lines_of d.verdicts) (verdict_line v) d.lines line);
-          any_moment = followed moment left_since old.journal.device mid.journal.device new.journal.device (KeepsFirst old.repo.patches (d.texts ++ text ∷ []) policy (d.verdicts ++ v ∷ []))
-              (weakened moment left_since old.journal.device mid.journal.device _ _ (first_of_more old.repo.patches d.texts policy d.verdicts text v) d.any_moment)
-              (weakened moment left_since mid.journal.device new.journal.device _ _ (either_is_first old.repo.patches d.texts policy d.verdicts mid.repo.patches text v new.repo.patches d.takes takes) run);
+          takes = answers_more old.repo.patches d.texts policy rule d.answers mid.repo.patches text v new.repo.patches d.takes takes;
+          lines = subst (λ (l : List ℕ). Appends before.contents now.contents l) (sym (lines_more d.answers v))
+              (Appends-trans before.contents out.contents now.contents (lines_of d.answers) (answer_line v) d.lines line.bytes);
+          flushed = subst (λ (l : List (List ℕ)). PutsEach before l now) (sym (map-append answer_line d.answers (v ∷ []))) (puts_more before (map answer_line d.answers) out (answer_line v) now d.flushed line);
+          any_moment = followed moment left_since old.journal.device mid.journal.device new.journal.device (KeepsFirst old.repo.patches (d.texts ++ text ∷ []) policy rule (d.answers ++ v ∷ []))
+              (weakened moment left_since old.journal.device mid.journal.device _ _ (first_of_more old.repo.patches d.texts policy rule d.answers text v) d.any_moment)
+              (weakened moment left_since mid.journal.device new.journal.device _ _ (either_is_first old.repo.patches d.texts policy rule d.answers mid.repo.patches text v new.repo.patches d.takes takes) run);
         },
-        all_more IsAccepted all more d.verdicts v s.1 both,
+        all_more IsAcceptedAnswer all more d.answers v s.1 both,
       )
 
   -- no text more
-  pub no_more : (Gave Gives : List (List ℕ) → Type 0) (policy : Policy) (old new : Store D) (before now : Option (List ℕ)) (all : Bool) (s : Accepts moment left_since Gave policy old new before now all) →
-      Gives s.0.texts → Accepts moment left_since Gives policy old new before now all
-  no_more Gave Gives policy old new before now all s came = (
+  pub no_more : (Gave Gives : List (List ℕ) → Type 0) (policy : Policy) (rule : HashRule) (old new : Store D) (before now : Output) (all : Bool) (s : Accepts moment left_since Gave policy rule old new before now all) →
+      Gives s.0.texts → Accepts moment left_since Gives policy rule old new before now all
+  no_more Gave Gives policy rule old new before now all s came = (
     record {
       texts = s.0.texts;
-      verdicts = s.0.verdicts;
+      answers = s.0.answers;
       came = came;
       takes = s.0.takes;
       lines = s.0.lines;
+      flushed = s.0.flushed;
       any_moment = s.0.any_moment;
     },
     s.1,
   )
 
   -- a crash leaves what some of them leave
-  pub keeps_some : (Gave : List (List ℕ) → Type 0) (policy : Policy) (old new : Store D) (before now : Option (List ℕ)) (d : Delivers moment left_since Gave policy old new before now) →
-      LeavesOnly moment left_since old.journal.device new.journal.device (KeepsSome Gave old.repo.patches policy)
-  keeps_some Gave policy old new before now d =
-      weakened moment left_since old.journal.device new.journal.device (KeepsFirst old.repo.patches d.texts policy d.verdicts) (KeepsSome Gave old.repo.patches policy) (λ c k. (d.texts, d.verdicts, d.came, k)) d.any_moment
+  pub keeps_some : (Gave : List (List ℕ) → Type 0) (policy : Policy) (rule : HashRule) (old new : Store D) (before now : Output) (d : Delivers moment left_since Gave policy rule old new before now) →
+      LeavesOnly moment left_since old.journal.device new.journal.device (KeepsSome Gave old.repo.patches policy rule)
+  keeps_some Gave policy rule old new before now d =
+      weakened moment left_since old.journal.device new.journal.device (KeepsFirst old.repo.patches d.texts policy rule d.answers) (KeepsSome Gave old.repo.patches policy rule) (λ c k. (d.texts, d.answers, d.came, k)) d.any_moment
 
   -- so it does after the last, which isn't answered
-  pub unanswered_keeps_some : (Gave Gives : List (List ℕ) → Type 0) (policy : Policy) (old mid new : Store D) (before out : Option (List ℕ)) (d : Delivers moment left_since Gave policy old mid before out)
-      (text : List ℕ) → Gives (d.texts ++ text ∷ []) → LeavesOnly moment left_since mid.journal.device new.journal.device (KeepsWithOrWithout mid.repo.patches text policy) →
-      LeavesOnly moment left_since old.journal.device new.journal.device (KeepsSome Gives old.repo.patches policy)
-  unanswered_keeps_some Gave Gives policy old mid new before out d text came run =
-      followed moment left_since old.journal.device mid.journal.device new.journal.device (KeepsSome Gives old.repo.patches policy)
-      (weakened moment left_since old.journal.device mid.journal.device (KeepsFirst old.repo.patches d.texts policy d.verdicts) (KeepsSome Gives old.repo.patches policy)
-      (λ c k. (d.texts ++ text ∷ [], d.verdicts ++ NothingNew ∷ [], came, first_of_more old.repo.patches d.texts policy d.verdicts text NothingNew c k)) d.any_moment)
-      (weakened moment left_since mid.journal.device new.journal.device (KeepsWithOrWithout mid.repo.patches text policy) (KeepsSome Gives old.repo.patches policy)
-      (λ c k. let u = unanswered_is_first old.repo.patches d.texts policy d.verdicts mid.repo.patches text d.takes c k in (d.texts ++ text ∷ [], u.0, came, u.1)) run)
+  pub unanswered_keeps_some : (Gave Gives : List (List ℕ) → Type 0) (policy : Policy) (rule : HashRule) (old mid new : Store D) (before out : Output) (d : Delivers moment left_since Gave policy rule old mid before out)
+      (text : List ℕ) → Gives (d.texts ++ text ∷ []) → LeavesOnly moment left_since mid.journal.device new.journal.device (KeepsAnswered mid.repo.patches text policy rule) →
+      LeavesOnly moment left_since old.journal.device new.journal.device (KeepsSome Gives old.repo.patches policy rule)
+  unanswered_keeps_some Gave Gives policy rule old mid new before out d text came run =
+      followed moment left_since old.journal.device mid.journal.device new.journal.device (KeepsSome Gives old.repo.patches policy rule)
+      (weakened moment left_since old.journal.device mid.journal.device (KeepsFirst old.repo.patches d.texts policy rule d.answers) (KeepsSome Gives old.repo.patches policy rule)
+      (λ c k. (d.texts ++ text ∷ [], d.answers ++ Verdict NothingNew ∷ [], came, first_of_more old.repo.patches d.texts policy rule d.answers text (Verdict NothingNew) c k)) d.any_moment)
+      (weakened moment left_since mid.journal.device new.journal.device (KeepsAnswered mid.repo.patches text policy rule) (KeepsSome Gives old.repo.patches policy rule)
+      (λ c k. let u = unanswered_is_first old.repo.patches d.texts policy rule d.answers mid.repo.patches text d.takes c k in (d.texts ++ text ∷ [], u.0, came, u.1)) run)
 
   -- all but the last are answered
-  pub but_last : (seen : D → List ℕ) (faults : D → ℕ) (Gave Gives : List (List ℕ) → Type 0) (policy : Policy) (error : AnswerError) (old mid new : Store D) (before out now : Option (List ℕ))
-      (d : Delivers moment left_since Gave policy old mid before out) (text : List ℕ) → Gives (d.texts ++ text ∷ []) →
-      LeavesUnanswered error mid.repo.patches text policy new.repo.patches out now →
-      LeavesOnly moment left_since mid.journal.device new.journal.device (KeepsWithOrWithout mid.repo.patches text policy) →
+  pub but_last : (seen : D → List ℕ) (faults : D → ℕ) (Gave Gives : List (List ℕ) → Type 0) (policy : Policy) (rule : HashRule) (error : AnswerError) (old mid new : Store D) (before out now : Output)
+      (d : Delivers moment left_since Gave policy rule old mid before out) (text : List ℕ) → Gives (d.texts ++ text ∷ []) →
+      LeavesUnanswered error mid.repo.patches text policy rule new.repo.patches out now →
+      LeavesOnly moment left_since mid.journal.device new.journal.device (KeepsAnswered mid.repo.patches text policy rule) →
       (error ≡ OfStore (WritingDevice Failed) → faults mid.journal.device < faults new.journal.device) → (error ≡ OfStore TooLong → ⊥) →
       (error ≡ OfStore Full → 2 ^ 62 < length (seen mid.journal.device)) →
-      DeliversButLast seen moment left_since faults Gives policy error old new before now
-  but_last seen faults Gave Gives policy error old mid new before out now d text came unanswered run failed fits full = record {
+      DeliversButLast seen moment left_since faults Gives policy rule error old new before now
+  but_last seen faults Gave Gives policy rule error old mid new before out now d text came unanswered run failed fits full = record {
     last = text;
     mid = mid;
     written = out;
-    delivered = record { texts = d.texts; verdicts = d.verdicts; came = came; takes = d.takes; lines = d.lines; any_moment = d.any_moment };
+    delivered = record { texts = d.texts; answers = d.answers; came = came; takes = d.takes; lines = d.lines; flushed = d.flushed; any_moment = d.any_moment };
     unanswered = unanswered;
     any_moment = run;
     failed = failed;

@@ -3,3 +3,5 @@ pub mod AnswerLemmas
 pub mod DeliverLemmas
 pub mod FrameLemmas
 pub mod LineLemmas
+pub mod LawLemmas
+pub mod HashLemmas

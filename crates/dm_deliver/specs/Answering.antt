@@ -1,19 +1,45 @@
 -- How one text is answered.
-use Rattle.std.specs.Prelude.{◌⊎◌, ℕ, List, take, Option}
-use Rattle.std.specs.Io.KnownBytes.{Appends, Keeps}
+use Rattle.std.specs.Prelude.{◌≡◌, ◌⊎◌, ℕ, List, [], ◌∷◌, ◌++◌, codes}
+use Rattle.std.specs.Fmt.{decimal}
 use Rattle.dm_named.specs.Patches.{Patch}
 use Rattle.dm_repo.specs.declared.policy.Policy.{Policy}
-use Rattle.dm_scratch.specs.declared.verdict.Verdict.{Verdict}
-use Rattle.dm_scratch.specs.Taking.{Takes}
+use Rattle.dm_scratch.specs.Taking.{Takes, IsAccepted}
 use Rattle.dm_scratch.specs.Words.{verdict_text}
 use Rattle.dm_scratch.specs.Printing.{line_of}
-use Rattle.dm_store.specs.Keeping.{KeepsRepo}
+use Rattle.dm_store.specs.Keeping.{KeepsRepo, KeepsWithOrWithout}
+use Rattle.dm_deliver.specs.declared.answers.Answer.{Answer}
+use Rattle.dm_deliver.specs.declared.answers.Answer.TheVariants.{Verdict, Hash}
 use Rattle.dm_deliver.specs.declared.fault.AnswerError.{AnswerError}
 use Rattle.dm_deliver.specs.declared.fault.AnswerError.TheVariants.{Store, NoMemory, Write}
+use Rattle.dm_deliver.specs.declared.hash_rule.HashRule.{HashRule}
+use Rattle.dm_deliver.specs.Hashes.{hash_word, HasHashFault, PassesRule}
+use Rattle.dm_deliver.specs.Outputs.{Output, Breaks}
 
--- the line of a verdict
-abbrev pub verdict_line : Verdict → List ℕ
-verdict_line verdict = line_of (verdict_text verdict)
+-- the text of an answer: that of its verdict, or of a bundle whose hash is refused
+abbrev pub answer_text : Answer → List ℕ
+answer_text (Verdict verdict) = verdict_text verdict
+answer_text (Hash fault) = codes "malformed " ++ (hash_word fault.kind ++ 32 ∷ decimal fault.at)
+
+-- the line of an answer
+abbrev pub answer_line : Answer → List ℕ
+answer_line answer = line_of (answer_text answer)
+
+-- the repository has all of the bundle's patches then
+abbrev pub IsAcceptedAnswer : Answer → Type 0
+IsAcceptedAnswer (Verdict verdict) = IsAccepted verdict
+IsAcceptedAnswer (Hash fault) = ⊥
+
+-- What answering a text does: where the rule refuses its hash, the repository stays as it was; else it is taken, with this verdict.
+abbrev pub Answers : List Patch → List ℕ → Policy → HashRule → Answer → List Patch → Type 0
+Answers repo text policy rule (Verdict verdict) after = PassesRule rule text × Takes repo text policy verdict after
+Answers repo text policy rule (Hash fault) after = HasHashFault rule text fault × (after ≡ repo)
+
+-- texts are answered under one policy and one rule, one after the other, each by the repository that the one before it left
+abbrev pub AnswersEach : List Patch → List (List ℕ) → Policy → HashRule → List Answer → List Patch → Type 0
+AnswersEach repo [] policy rule [] after = after ≡ repo
+AnswersEach repo (text ∷ texts) policy rule (answer ∷ answers) after =
+    (next : List Patch) × Answers repo text policy rule answer next × AnswersEach next texts policy rule answers after
+AnswersEach repo texts policy rule answers after = ⊥
 
 -- the error is the store's own
 abbrev pub IsOfStore : AnswerError → Type 0
@@ -21,22 +47,27 @@ IsOfStore (Store why) = Unit {0}
 IsOfStore NoMemory = ⊥
 IsOfStore Write = ⊥
 
--- the text was taken with some verdict, and the first so many bytes of its line were written
-abbrev pub TakesAndBegins : List Patch → List ℕ → Policy → List Patch → Option (List ℕ) → Option (List ℕ) → Type 0
-TakesAndBegins repo text policy after before now =
-    (verdict : Verdict) × (count : ℕ) × Takes repo text policy verdict after × Appends before now (take count (verdict_line verdict))
+-- the text has some answer, and a part of its line was written before a call of the writer failed
+abbrev pub AnswersAndBegins : List Patch → List ℕ → Policy → HashRule → List Patch → Output → Output → Type 0
+AnswersAndBegins repo text policy rule after before now =
+    (answer : Answer) × Answers repo text policy rule answer after × Breaks before now (answer_line answer)
 
--- the text was taken with some verdict, and nothing written
-abbrev pub TakesInSilence : List Patch → List ℕ → Policy → List Patch → Option (List ℕ) → Option (List ℕ) → Type 0
-TakesInSilence repo text policy after before now = (verdict : Verdict) × Takes repo text policy verdict after × Keeps before now
+-- the text wasn't read, or it has some answer; and no call of the writer was made
+abbrev pub AnswersInSilence : List Patch → List ℕ → Policy → HashRule → List Patch → Output → Output → Type 0
+AnswersInSilence repo text policy rule after before now =
+    ((after ≡ repo) ⊎ ((answer : Answer) × Answers repo text policy rule answer after)) × (now ≡ before)
 
--- what was done where a text has no answer: by an error of the store nothing was written, without memory for the line the text was taken, and by an
--- error of the writer a part of its line was written too
-abbrev pub LeavesUnanswered : AnswerError → List Patch → List ℕ → Policy → List Patch → Option (List ℕ) → Option (List ℕ) → Type 0
-LeavesUnanswered (Store why) repo text policy after before now = Keeps before now
-LeavesUnanswered NoMemory repo text policy after before now = TakesInSilence repo text policy after before now
-LeavesUnanswered Write repo text policy after before now = TakesAndBegins repo text policy after before now
+-- what was done where a text has no answer: by an error of the store no call of the writer was made, nor where memory ran out, before the text was
+-- taken or after; and by an error of the writer a part of its line was written, and a call of the writer failed
+abbrev pub LeavesUnanswered : AnswerError → List Patch → List ℕ → Policy → HashRule → List Patch → Output → Output → Type 0
+LeavesUnanswered (Store why) repo text policy rule after before now = now ≡ before
+LeavesUnanswered NoMemory repo text policy rule after before now = AnswersInSilence repo text policy rule after before now
+LeavesUnanswered Write repo text policy rule after before now = AnswersAndBegins repo text policy rule after before now
 
 -- the file keeps one of two repositories
 abbrev pub KeepsEither : List Patch → List Patch → List ℕ → Type 0
 KeepsEither old new file = KeepsRepo file old ⊎ KeepsRepo file new
+
+-- the file keeps this repository, or, where the rule refuses nothing of the text, the one that the text leaves when it is taken into it
+abbrev pub KeepsAnswered : List Patch → List ℕ → Policy → HashRule → List ℕ → Type 0
+KeepsAnswered repo text policy rule file = KeepsRepo file repo ⊎ (PassesRule rule text × KeepsWithOrWithout repo text policy file)

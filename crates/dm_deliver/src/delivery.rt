@@ -1,28 +1,68 @@
 //! Texts that come one after the other, each taken and answered.
-ghost use Rattle.std.specs.Prelude.{◌≡◌, ◌<◌, ◌^◌, ◌↔◌, All, length, IfOk, IfErr, OnOk, IsTrue};
-ghost use Rattle.std.specs.Io.KnownBytes.{Appends};
+ghost use Rattle.std.specs.Prelude.{◌≡◌, ◌≢◌, ◌⊎◌, ◌<◌, ◌^◌, ◌↔◌, All, length, IfOk, IfErr, OnOk, IsTrue};
 ghost use Rattle.dm_journal.specs.declared.device.DeviceError.TheVariants.{Failed};
 ghost use Rattle.dm_journal.specs.declared.fault.WriteError.TheVariants.{Device as WritingDevice, TooLong, Full};
 ghost use Rattle.dm_journal.specs.Device.{LeavesOnly};
-ghost use Rattle.dm_scratch.specs.Taking.{Takes, IsAccepted};
-ghost use Rattle.dm_store.specs.Keeping.{CrashesKeep, IsStored, KeepsWithOrWithout};
-ghost use Rattle.dm_deliver.specs.declared.fault.AnswerError.TheVariants.{Store as OfStore};
-ghost use Rattle.dm_deliver.specs.Answering.{verdict_line, IsOfStore, LeavesUnanswered, KeepsEither};
+ghost use Rattle.dm_store.specs.Keeping.{CrashesKeep, IsStored};
+ghost use Rattle.dm_deliver.specs.declared.answers.Answer.{Answer as Reply};
+ghost use Rattle.dm_deliver.specs.declared.fault.AnswerError.TheVariants.{Store as OfStore, NoMemory as NoRoom, Write as Unwritten};
+ghost use Rattle.dm_deliver.specs.Answering.{Answers, answer_line, IsAcceptedAnswer, IsOfStore, LeavesUnanswered, KeepsEither, KeepsAnswered};
 ghost use Rattle.dm_deliver.specs.Delivering.{Delivers, DeliversUntil, EndsStore, KeepsSome};
+ghost use Rattle.dm_deliver.specs.Outputs.{output, Puts};
 
+use crate::answers::{Answer, push_answer};
 use crate::fault::{AnswerError, DeliverError};
+use crate::hash_rule::{HashRule, hash_fault};
 use crate::line::write_line;
+use crate::observer::Observer;
 use crate::source::Source;
+use crate::watched::Watched;
 use dm_journal::Device;
 use dm_repo::{Policy, Refusal};
-use dm_scratch::{Verdict, push_verdict};
+use dm_scratch::Verdict;
 use dm_store::Store;
 use std::alloc::Global;
 use std::io::Write;
 
-/// Takes a text into a store, and then writes the line of its verdict and flushes the writer: a byte of the line is written only
-/// once each crash leaves a file that keeps what was taken. A refused bundle is answered too, but not one for which there was no
-/// memory: that says nothing of the bundle.
+// Takes a text into a store, where the rule refuses nothing of it.
+fn take_text<D: Device>(
+    alloc: Global,
+    store: &mut Store<D>,
+    text: &[u8],
+    policy: Policy,
+    rule: HashRule,
+) -> Result<Answer, AnswerError>
+    requires { IsStored D.seen D.may_leave D.file_may_leave store.old }
+
+    ensures answers { IfOk result (λ answer. Answers store.old.repo.patches text.now policy rule answer store.new.repo.patches) }
+    ensures no_memory { IfErr result (λ e. e ≡ NoRoom
+        → (store.new.repo.patches ≡ store.old.repo.patches) ⊎ ((answer : Reply) × Answers store.old.repo.patches text.now policy rule answer store.new.repo.patches)) }
+    ensures only { IfErr result (λ e. e ≢ Unwritten) }
+    ensures stored { OnOk result (IsStored D.seen D.may_leave D.file_may_leave store.new) }
+    ensures stored_err { IfErr result (λ e. ¬ IsOfStore e → IsStored D.seen D.may_leave D.file_may_leave store.new) }
+    ensures kept { OnOk result (CrashesKeep D.may_leave store.new.journal.device store.new.repo.patches) }
+    ensures kept_err { IfErr result (λ e. ¬ IsOfStore e → CrashesKeep D.may_leave store.new.journal.device store.new.repo.patches) }
+    ensures any_moment { LeavesOnly D.moment D.left_since store.old.journal.device store.new.journal.device
+        (KeepsAnswered store.old.repo.patches text.now policy rule) }
+    ensures either { OnOk result (LeavesOnly D.moment D.left_since store.old.journal.device store.new.journal.device
+        (KeepsEither store.old.repo.patches store.new.repo.patches)) }
+    ensures failed { IfErr result (λ e. e ≡ OfStore (WritingDevice Failed) → D.faults store.old.journal.device < D.faults store.new.journal.device) }
+    ensures not_too_long { IfErr result (λ e. e ≡ OfStore TooLong → ⊥) }
+    ensures full { IfErr result (λ e. e ≡ OfStore Full → 2 ^ 62 < length (D.seen store.old.journal.device)) }
+{
+    if let Some(fault) = hash_fault(alloc, text, rule)? {
+        return Ok(Answer::Hash(fault));
+    }
+    let verdict = store.take(alloc, text, policy)?;
+    if verdict == Verdict::Refused(Refusal::NoMemory) {
+        return Err(AnswerError::NoMemory);
+    }
+    Ok(Answer::Verdict(verdict))
+}
+
+/// Takes a text into a store, and then writes the line of its answer and flushes the writer: a byte of the line is written only
+/// once each crash leaves a file that keeps what was taken. A bundle whose hash the rule refuses is answered by that, and not
+/// taken. A refused bundle is answered too, but not one for which there was no memory: that says nothing of the bundle.
 ///
 /// After [`AnswerError::Store`] the file has the text or not: open it again. After the other errors the text was taken, whether
 /// or not its line came through, and the store can go on.
@@ -31,14 +71,17 @@ pub fn answer<D: Device, W: Write>(
     store: &mut Store<D>,
     text: &[u8],
     policy: Policy,
-    writer: &mut W,
-) -> Result<Verdict, AnswerError>
+    rule: HashRule,
+    writer: &mut Watched<W>,
+) -> Result<Answer, AnswerError>
     requires { IsStored D.seen D.may_leave D.file_may_leave store.old }
 
-    ensures takes { IfOk result (λ verdict. Takes store.old.repo.patches text.now policy verdict store.new.repo.patches) }
-    ensures line { IfOk result (λ verdict. Appends (W.contents writer.old) (W.contents writer.new) (verdict_line verdict)) }
-    ensures unanswered { IfErr result (λ e. LeavesUnanswered e store.old.repo.patches text.now policy store.new.repo.patches
-        (W.contents writer.old) (W.contents writer.new)) }
+    ensures answers { IfOk result (λ answer. Answers store.old.repo.patches text.now policy rule answer store.new.repo.patches) }
+
+    // The line is written, and then flushed. There is no answer only for a cause: `Write` where a call of the writer failed.
+    ensures line { IfOk result (λ answer. Puts (output W.contents writer.old) (output W.contents writer.new) (answer_line answer)) }
+    ensures unanswered { IfErr result (λ e. LeavesUnanswered e store.old.repo.patches text.now policy rule store.new.repo.patches
+        (output W.contents writer.old) (output W.contents writer.new)) }
 
     ensures stored { OnOk result (IsStored D.seen D.may_leave D.file_may_leave store.new) }
     ensures stored_err { IfErr result (λ e. ¬ IsOfStore e → IsStored D.seen D.may_leave D.file_may_leave store.new) }
@@ -47,7 +90,7 @@ pub fn answer<D: Device, W: Write>(
 
     // A crash at any moment of the call leaves a file that keeps the repository from before it, or the one that the text leaves.
     ensures any_moment { LeavesOnly D.moment D.left_since store.old.journal.device store.new.journal.device
-        (KeepsWithOrWithout store.old.repo.patches text.now policy) }
+        (KeepsAnswered store.old.repo.patches text.now policy rule) }
     ensures either { OnOk result (LeavesOnly D.moment D.left_since store.old.journal.device store.new.journal.device
         (KeepsEither store.old.repo.patches store.new.repo.patches)) }
 
@@ -56,38 +99,37 @@ pub fn answer<D: Device, W: Write>(
     ensures not_too_long { IfErr result (λ e. e ≡ OfStore TooLong → ⊥) }
     ensures full { IfErr result (λ e. e ≡ OfStore Full → 2 ^ 62 < length (D.seen store.old.journal.device)) }
 {
-    let verdict = store.take(alloc, text, policy)?;
-    if verdict == Verdict::Refused(Refusal::NoMemory) {
-        return Err(AnswerError::NoMemory);
-    }
+    let reply = take_text(alloc, store, text, policy, rule)?;
     let mut line = Vec::new(alloc);
-    push_verdict(verdict, &mut line)?;
+    push_answer(reply, &mut line)?;
     write_line(&line, writer)?;
-    Ok(verdict)
+    Ok(reply)
 }
 
-/// Takes the texts of a source into a store, in turn, and answers each by the line of its verdict once it stands on the disk. A
-/// bundle that is refused is answered, and the next is taken all the same. Returns whether all were accepted.
+/// Takes the texts of a source into a store, in turn, and answers each by its line once it stands on the disk. A bundle that is
+/// refused is answered, and the next is taken all the same. An observer looks on. Returns whether all were accepted.
 ///
 /// It stops at the first error. What was answered until then stands; after [`AnswerError::Store`]
 /// open the file again.
-pub fn deliver<D: Device, S: Source, W: Write>(
+pub fn deliver<D: Device, S: Source, O: Observer, W: Write>(
     alloc: Global,
     store: &mut Store<D>,
     source: &mut S,
     policy: Policy,
-    writer: &mut W,
+    rule: HashRule,
+    observer: &mut O,
+    writer: &mut Watched<W>,
 ) -> Result<bool, DeliverError<S::Error>>
     requires { IsStored D.seen D.may_leave D.file_may_leave store.old }
 
-    // All texts came, were taken in turn, and their lines written; and the result says whether all were accepted.
+    // All texts came, were answered in turn, and their lines written; and the result says whether all were accepted.
     ensures done { OnOk result (S.is_done source.new) }
-    ensures delivers { IfOk result (λ all. (d : Delivers D.moment D.left_since (λ texts. S.gave source.old texts source.new) policy store.old store.new
-        (W.contents writer.old) (W.contents writer.new)) × (IsTrue all ↔ All IsAccepted d.verdicts)) }
+    ensures delivers { IfOk result (λ all. (d : Delivers D.moment D.left_since (λ texts. S.gave source.old texts source.new) policy rule store.old store.new
+        (output W.contents writer.old) (output W.contents writer.new)) × (IsTrue all ↔ All IsAcceptedAnswer d.answers)) }
 
     // By an error, all texts that came, or all but the last.
     ensures delivers_until { IfErr result (λ e. DeliversUntil D.seen D.moment D.left_since D.faults (λ texts. S.gave source.old texts source.new) policy
-        e store.old store.new (W.contents writer.old) (W.contents writer.new)) }
+        rule e store.old store.new (output W.contents writer.old) (output W.contents writer.new)) }
 
     // Each crash from now on leaves a file that keeps what was taken.
     ensures stored { OnOk result (IsStored D.seen D.may_leave D.file_may_leave store.new) }
@@ -97,14 +139,17 @@ pub fn deliver<D: Device, S: Source, W: Write>(
 
     // A crash at any moment of the call leaves a file that keeps the repository after the first of the texts, some or all.
     ensures any_moment { LeavesOnly D.moment D.left_since store.old.journal.device store.new.journal.device
-        (KeepsSome (λ texts. S.gave source.old texts source.new) store.old.repo.patches policy) }
+        (KeepsSome (λ texts. S.gave source.old texts source.new) store.old.repo.patches policy rule) }
 {
     let mut all_accepted = true;
     loop {
         match source.next_text() {
             Ok(Some(text)) => {
-                let verdict = answer(alloc, store, &text, policy, writer)?;
-                all_accepted = all_accepted && verdict.is_accepted();
+                let bytes = text.as_slice();
+                observer.before(store.repo(), bytes, policy);
+                let reply = answer(alloc, store, bytes, policy, rule, writer)?;
+                observer.after(store.repo(), bytes, policy, reply);
+                all_accepted = all_accepted && reply.is_accepted();
             }
             Ok(None) => return Ok(all_accepted),
             Err(error) => return Err(DeliverError::Source(error)),

@@ -16,7 +16,8 @@ pub enum AnswerError {
     /// There was no memory to take the text, or it was taken and there was none for its line. Nothing of a line was written.
     #[error("out of memory")]
     NoMemory,
-    /// The text was taken, and the writer returned an error, or took no byte. A part of the line was written, perhaps all.
+    /// The text was taken, or its hash refused, and a call of the writer returned an error, or took no byte. A part of the line was
+    /// written, perhaps all.
     #[error("cannot write output")]
     Write,
 }

@@ -1,20 +1,31 @@
-//! Bundles that are delivered to a mirror that lasts: each text of a source is taken into a store, and answered by the line of
-//! its verdict once it stands on the disk. A source has its texts in memory ([`Batch`]), or takes them from a reader, each after a
-//! line with its length ([`Framed`]).
+//! Bundles that are delivered to a mirror that lasts: each text of a source is taken into a store, and answered by a line once
+//! it stands on the disk: that of its verdict, or, where a rule refuses the hash with which the bundle ends, that of this fault.
+//! A source has its texts in memory ([`Batch`]), or takes them from a reader, each after a line with its length ([`Framed`]).
+//! An [`Observer`] sees each text before it is taken and after it is answered.
 #![tactic(auto)]
 
+mod answers;
 mod batch;
+mod call_log;
 mod delivery;
 mod fault;
 mod frame_fault;
 mod framed;
+mod hash_rule;
+pub mod laws;
 mod line;
+mod observer;
 mod place;
 mod source;
+mod watched;
 
+pub use answers::{Answer, push_answer};
 pub use batch::Batch;
 pub use delivery::{answer, deliver};
 pub use fault::{AnswerError, DeliverError};
 pub use frame_fault::{FrameFault, FrameFaultKind};
 pub use framed::Framed;
+pub use hash_rule::{HashFault, HashFaultKind, HashRule, hash_fault};
+pub use observer::{Observer, Silent};
 pub use source::Source;
+pub use watched::Watched;

@@ -1,13 +1,14 @@
 use Rattle.std.proofs.Common.{List, ℕ, ◌↔◌, All, IsTrue}
-use Rattle.dm_scratch.specs.Taking.{IsAccepted}
 use Rattle.dm_store.specs.Keeping.{CrashesKeep, IsStored}
+use Rattle.dm_deliver.specs.Answering.{IsAcceptedAnswer}
 use Rattle.dm_deliver.specs.Delivering.{Delivers}
+use Rattle.dm_deliver.specs.Outputs.{output}
 use Rattle.dm_deliver.proofs.delivery.deliver.Given as goal
 
 abbrev pub invariant-loop-text : goal.invariant-loop-text
 invariant-loop-text g l =
-    ((d : Delivers g.D.Device.moment g.D.Device.left_since (λ (texts : List (List ℕ)). g.S.Source.gave l.fn.source texts l.source) l.fn.policy l.fn.store l.store
-    (g.W.Write.contents l.fn.writer) (g.W.Write.contents l.writer)) × (IsTrue l.all_accepted ↔ All IsAccepted d.verdicts)) ×
+    ((d : Delivers g.D.Device.moment g.D.Device.left_since (λ (texts : List (List ℕ)). g.S.Source.gave l.fn.source texts l.source) l.fn.policy l.fn.rule l.fn.store l.store
+    (output g.W.Write.contents l.fn.writer) (output g.W.Write.contents l.writer)) × (IsTrue l.all_accepted ↔ All IsAcceptedAnswer d.answers)) ×
     IsStored g.D.Device.seen g.D.Device.may_leave g.D.Device.file_may_leave l.store ×
     CrashesKeep g.D.Device.may_leave l.store.journal.device l.store.repo.patches
 
