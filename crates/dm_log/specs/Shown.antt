@@ -7,7 +7,7 @@ use Rattle.std.specs.Str.{chars, is_utf8}
 
 -- a byte as two digits
 abbrev pub digits : ℕ → List ℕ
-digits b = slice_index (codes "0123456789abcdef") (b / 16) ∷ slice_index (codes "0123456789abcdef") (b % 16) ∷ []
+digits b = slice_index (codes "0123456789abcdef") (b / 16 % 16) ∷ slice_index (codes "0123456789abcdef") (b % 16) ∷ []
 
 -- a backslash, an `x`, and the byte as two digits
 abbrev pub escape : ℕ → List ℕ

@@ -1,17 +1,27 @@
 //! The text of a log: what `darcs log` tells of each patch.
 //!
-//! [`push_entry`] appends an entry: the hash by which Darcs names the patch, its author, its date, its
-//! name and its log. The theorem of the crate is that this is `log_text` of the patch infos, byte for byte.
+//! [`write_entries`] writes the entries of a repository's patches, or of a bundle's new ones ([`Patches`]): the hash by which Darcs
+//! names the patch, its author, its date, its name and its log, and the patch's canonical text where that is asked for
+//! ([`LogOptions`]). [`write_context`] writes what `darcs log --context` prints, which `darcs send --context` reads. The theorem of
+//! the crate is what the text is, byte for byte.
 //!
 //! What a stranger wrote is shown by one rule. A text in UTF-8 stands as it is, but for control characters other than the
 //! tab, and for marks that end a line or turn the direction of writing: of these each byte is escaped, as `\x1b`. Of a text
-//! that isn't UTF-8 each byte past ASCII is escaped too. A backslash stands as it is.
+//! that isn't UTF-8 each byte past ASCII is escaped too. A backslash stands as it is. So no terminal acts on a log ([`laws`]).
+//! The canonical text of a patch, and a context, stand as they are: they are for a pipe.
 #![tactic(auto)]
 
+mod context;
 mod date;
 mod entry;
+pub mod laws;
 mod log;
+mod options;
+mod patches;
 mod shown;
 
+pub use context::write_context;
 pub use entry::push_entry;
-pub use log::write_log;
+pub use log::{write_entries, write_log};
+pub use options::LogOptions;
+pub use patches::Patches;

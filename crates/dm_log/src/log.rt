@@ -1,25 +1,90 @@
-//! The log of a repository.
-ghost use Rattle.std.specs.Prelude.{◌≡◌, IfOk};
+//! The log of a repository, or of a bundle.
+ghost use Rattle.std.specs.Prelude.{◌≡◌, ◌++◌, ◌<◌, ◌≤◌, length, IfOk, OnOk};
 ghost use Rattle.dm_bundle.specs.Patches.{infos_of};
 ghost use Rattle.dm_log.specs.Entries.{log_text};
+ghost use Rattle.dm_log.specs.Choices.{count_of, entries_text, long_entry, place_of};
 
 use crate::entry::push_entry;
+use crate::options::LogOptions;
+use crate::patches::Patches;
+use dm_named::{Named, push_named};
 use dm_repo::Repo;
 use std::alloc::{AllocError, Allocator};
 
+/// How many entries are shown.
+fn count_of(last: Option<usize>, all: usize) -> usize
+    ensures value { result ≡ count_of last all }
+    ensures few { result ≤ all }
+{
+    match last {
+        None => all,
+        Some(most) => most.min(all),
+    }
+}
+
+/// Where the entry that is shown at a place stands among all.
+fn place_of(reverse: bool, all: usize, count: usize, k: usize) -> usize
+    requires within { k < count }
+    requires few { count ≤ all }
+    ensures value { result ≡ place_of reverse all count k }
+    ensures within { result < all }
+{
+    if reverse {
+        all - 1 - k
+    } else {
+        all - count + k
+    }
+}
+
+/// Appends the entry of a patch, and its canonical text if that is asked for.
+fn push_long_entry<A: Allocator, B: Allocator + Copy>(
+    patch: &Named<A>,
+    verbose: bool,
+    out: &mut Vec<u8, B>,
+) -> Result<(), AllocError>
+    ensures { OnOk result (out.new.items ≡ out.old.items ++ long_entry verbose patch.now) }
+{
+    push_entry(patch.info(), out)?;
+    if verbose {
+        out.push(b'\n')?;
+        push_named(patch, out)?;
+    }
+    Ok(())
+}
+
+/// The entries that are chosen, with an empty line between each two; no text where there is none. The canonical text of a patch
+/// stands as it is, byte for byte, and is no text for a terminal.
+pub fn write_entries<B: Allocator + Copy, P: Patches>(
+    alloc: B,
+    patches: &P,
+    options: LogOptions,
+) -> Result<Vec<u8, B>, AllocError>
+    ensures { IfOk result (λ text. text.items ≡ entries_text options (P.patches patches.now)) }
+{
+    let all = patches.count();
+    let count = count_of(options.last, all);
+    let mut text = Vec::new(alloc);
+    for k in 0..count {
+        if k > 0 {
+            text.push(b'\n')?;
+        }
+        let i = place_of(options.reverse, all, count, k);
+        push_long_entry(patches.at(i), options.verbose, &mut text)?;
+    }
+    Ok(text)
+}
+
 /// The entries of a repository's patches, oldest first, with an empty line between each two; no text where there is no patch.
-pub fn write_log<A: Allocator, B: Allocator>(
+pub fn write_log<A: Allocator, B: Allocator + Copy>(
     alloc: B,
     repo: &Repo<A>,
 ) -> Result<Vec<u8, B>, AllocError>
     ensures { IfOk result (λ text. text.items ≡ log_text (infos_of repo.now.patches)) }
 {
-    let mut text = Vec::new(alloc);
-    for i in 0..repo.len() {
-        if i > 0 {
-            text.push(b'\n')?;
-        }
-        push_entry(repo.patch(i).info(), &mut text)?;
-    }
-    Ok(text)
+    let all = LogOptions {
+        last: None,
+        reverse: false,
+        verbose: false,
+    };
+    write_entries(alloc, repo, all)
 }

@@ -13,7 +13,7 @@ const DIGITS: &[u8; 16] = b"0123456789abcdef";
 pub(crate) fn push_digits<A: Allocator>(byte: u8, out: &mut Vec<u8, A>) -> Result<(), AllocError>
     ensures { OnOk result (out.new.items ≡ out.old.items ++ digits byte) }
 {
-    out.push(DIGITS[(byte / 16) as usize])?;
+    out.push(DIGITS[(byte / 16 % 16) as usize])?;
     out.push(DIGITS[(byte % 16) as usize])?;
     Ok(())
 }

@@ -1,10 +1,7 @@
-use Rattle.std.proofs.Common.{inl, inr, ap, ◌∙◌, arith}
-use Rattle.dm_log.proofs.LogLemmas.{log_turn}
+use Rattle.std.proofs.Common.{◌∙◌}
+use Rattle.std.proofs.lemmas.Result.{IfOk-weaker}
+use Rattle.dm_log.proofs.LogLemmas.{log_all}
 use Rattle.dm_log.proofs.log.write_log.Goals as goal
-use Rattle.dm_log.proofs.log.write_log.Goals.{then-i-gt0+in_ok-push, else-i-gt0}
 
-pub loop-i-preserved : goal.loop-i-preserved
-loop-i-preserved g c =
-    log_turn c.args.repo.now.patches c.loop-i.i c.patch.result.now c.loop-i.text.items c.if-i-gt0.text.items c.push_entry.new.out.items c.patch.ensures c.loop-i.invariant
-    (elim c.if-i-gt0.branch [ then-i-gt0+in_ok-push w ↦ inl (w.if-i-gt0.true, ap (λ v. v.items) w.text-is ∙ w.in_ok-push.ensures.items) | else-i-gt0 w ↦ inr (omega (arith, w.if-i-gt0.false), ap (λ v. v.items) w.text-is) ])
-    (rw c.info.ensures at c.in_ok-push_entry.ensures)
+pub returns : goal.returns
+returns g c = IfOk-weaker c.write_entries.result _ _ (λ text e. e ∙ log_all c.args.repo.now.patches) c.write_entries.ensures
