@@ -3,13 +3,13 @@ use Rattle.std.proofs.Common.{◌≡◌, ◌≢◌, ◌<◌, ℕ, Bool, true, fa
 use Rattle.std.proofs.lemmas.List.{append-nil}
 use Rattle.std.proofs.lemmas.Bool.{false≢true}
 use Rattle.std.specs.Prelude.{Option, codes}
-use Rattle.std.specs.List.{AllByRecursion, flat_map, list_any, onto_first, slice_split}
+use Rattle.std.specs.List.{AllByRecursion, flat_map, list_any, slice_split}
 use Rattle.dm_tree.specs.Paths.{Name, Path}
-use Rattle.dm_tree.specs.Validity.{IsValidPath, is_bad_name, is_name, names_fault}
+use Rattle.dm_tree.specs.Validity.{is_bad_name, is_name, names_fault}
 use Rattle.dm_tree.specs.declared.fault.PathFault.{PathFault}
 use Rattle.dm_tree.specs.declared.fault.PathFault.TheVariants as path
 use Rattle.dm_tree.proofs.ValidityLemmas.{valid_parts}
-use Rattle.dm_checkout.specs.Places.{EachStaysInside, IsStepDown, StaysInside, is_slash, place_text}
+use Rattle.dm_checkout.specs.Places.{EachStaysInside, IsStepDown, is_slash}
 
 left_false : (a b : Bool) → (a || b) ≡ false → a ≡ false
 left_false true b e = e

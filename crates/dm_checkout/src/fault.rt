@@ -1,4 +1,7 @@
 //! Why a tree was not written.
+ghost use Rattle.std.specs.Prelude.{◌≡◌};
+ghost use Rattle.dm_checkout.specs.declared.fault.CheckoutFault.TheVariants.{NoMemory};
+
 use bstr::BStr;
 use std::alloc::AllocError;
 use std::fmt::{self, Display, Formatter, Write};
@@ -20,17 +23,36 @@ impl Display for Place {
     }
 }
 
+/// Why a folder can't be taken for a checkout.
+#[derive(Drop)]
+pub enum FolderFault {
+    /// Its path has something else than a folder, as a file or a symbolic link.
+    NotFolder,
+    /// It has something in it.
+    NotEmpty,
+    /// It can't be read or made.
+    Unusable(io::Error),
+}
+
+impl Display for FolderFault {
+    fn fmt<W: Write>(&self, f: &mut Formatter<W>) -> fmt::Result {
+        match self {
+            FolderFault::NotFolder => f.write_str("not a folder"),
+            FolderFault::NotEmpty => f.write_str("the folder isn't empty"),
+            FolderFault::Unusable(error) => write!(f, "cannot make the folder: {error}"),
+        }
+    }
+}
+
 /// Why a tree was not written, or not all of it.
 #[derive(Drop)]
 pub enum CheckoutFault {
-    /// The folder's path has something else than a folder, as a file or a symbolic link. Nothing was written.
-    NotFolder,
-    /// The folder has something in it. Nothing was written.
-    NotEmpty,
-    /// The folder can't be read or made. Nothing was written.
-    Folder(io::Error),
+    /// These paths have a name that other programs obey. Nothing was written.
+    UnsafeNames(Vec<Place>),
     /// The path of this entry is no UTF-8. Nothing was written.
     NotUtf8(Place),
+    /// The folder can't be taken. Nothing was written.
+    Folder(FolderFault),
     /// This place can't be written. What was written before it stays, and a part of the file may.
     Unwritten(Place, io::Error),
     /// Memory ran out. What was written before stays.
@@ -38,6 +60,8 @@ pub enum CheckoutFault {
 }
 
 impl From<AllocError> for CheckoutFault {
+    ghost from_gives = { λ _ fault. fault ≡ NoMemory };
+
     fn from(_error: AllocError) -> Self {
         CheckoutFault::NoMemory
     }
@@ -46,10 +70,9 @@ impl From<AllocError> for CheckoutFault {
 impl Display for CheckoutFault {
     fn fmt<W: Write>(&self, f: &mut Formatter<W>) -> fmt::Result {
         match self {
-            CheckoutFault::NotFolder => f.write_str("not a folder"),
-            CheckoutFault::NotEmpty => f.write_str("the folder isn't empty"),
-            CheckoutFault::Folder(error) => write!(f, "cannot make the folder: {error}"),
+            CheckoutFault::UnsafeNames(_) => f.write_str("it has names that other programs obey"),
             CheckoutFault::NotUtf8(place) => write!(f, "the path {place} isn't UTF-8"),
+            CheckoutFault::Folder(fault) => write!(f, "{fault}"),
             CheckoutFault::Unwritten(place, error) => {
                 write!(
                     f,

@@ -1,13 +1,20 @@
-//! Writing a tree to a new folder. Nothing here is proved but that it is safe and ends: what is written, and where, is
-//! `item_of`'s.
+//! Writing a tree to a new folder.
+ghost use Rattle.std.specs.Prelude.{◌≡◌, [], ◌∷◌, ◌++◌, List, length, map, IfOk, IfErr, OnOk, OnErr};
+ghost use Rattle.std.specs.List.{filter};
+ghost use Rattle.dm_tree.specs.Listings.{listed_entry};
+ghost use Rattle.dm_checkout.specs.declared.names.Names.TheVariants.{Safe};
+ghost use Rattle.dm_checkout.specs.Names.{has_obeyed};
+ghost use Rattle.dm_checkout.specs.Made.{Made, Taken, IsBegun, made_all, made_of, rows};
+ghost use Rattle.dm_checkout.specs.Faults.{HasFault, IsAllowed, IsFolderFault, IsNamesFault, IsPartOf, IsUtf8Fault, IsWriteFault, made_item};
+
+use crate::disk::Disk;
 use crate::fault::{CheckoutFault, Place};
 use crate::item::{Content, Item, item_of};
+use crate::names::{Names, unsafe_places};
 use crate::place::place_of;
 use dm_tree::{Listed, Path, Tree};
-use std::alloc::{AllocError, Allocator, Global};
-use std::fs::{self, File};
-use std::io::{self, ErrorKind, Write};
-use std::rt::Runtime;
+use std::alloc::{Allocator, Global};
+use std::io::{self, ErrorKind};
 use std::str;
 
 /// Who is told how far a checkout is.
@@ -25,28 +32,52 @@ impl Progress for () {
 /// were written. After an error what was written before it stays.
 ///
 /// Nobody else may write in the folder meanwhile: a folder that another process puts a link in place of is followed.
-pub fn checkout<R: Runtime + AllocGlobal, A: Allocator, P: Progress>(
-    rt: &R,
+pub fn checkout<D: Disk, A: Allocator, P: Progress>(
+    alloc: Global,
+    disk: &mut D,
     tree: &Tree<A>,
     folder: &str,
+    names: Names,
     progress: &mut P,
-) -> Result<usize, CheckoutFault> {
-    let folder = folder.trim_end_matches('/');
-    let rows = tree.listing(rt.alloc())?;
-    for row in &rows {
-        require_utf8(rt.alloc(), &row.path)?;
-    }
-    take_folder(rt, folder)?;
-    for (written, row) in rows.iter().enumerate() {
-        let item = item_of(rt.alloc(), tree, folder, &row.path)?;
-        write_item(rt, item)?;
-        progress.wrote(written + 1, rows.len());
-    }
+) -> Result<usize, CheckoutFault>
+    ensures made { IfOk result (λ _. D.made disk.new ≡ D.made disk.old ++ made_all folder.now tree.now) }
+    ensures count { IfOk result (λ count. count ≡ length (rows tree.now)) }
+    ensures allowed { IfOk result (λ _. IsAllowed names tree.now) }
+    ensures fault { IfErr result (HasFault names folder.now tree.now (D.made disk.old) (D.made disk.new)) }
+{
+    let rows = tree.listing(alloc)?;
+    require_names(alloc, names, &rows)?;
+    require_all_utf8(alloc, &rows)?;
+    take(disk, folder)?;
+    write_rows(alloc, disk, tree, folder, &rows, progress)?;
     Ok(rows.len())
 }
 
+/// Refuses a tree with a name that other programs obey, where such names aren't asked for.
+fn require_names<A: Allocator>(
+    alloc: Global,
+    names: Names,
+    rows: &[Listed<A>],
+) -> Result<(), CheckoutFault>
+    ensures ok { OnOk result (names ≡ Safe → filter has_obeyed (map (λ row. row.path) rows.now) ≡ []) }
+    ensures err { IfErr result (IsNamesFault names (filter has_obeyed (map (λ row. row.path) rows.now))) }
+{
+    match names {
+        Names::All => Ok(()),
+        Names::Safe => {
+            let places = unsafe_places(alloc, rows)?;
+            if places.is_empty() {
+                return Ok(());
+            }
+            Err(CheckoutFault::UnsafeNames(places))
+        }
+    }
+}
+
 /// Refuses a path that is no UTF-8.
-fn require_utf8<A: Allocator>(alloc: Global, path: &Path<A>) -> Result<(), CheckoutFault> {
+fn require_utf8<A: Allocator>(alloc: Global, path: &Path<A>) -> Result<(), CheckoutFault>
+    ensures { IfErr result IsUtf8Fault }
+{
     for i in 0..path.len() {
         if str::from_utf8(path.part(i)).is_err() {
             let bytes = place_of(alloc, "", path)?;
@@ -56,47 +87,72 @@ fn require_utf8<A: Allocator>(alloc: Global, path: &Path<A>) -> Result<(), Check
     Ok(())
 }
 
-/// Makes the folder, or sees that it is there and empty.
-fn take_folder<R: Runtime + AllocGlobal>(rt: &R, folder: &str) -> Result<(), CheckoutFault> {
-    match fs::symlink_metadata(rt, folder) {
-        Ok(metadata) if metadata.is_dir() => require_empty(rt, folder),
-        Ok(_) => Err(CheckoutFault::NotFolder),
-        Err(error) if error.kind() == ErrorKind::NotFound => match fs::create_dir(rt, folder) {
-            Ok(()) => Ok(()),
-            Err(error) => Err(CheckoutFault::Folder(error)),
-        },
-        Err(error) => Err(CheckoutFault::Folder(error)),
+fn require_all_utf8<A: Allocator>(alloc: Global, rows: &[Listed<A>]) -> Result<(), CheckoutFault>
+    ensures { IfErr result IsUtf8Fault }
+{
+    for row in rows {
+        require_utf8(alloc, &row.path)?;
     }
+    Ok(())
 }
 
-fn require_empty<R: Runtime + AllocGlobal>(rt: &R, folder: &str) -> Result<(), CheckoutFault> {
-    match fs::read_dir(rt, folder) {
-        Ok(mut entries) => match entries.next() {
-            None => Ok(()),
-            Some(_) => Err(CheckoutFault::NotEmpty),
-        },
-        Err(error) => Err(CheckoutFault::Folder(error)),
-    }
-}
-
-/// Writes what is to be written at its place.
-fn write_item<R: Runtime + AllocGlobal>(rt: &R, item: Item) -> Result<(), CheckoutFault> {
-    match write_content(rt, &item) {
+/// Takes the folder.
+fn take<D: Disk>(disk: &mut D, folder: &str) -> Result<(), CheckoutFault>
+    ensures ok { OnOk result (D.made disk.new ≡ D.made disk.old ++ Taken folder.now ∷ []) }
+    ensures err { OnErr result (D.made disk.new ≡ D.made disk.old) }
+    ensures fault { IfErr result IsFolderFault }
+{
+    match disk.take(folder) {
         Ok(()) => Ok(()),
-        Err(error) => Err(CheckoutFault::Unwritten(Place { bytes: item.place }, error)),
+        Err(fault) => Err(CheckoutFault::Folder(fault)),
     }
 }
 
-fn write_content<R: Runtime + AllocGlobal>(rt: &R, item: &Item) -> io::Result<()> {
+/// Makes what is to be made at its place.
+fn make_content<D: Disk>(disk: &mut D, item: &Item) -> io::Result<()>
+    ensures ok { OnOk result (D.made disk.new ≡ D.made disk.old ++ made_item item.now) }
+    ensures err { OnErr result (IsPartOf item.now (D.made disk.old) (D.made disk.new)) }
+{
     let Ok(place) = str::from_utf8(&item.place) else {
         return Err(io::Error::from(ErrorKind::InvalidInput));
     };
     match &item.content {
         None => Ok(()),
-        Some(Content::Folder) => fs::create_dir(rt, place),
-        Some(Content::File(bytes)) => {
-            let mut file = File::create_new(rt, place)?;
-            file.write_all(bytes)
-        }
+        Some(Content::Folder) => disk.make_dir(place),
+        Some(Content::File(bytes)) => disk.make_file(place, bytes),
     }
+}
+
+/// Makes it, or tells the place.
+fn make_item<D: Disk>(disk: &mut D, item: Item) -> Result<(), CheckoutFault>
+    ensures ok { OnOk result (D.made disk.new ≡ D.made disk.old ++ made_item item) }
+    ensures err { OnErr result (IsPartOf item (D.made disk.old) (D.made disk.new)) }
+    ensures fault { IfErr result IsWriteFault }
+{
+    match make_content(disk, &item) {
+        Ok(()) => Ok(()),
+        Err(error) => Err(CheckoutFault::Unwritten(Place { bytes: item.place }, error)),
+    }
+}
+
+/// Makes each entry of the tree in turn.
+fn write_rows<D: Disk, A: Allocator, P: Progress>(
+    alloc: Global,
+    disk: &mut D,
+    tree: &Tree<A>,
+    folder: &str,
+    listing: &[Listed<Global>],
+    progress: &mut P,
+) -> Result<(), CheckoutFault>
+    requires { listing.now ≡ map listed_entry (rows tree.now) }
+    ensures ok { OnOk result (D.made disk.new ≡ D.made disk.old ++ map (made_of folder.now) (rows tree.now)) }
+    ensures err { OnErr result ((done : List Made) × (D.made disk.new ≡ D.made disk.old ++ done) × IsBegun (map (made_of folder.now) (rows tree.now)) done) }
+    ensures fault { IfErr result IsWriteFault }
+{
+    for i in 0..listing.len() {
+        let item = item_of(alloc, tree, folder, &listing[i].path)?;
+        make_item(disk, item)?;
+        progress.wrote(i + 1, listing.len());
+    }
+    Ok(())
 }

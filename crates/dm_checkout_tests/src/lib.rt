@@ -5,4 +5,6 @@ mod asking;
 #[cfg(test)]
 mod checkouts;
 #[cfg(test)]
+mod choices;
+#[cfg(test)]
 mod logs;
