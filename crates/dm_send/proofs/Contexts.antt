@@ -1,10 +1,11 @@
 -- Contexts that stand alone.
 use Rattle.std.proofs.Common.{◌≡◌, ◌≢◌, ℕ, false, eqb, List, [], ◌∷◌, length, refl, sym, ◌∙◌}
 use Rattle.dm_info.specs.PatchInfo.{PatchInfo}
+use Rattle.dm_named.specs.declared.limits.Limits.{Limits}
 use Rattle.dm_named.specs.declared.fault.FaultKind.TheVariants.{NoMemory, NoNewPatches}
 use Rattle.dm_named.specs.declared.fault.ReadFault.{ReadFault}
 use Rattle.dm_bundle.specs.Bundles.{BundleText, Contents}
-use Rattle.dm_bundle.specs.Faults.{FaultAt}
+use Rattle.dm_bundle.specs.Faults.{FaultWithin}
 use Rattle.dm_send.specs.Telling.{LacksHeading, named_in}
 
 -- a bundle without new patches names its context alone
@@ -19,8 +20,8 @@ some_left [] t e = absurd (cc)
 some_left (x ∷ xs) t e = absurd (cc)
 
 -- a text that is no bundle for want of a heading
-pub lacks : (text : List ℕ) (e : ReadFault) → e.kind ≡ NoNewPatches → (e.kind ≢ NoMemory → FaultAt text e.kind e.at) → LacksHeading text
-lacks text e k f = (e.at, rw k at (f (λ h. not_memory (sym k ∙ h))))
+pub lacks : (limits : Limits) (text : List ℕ) (e : ReadFault) → e.kind ≡ NoNewPatches → (e.kind ≢ NoMemory → FaultWithin limits text e.kind e.at) → LacksHeading limits text
+lacks limits text e k f = (e.at, rw k at (f (λ h. not_memory (sym k ∙ h))))
   where
     not_memory : NoNewPatches ≡ NoMemory → ⊥
     not_memory h = absurd (cc)

@@ -1,12 +1,12 @@
 //! Reading what somebody holds.
 ghost use Rattle.std.specs.Prelude.{◌≡◌, ◌≢◌, ℕ, ◌-◌, [], IfErr, IfOk, IsTrue, MatchOption};
 ghost use Rattle.dm_bundle.specs.Bundles.{BundleText, Contents};
-ghost use Rattle.dm_bundle.specs.Faults.{FaultAt};
+ghost use Rattle.dm_bundle.specs.Faults.{FaultWithin};
 ghost use Rattle.dm_send.specs.Telling.{IsNamesFault, TellsNames, headed, named_in};
 
-use dm_bundle::{Bundle, read_bundle};
+use dm_bundle::{Bundle, read_bundle_within};
 use dm_info::Info;
-use dm_named::{FaultKind, ReadFault};
+use dm_named::{FaultKind, Limits, ReadFault};
 use std::alloc::{AllocError, Allocator};
 
 /// The heading of a bundle.
@@ -43,17 +43,18 @@ fn with_heading<A: Allocator + Copy>(alloc: A, text: &[u8]) -> Result<Vec<u8, A>
 fn names_of_context<A: Allocator + Copy>(
     alloc: A,
     text: &[u8],
+    limits: Limits,
 ) -> Result<Option<Vec<Info<A>, A>>, ReadFault>
     ensures found { IfOk result (λ found. MatchOption found
         ((b : Contents) × BundleText (headed text.now) b × (b.patches ≢ []))
         (λ names. BundleText (headed text.now) (record { patches = []; context = names.items }))) }
-    ensures fault { IfErr result (λ e. e.kind ≢ FaultKind.NoMemory → (at : ℕ) × (e.at ≡ at - 13) × FaultAt (headed text.now) e.kind at) }
+    ensures fault { IfErr result (λ e. e.kind ≢ FaultKind.NoMemory → (at : ℕ) × (e.at ≡ at - 13) × FaultWithin limits (headed text.now) e.kind at) }
 {
     let whole = match with_heading(alloc, text) {
         Ok(whole) => whole,
         Err(error) => return Err(ReadFault::no_memory(error, 0)),
     };
-    let bundle = match read_bundle(alloc, &whole) {
+    let bundle = match read_bundle_within(alloc, &whole, limits) {
         Ok(bundle) => bundle,
         Err(fault) => {
             return Err(ReadFault {
@@ -82,16 +83,20 @@ fn is_heading_due(kind: FaultKind) -> bool
     }
 }
 
-/// The names that a text tells: those of a bundle's new patches and of its context, or those of a context alone, as
-/// `darcs log --context` writes it.
+/// The names that a text tells, read within these limits: those of a bundle's new patches and of its context, or those of a
+/// context alone, as `darcs log --context` writes it.
 ///
 /// The fault is that of the text as a bundle; where only its heading is missing, as a context. `NoMemory` is returned if an
 /// allocation failed.
-pub fn read_names<A: Allocator + Copy>(alloc: A, text: &[u8]) -> Result<Vec<Info<A>, A>, ReadFault>
-    ensures names { IfOk result (λ names. TellsNames text.now names.items) }
-    ensures fault { IfErr result (λ e. e.kind ≢ FaultKind.NoMemory → IsNamesFault text.now e) }
+pub fn read_names<A: Allocator + Copy>(
+    alloc: A,
+    text: &[u8],
+    limits: Limits,
+) -> Result<Vec<Info<A>, A>, ReadFault>
+    ensures names { IfOk result (λ names. TellsNames limits text.now names.items) }
+    ensures fault { IfErr result (λ e. e.kind ≢ FaultKind.NoMemory → IsNamesFault limits text.now e) }
 {
-    match read_bundle(alloc, text) {
+    match read_bundle_within(alloc, text, limits) {
         Ok(bundle) => match names_in(alloc, &bundle) {
             Ok(names) => Ok(names),
             Err(error) => Err(ReadFault::no_memory(error, text.len())),
@@ -100,7 +105,7 @@ pub fn read_names<A: Allocator + Copy>(alloc: A, text: &[u8]) -> Result<Vec<Info
             if !is_heading_due(fault.kind) {
                 return Err(fault);
             }
-            match names_of_context(alloc, text)? {
+            match names_of_context(alloc, text, limits)? {
                 Some(names) => Ok(names),
                 None => Err(fault),
             }

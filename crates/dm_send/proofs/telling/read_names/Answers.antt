@@ -14,12 +14,12 @@ pub returns-in_err-names-in-Err-clause-fault : goal.returns-in_err-names-in-Err-
 returns-in_err-names-in-Err-clause-fault g c =
     let due = c.is_heading_due.ensures.due (search) in
     let p = err_from_is_err_and c.from_residual.result c.from_residual.ensures.1 in
-    rw (p.1, p.2) (λ n. let f = c.in_err-names-in-Err.ensures.fault n in in_context (lacks c.args.text.now c.in-Err.fault due c.in-Err.ensures.err) f.0 f.2 f.1)
+    rw (p.1, p.2) (λ n. let f = c.in_err-names-in-Err.ensures.fault n in in_context (lacks c.args.limits c.args.text.now c.in-Err.fault due c.in-Err.ensures.err) f.0 f.2 f.1)
 
 pub returns-in-Some-clause-names : goal.returns-in-Some-clause-names
 returns-in-Some-clause-names g c =
     let due = c.is_heading_due.ensures.due (search) in
-    inr (lacks c.args.text.now c.in-Err.fault due c.in-Err.ensures.err, rw c.in-Some.is at c.in_ok-names-in-Err.ensures.found)
+    inr (lacks c.args.limits c.args.text.now c.in-Err.fault due c.in-Err.ensures.err, rw c.in-Some.is at c.in_ok-names-in-Err.ensures.found)
 
 pub returns-clause-fault : goal.returns-clause-fault
 returns-clause-fault g c =
