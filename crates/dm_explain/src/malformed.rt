@@ -59,10 +59,13 @@ fn write_due<W: Write>(f: &mut Formatter<W>, kind: FaultKind) -> fmt::Result {
         prims,
     } = Limits::STANDARD;
     match kind {
-        FaultKind::TooLarge => writeln!(f, "a bundle has at most {bytes} bytes"),
+        FaultKind::TooLarge => writeln!(
+            f,
+            "a bundle has at most {bytes} bytes; --repository reads a larger one of your own"
+        ),
         FaultKind::TooMany => writeln!(
             f,
-            "a bundle has at most {patches} new patches, and a patch at most {prims} primitives"
+            "a bundle has at most {patches} new patches, and a patch at most {prims} primitives; --repository reads a larger one of your own"
         ),
         _ => writeln!(f, "{}", due(kind)),
     }

@@ -15,6 +15,16 @@ pub(crate) enum Seeming {
     Signed,
     /// What `darcs log --context` wrote.
     Context,
+    /// Text in two bytes a character.
+    Utf16,
+    /// What `git bundle` wrote.
+    GitBundle,
+    /// What `git format-patch` wrote.
+    GitMail,
+    /// What `diff` or `git diff` wrote.
+    Diff,
+    /// A bundle in an answer to a mail, each of its lines behind a mark.
+    Quoted,
     /// A mail with its headers.
     Mail,
     /// Lines that end in a carriage return and a newline.
@@ -59,6 +69,47 @@ fn has_mail_part(text: &[u8]) -> bool {
     text.find(b"=3D\n").is_some()
 }
 
+/// Whether a text begins as text in two bytes a character does.
+fn begins_as_utf16(text: &[u8]) -> bool {
+    text.starts_with(b"\xff\xfe".as_slice()) || text.starts_with(b"\xfe\xff".as_slice())
+}
+
+/// Whether a text begins as a diff does.
+fn begins_as_diff(text: &[u8]) -> bool {
+    if text.starts_with(b"diff -".as_slice()) {
+        return true;
+    }
+    if text.starts_with(b"Index: ".as_slice()) {
+        return true;
+    }
+    text.starts_with(b"--- ".as_slice())
+}
+
+/// Whether a bundle stands in a text, with a mark before each line.
+fn has_quoted_bundle(text: &[u8]) -> bool {
+    if text.starts_with(b"> New patches:".as_slice()) {
+        return true;
+    }
+    text.find(b"\n> New patches:").is_some()
+}
+
+/// What a text of another tool than darcs looks like, if that is known.
+fn foreign_seeming(text: &[u8]) -> Option<Seeming> {
+    if begins_as_utf16(text) {
+        return Some(Seeming::Utf16);
+    }
+    if text.starts_with(b"# v".as_slice()) && text.find(b" git bundle\n").is_some() {
+        return Some(Seeming::GitBundle);
+    }
+    if begins_as_diff(text) {
+        return Some(Seeming::Diff);
+    }
+    if begins_as_mail(text) && text.find(b"\ndiff --git ").is_some() {
+        return Some(Seeming::GitMail);
+    }
+    None
+}
+
 /// What a text that is no bundle looks like, if that is known.
 pub(crate) fn seeming_of(text: &[u8]) -> Option<Seeming> {
     let begun = text.trim_start();
@@ -71,11 +122,17 @@ pub(crate) fn seeming_of(text: &[u8]) -> Option<Seeming> {
     if begins_as_html(begun) {
         return Some(Seeming::Html);
     }
+    if let Some(foreign) = foreign_seeming(begun) {
+        return Some(foreign);
+    }
     if text.find(b"-----BEGIN PGP").is_some() {
         return Some(Seeming::Signed);
     }
     if begun.starts_with(b"Context:".as_slice()) {
         return Some(Seeming::Context);
+    }
+    if has_quoted_bundle(text) {
+        return Some(Seeming::Quoted);
     }
     if begins_as_mail(begun) || has_mail_part(text) {
         return Some(Seeming::Mail);
@@ -97,6 +154,15 @@ impl Display for Seeming {
             }
             Seeming::Context => {
                 "It looks like a context, as `darcs log --context` writes it: it has no new patches."
+            }
+            Seeming::Utf16 => {
+                "It looks like UTF-16: save it as it was sent, or give dm what `iconv -f utf-16 -t utf-8` makes of it."
+            }
+            Seeming::GitBundle => "It looks like a bundle of git, which dm doesn't read.",
+            Seeming::GitMail => "It looks like a patch of git, which dm doesn't read.",
+            Seeming::Diff => "It looks like a diff: dm reads what `darcs send -o FILE` writes.",
+            Seeming::Quoted => {
+                "It looks like a quoted mail, with `> ` before each line: ask for the bundle itself."
             }
             Seeming::Mail => "It looks like a mail: save the attachment, and give that to dm.",
             Seeming::Crlf => {
