@@ -2,3 +2,4 @@ pub mod CheckLemmas
 pub mod AnswerLemmas
 pub mod RunLemmas
 pub mod SendLemmas
+pub mod MirrorLemmas

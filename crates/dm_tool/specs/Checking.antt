@@ -10,6 +10,11 @@ use Rattle.dm_scratch.specs.declared.verdict.Verdict.TheVariants.{Malformed, Ref
 use Rattle.dm_scratch.specs.Taking.{Reads}
 use Rattle.dm_scratch.specs.Words.{verdict_text}
 use Rattle.dm_scratch.specs.Printing.{line_of}
+use Rattle.dm_deliver.specs.declared.answers.Answer.TheVariants.{Hash}
+use Rattle.dm_deliver.specs.declared.hash_rule.HashFault.{HashFault}
+use Rattle.dm_deliver.specs.declared.hash_rule.HashRule.TheVariants.{Right}
+use Rattle.dm_deliver.specs.Answering.{answer_line}
+use Rattle.dm_deliver.specs.Hashes.{HasHashFault, PassesRule}
 use Rattle.dm_tool.specs.Streams.{Gives}
 use Rattle.dm_tool.specs.declared.check.Checked.{Checked}
 use Rattle.dm_tool.specs.declared.check.Unread.{Unread}
@@ -25,6 +30,18 @@ pub record ChecksInput (before after : Option (List ℕ)) (out : List ℕ) (stat
   pub text : List ℕ
   pub gives : Gives before after text
   pub checks : Checks text out status
+
+-- The same where a right hash is asked for: nothing is refused of the text's hash, and these bytes and this exit status are those of the text; or they are the
+-- line of what is wrong with its hash.
+pub data ChecksHash (text printed : List ℕ) (status : ℕ) : Type 0 where
+  passes : PassesRule Right text → Checks text printed status → ChecksHash text printed status
+  refused : (fault : HashFault) → HasHashFault Right text fault → printed ≡ answer_line (Hash fault) → status ≡ 1 → ChecksHash text printed status
+
+-- so is the text that the reader gave
+pub record ChecksHashInput (before after : Option (List ℕ)) (out : List ℕ) (status : ℕ) : Type 0 where
+  pub text : List ℕ
+  pub gives : Gives before after text
+  pub checks : ChecksHash text out status
 
 -- the fault is one of this text, or memory ran out
 pub record IsUnreadText (text : List ℕ) (unread : Unread) : Type 0 where

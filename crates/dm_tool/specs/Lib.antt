@@ -5,3 +5,4 @@ pub mod Applying
 pub mod Running
 pub mod Sending
 pub mod Bundles
+pub mod Mirrors

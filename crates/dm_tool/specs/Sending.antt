@@ -1,10 +1,11 @@
 -- What `dm send` answers.
-use Rattle.std.specs.Prelude.{◌≡◌, ◌≢◌, ℕ, Bool, true, false, List, length, Option, MatchOption}
+use Rattle.std.specs.Prelude.{◌≡◌, ◌≢◌, ℕ, Bool, true, false, List, [], ◌++◌, length, Option, MatchOption}
 use Rattle.dm_info.specs.PatchInfo.{PatchInfo}
 use Rattle.dm_named.specs.declared.limits.Limits.{Limits}
 use Rattle.dm_named.specs.Patches.{Patch}
 use Rattle.dm_bundle.specs.Bundles.{Contents}
 use Rattle.dm_bundle.specs.Canonical.{bundle_text}
+use Rattle.dm_hash.specs.Trailers.{trailer_text}
 use Rattle.dm_bundle.specs.Faults.{IsWithinSize}
 use Rattle.dm_bundle.specs.Patches.{AreFew}
 use Rattle.dm_repo.specs.declared.refusal.Refusal.{Refusal}
@@ -17,9 +18,9 @@ use Rattle.dm_scratch.specs.Printing.{line_of}
 use Rattle.dm_send.specs.Sending.{Parts, RefusesToSend, RefusesToSendMinimal, Sends, SendsMinimal}
 use Rattle.dm_send.specs.Telling.{IsNamesFault, TellsNames}
 use Rattle.dm_tool.specs.declared.fault.ToolFault.{ToolFault}
-use Rattle.dm_tool.specs.declared.fault.ToolFault.TheVariants.{NoMemory, BadBase, BadNames, TooManyToSend}
+use Rattle.dm_tool.specs.declared.fault.ToolFault.TheVariants.{NoMemory, BadNames, TooManyToSend}
 use Rattle.dm_tool.specs.declared.send.Sent.{Sent}
-use Rattle.dm_tool.specs.Applying.{IsBase, RefusesBase}
+use Rattle.dm_tool.specs.declared.base.Base.{Base}
 
 -- a bundle for somebody who holds patches of these names: a minimal one, or not
 abbrev pub SendsFor : Bool → List Patch → List PatchInfo → ℕ → Contents → Type 0
@@ -35,25 +36,31 @@ RefusesToSendFor false repo names most why = RefusesToSend repo names most why
 abbrev pub IsRefusedFor : Bool → List Patch → List PatchInfo → ℕ → Refusal → Type 0
 IsRefusedFor is_minimal repo names most why = (why ≢ refusals.NoMemory) × RefusesToSendFor is_minimal repo names most why
 
--- the bundle and its canonical text are within the limits of what is read
+-- the canonical text of a bundle, and behind it the hash of its patches
+abbrev pub hashed_text : Contents → List ℕ
+hashed_text b = bundle_text b ++ trailer_text b.patches
+
+-- the bundle and its text are within the limits of what is read
 pub record IsWithinLimits (b : Contents) : Type 0 where
   pub few : AreFew b.patches
-  pub small : IsWithinSize (bundle_text b)
+  pub small : IsWithinSize (hashed_text b)
 
--- To somebody who holds patches of these names these bytes and this exit status are answered: the canonical text of the bundle for them, which is read
--- as that bundle; or the line of why there is none.
+-- To somebody who holds patches of these names these bytes and this exit status are answered: the text of the bundle for them with the hash of its
+-- patches, which is read as that bundle; or the line of why there is none.
 pub data AnswersNames (is_minimal : Bool) (repo : List Patch) (names : List PatchInfo) (most : ℕ) (out : List ℕ) (status : ℕ) : Type 0 where
-  sent : (b : Contents) → SendsFor is_minimal repo names most b → out ≡ bundle_text b → Reads out b → status ≡ 0
+  sent : (b : Contents) → SendsFor is_minimal repo names most b → out ≡ hashed_text b → Reads out b → status ≡ 0
       → AnswersNames is_minimal repo names most out status
   refused : (why : Refusal) → IsRefusedFor is_minimal repo names most why → out ≡ line_of (verdict_text (Refused why)) → status ≡ 1
       → AnswersNames is_minimal repo names most out status
 
--- so is it to somebody of whom a text tells what they hold, from the repository that a base's text makes, read within these limits
-pub record AnswersTexts (is_minimal : Bool) (limits : Limits) (mine theirs : List ℕ) (most : ℕ) (out : List ℕ) (status : ℕ) : Type 0 where
-  pub repo : List Patch
+-- the names of what somebody holds: those that their text tells, and none without a text
+abbrev pub TheirNames : Option Base → List PatchInfo → Type 0
+TheirNames theirs names = MatchOption theirs (names ≡ []) (λ t. TellsNames t.limits t.text.now names)
+
+-- so is it to somebody of whom a text tells what they hold, or who holds nothing
+pub record AnswersTexts (is_minimal : Bool) (repo : List Patch) (theirs : Option Base) (most : ℕ) (out : List ℕ) (status : ℕ) : Type 0 where
   pub names : List PatchInfo
-  pub is_base : IsBase limits mine repo
-  pub tells : TellsNames theirs names
+  pub tells : TheirNames theirs names
   pub answers : AnswersNames is_minimal repo names most out status
 
 -- so many new patches are sent, or there is no bundle
@@ -71,29 +78,29 @@ pub record TellsNumbers (is_minimal : Bool) (repo : List Patch) (names : List Pa
   pub new : SendsCount is_minimal repo names most sent.new
   pub unheld : CountsUnheld repo names sent.unheld
 
--- so it is of the answer to two texts
-pub record TellsTexts (is_minimal : Bool) (limits : Limits) (mine theirs : List ℕ) (most : ℕ) (sent : Sent) : Type 0 where
-  pub repo : List Patch
+-- so it is of the answer to somebody of whom a text tells what they hold, or who holds nothing
+pub record TellsTexts (is_minimal : Bool) (repo : List Patch) (theirs : Option Base) (most : ℕ) (sent : Sent) : Type 0 where
   pub names : List PatchInfo
-  pub is_base : IsBase limits mine repo
-  pub tells : TellsNames theirs names
+  pub tells : TheirNames theirs names
   pub numbers : TellsNumbers is_minimal repo names most sent
 
--- the text tells no names: memory ran out, or it has this fault
-abbrev pub RefusesNames : List ℕ → ToolFault → Type 0
-RefusesNames theirs NoMemory = Unit {0}
-RefusesNames theirs (BadNames fault) = IsNamesFault theirs fault
-RefusesNames theirs other = ⊥
+-- the text, read within these limits, tells no names: memory ran out, or it has this fault
+abbrev pub RefusesNames : Limits → List ℕ → ToolFault → Type 0
+RefusesNames limits theirs NoMemory = Unit {0}
+RefusesNames limits theirs (BadNames fault) = IsNamesFault limits theirs fault
+RefusesNames limits theirs other = ⊥
+
+-- there is a text, and it tells no names
+abbrev pub RefusesTheirs : Option Base → ToolFault → Type 0
+RefusesTheirs theirs e = MatchOption theirs ⊥ (λ t. RefusesNames t.limits t.text.now e)
 
 -- the bundle is past a limit
 abbrev pub IsPastLimits : Bool → List Patch → List PatchInfo → ℕ → Type 0
 IsPastLimits is_minimal repo names most = (b : Contents) × SendsFor is_minimal repo names most b × (IsWithinLimits b → ⊥)
 
--- Why there is no answer to two texts: memory ran out; or the base isn't taken; or it is, and then the other tells no names, or the bundle is past a limit.
-abbrev pub RefusesTexts : Bool → Limits → List ℕ → List ℕ → ℕ → ToolFault → Type 0
-RefusesTexts is_minimal limits mine theirs most NoMemory = Unit {0}
-RefusesTexts is_minimal limits mine theirs most (BadBase verdict) = RefusesBase limits mine (BadBase verdict)
-RefusesTexts is_minimal limits mine theirs most (BadNames fault) = (repo : List Patch) × IsBase limits mine repo × IsNamesFault theirs fault
-RefusesTexts is_minimal limits mine theirs most TooManyToSend =
-    (repo : List Patch) × (names : List PatchInfo) × IsBase limits mine repo × TellsNames theirs names × IsPastLimits is_minimal repo names most
-RefusesTexts is_minimal limits mine theirs most other = ⊥
+-- Why there is no answer: memory ran out; or there is a text and it tells no names; or the bundle is past a limit.
+abbrev pub RefusesTexts : Bool → List Patch → Option Base → ℕ → ToolFault → Type 0
+RefusesTexts is_minimal repo theirs most NoMemory = Unit {0}
+RefusesTexts is_minimal repo theirs most (BadNames fault) = MatchOption theirs ⊥ (λ t. IsNamesFault t.limits t.text.now fault)
+RefusesTexts is_minimal repo theirs most TooManyToSend = (names : List PatchInfo) × TheirNames theirs names × IsPastLimits is_minimal repo names most
+RefusesTexts is_minimal repo theirs most other = ⊥

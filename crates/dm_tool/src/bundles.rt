@@ -2,14 +2,10 @@
 ghost use Rattle.std.specs.Prelude.{◌≡◌, ◌+◌, length};
 ghost use Rattle.dm_tool.specs.Bundles.{none_fewer, some_fewer};
 
-use crate::files::{WordFault, read_file};
-use crate::streams::read_text;
+use crate::files::read_file;
+use crate::word_fault::WordFault;
 use dm_deliver::Source;
 use dm_named::Limits;
-use std::rt::Runtime;
-
-/// The name that stands for standard input.
-pub const INPUT: &str = "-";
 
 /// The texts of files, in the order of their names, each read where its turn comes. Which bytes they have no contract says.
 #[derive(Drop)]
@@ -19,17 +15,12 @@ pub struct Bundles<'w, 'a> {
 }
 
 impl<'w, 'a> Bundles<'w, 'a> {
-    pub fn new(rt: HostRuntime, names: &'w [&'a str]) -> Bundles<'w, 'a> {
+    /// The files of these names.
+    pub fn new(rt: HostRuntime, names: &'w [&'a str]) -> Bundles<'w, 'a>
+        ensures { result.names.now ≡ names.now }
+    {
         Bundles { rt, names }
     }
-}
-
-/// The text of the file of this name.
-fn read_bundle<'a>(rt: &HostRuntime, name: &'a str) -> Result<Vec<u8>, WordFault<'a>> {
-    if name == INPUT {
-        return Ok(read_text(rt.alloc(), &mut rt.reader())?);
-    }
-    read_file(rt, name, Limits::STANDARD)
 }
 
 impl<'a> Source for Bundles<'_, 'a> {
@@ -49,7 +40,7 @@ impl<'a> Source for Bundles<'_, 'a> {
         let [name, rest @ ..] = self.names else {
             return Ok(None);
         };
-        let text = read_bundle(&self.rt, name)?;
+        let text = read_file(&self.rt, name, Limits::STANDARD)?;
         self.names = rest;
         Ok(Some(text))
     }

@@ -1,13 +1,16 @@
 //! The command `dm check`.
-ghost use Rattle.std.specs.Prelude.{◌≡◌, ◌≢◌, IfOk, IfErr};
+ghost use Rattle.std.specs.Prelude.{◌≡◌, ◌≢◌, ◌⊎◌, IfOk, IfErr};
 ghost use Rattle.std.specs.Io.KnownBytes.{Keeps};
+ghost use Rattle.dm_deliver.specs.Answering.{answer_line};
+ghost use Rattle.dm_deliver.specs.declared.answers.Answer.TheVariants.{Hash};
 ghost use Rattle.dm_tool.specs.Streams.{Writes, WritesPrefix};
-ghost use Rattle.dm_tool.specs.Checking.{Checks, ChecksInput, IsTold, TellsInput};
+ghost use Rattle.dm_tool.specs.Checking.{Checks, ChecksHash, ChecksHashInput, ChecksInput, IsTold, TellsInput};
 
 use crate::fault::ToolFault;
 use crate::status::status_of;
 use crate::streams::{read_text, write_text};
 use dm_bundle::{read_bundle, write_bundle};
+use dm_deliver::{Answer, HashFault, HashRule, hash_fault, push_answer};
 use dm_named::ReadFault;
 use dm_scratch::{Verdict, push_verdict};
 use std::alloc::{AllocError, Global};
@@ -87,5 +90,57 @@ pub fn check_over<R: Read, W: Write>(
     let text = read_text(alloc, reader)?;
     let (out, checked) = check_text(alloc, text)?;
     write_text(&out, writer)?;
+    Ok(checked)
+}
+
+/// The line of a hash that is refused.
+fn hash_line(alloc: Global, fault: HashFault) -> Result<Vec<u8>, AllocError>
+    ensures { IfOk result (λ line. line.items ≡ answer_line (Hash fault)) }
+{
+    let mut line = Vec::new(alloc);
+    push_answer(Answer::Hash(fault), &mut line)?;
+    Ok(line)
+}
+
+/// What is printed of a text where the hash of its patches has to stand behind it, and the exit status.
+fn check_hashed(alloc: Global, text: Vec<u8>) -> Result<(Vec<u8>, Checked), AllocError>
+    ensures { IfOk result (λ x. ChecksHash text.items x.0.items x.1.status) }
+{
+    match hash_fault(alloc, &text, HashRule::Right)? {
+        Some(fault) => {
+            let line = hash_line(alloc, fault)?;
+            Ok((
+                line,
+                Checked {
+                    status: 1,
+                    unread: None,
+                },
+            ))
+        }
+        None => {
+            let (out, checked) = check_text(alloc, text)?;
+            Ok((out, checked))
+        }
+    }
+}
+
+/// As [`check_over`]; of a bundle that doesn't end with the right hash of its patches it writes the line that says so, and at
+/// which byte the hash stands, or was due. The exit status is 1 then.
+///
+/// Errors: as there.
+pub fn check_hash_over<R: Read, W: Write>(
+    alloc: Global,
+    reader: &mut R,
+    writer: &mut W,
+) -> Result<Checked, ToolFault>
+    ensures ok { IfOk result (λ checked. Writes (ChecksHashInput (R.remaining reader.old) (R.remaining reader.new)) (W.contents writer.old) (W.contents writer.new) checked.status) }
+    ensures silent { IfErr result (λ e. (e ≢ ToolFault.Write) → Keeps (W.contents writer.old) (W.contents writer.new)) }
+    ensures prefix { IfErr result (λ e. (e ≡ ToolFault.Write) →
+        WritesPrefix (ChecksHashInput (R.remaining reader.old) (R.remaining reader.new)) (W.contents writer.old) (W.contents writer.new)) }
+    ensures fault { IfErr result (λ e. (e ≡ ToolFault.Read) ⊎ ((e ≡ ToolFault.NoMemory) ⊎ (e ≡ ToolFault.Write))) }
+{
+    let text = read_text(alloc, reader)?;
+    let (answer, checked) = check_hashed(alloc, text)?;
+    write_text(&answer, writer)?;
     Ok(checked)
 }

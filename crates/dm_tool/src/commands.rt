@@ -1,14 +1,19 @@
 //! The words of the command line, and what they start.
 use crate::apply::apply_over;
-use crate::base::Base;
-use crate::check::check_over;
+use crate::base::{Base, repo_of};
+use crate::check::{check_hash_over, check_over};
 use crate::colour::{Colour, colour_of};
-use crate::explaining::{explain_applied, explain_unread};
+use crate::explaining::{explain_applied, explain_hash, explain_unread};
 use crate::fault::ToolFault;
-use crate::files::{BaseFile, WordFault, read_base, read_file};
-use crate::mirror::{apply_to_mirror, check_out, log};
-use crate::plan_words::{policy_of, run_plan};
-use crate::send::{Sent, send_over};
+use crate::files::{base_of, blame_input, read_base, read_file};
+use crate::input::{INPUT, Input};
+use crate::listing::Listing;
+use crate::logging::log;
+use crate::mirror::{apply_each, apply_to_mirror, check_out, init};
+use crate::plan_words::{policy_of, refuse_base, run_plan};
+use crate::sending::send;
+use crate::telling::{Manner, NO_ANSWER, exit_status, fixed_manner, tell};
+use crate::word_fault::WordFault;
 use clap::error::ErrorKind;
 use clap::{ArgMatches, Error};
 use dm_named::Limits;
@@ -18,113 +23,120 @@ use std::sync::Wait;
 use std::thread::Threads;
 use std::{env, io};
 
-/// The exit status where there is no answer.
-pub const NO_ANSWER: u8 = 2;
-
-/// Prints why there is no answer. Where that fails too, the exit status alone tells it.
-fn tell<R: Runtime + AllocGlobal>(rt: &R, fault: WordFault<'_>) -> u8 {
-    let _ = eprintln!(rt; "dm: {fault}");
-    NO_ANSWER
-}
-
-/// The exit status of a command that has run.
-fn exit_status<R: Runtime + AllocGlobal>(rt: &R, answer: Result<u8, WordFault<'_>>) -> u8 {
-    match answer {
-        Ok(status) => status,
-        Err(fault) => tell(rt, fault),
-    }
-}
-
-/// `dm check`.
-fn check<'a, R: Runtime + AllocGlobal>(
-    rt: &R,
+/// `dm check` with explanations: the text is read first, since a sound bundle gives it up.
+fn check_explained<'a>(
+    rt: &HostRuntime,
     colour: Colour,
     words: &ArgMatches<'a>,
+    name: &'a str,
 ) -> Result<u8, WordFault<'a>> {
-    let mut reader = rt.reader();
+    let text = read_file(rt, name, Limits::STANDARD)?;
     let mut writer = io::writer(rt);
-    let checked = check_over(rt.alloc(), &mut reader, &mut writer)?;
-    if words.get_flag("explain") {
-        if let Some(unread) = &checked.unread {
-            explain_unread(rt, colour, unread);
-        }
+    let mut reader = text.as_slice();
+    let checked = if words.get_flag("hash") {
+        check_hash_over(rt.alloc(), &mut reader, &mut writer)?
+    } else {
+        check_over(rt.alloc(), &mut reader, &mut writer)?
+    };
+    match &checked.unread {
+        Some(unread) => explain_unread(rt, colour, unread),
+        None => explain_hash(rt, colour, &text, words.get_flag("hash")),
     }
     Ok(checked.status)
 }
 
-/// The base that a file is, if there is one.
-pub fn base_of(file: &Option<BaseFile>) -> Option<Base<'_>> {
-    match file {
-        Some(file) => Some(file.base()),
-        None => None,
+/// `dm check`.
+fn check<'a>(
+    rt: &HostRuntime,
+    colour: Colour,
+    words: &ArgMatches<'a>,
+) -> Result<u8, WordFault<'a>> {
+    let name = words.get_str("bundle").unwrap_or(INPUT);
+    if words.get_flag("explain") {
+        return check_explained(rt, colour, words, name);
+    }
+    let mut reader = Input::open(rt, name);
+    let mut writer = io::writer(rt);
+    let checked = if words.get_flag("hash") {
+        check_hash_over(rt.alloc(), &mut reader, &mut writer)
+    } else {
+        check_over(rt.alloc(), &mut reader, &mut writer)
+    };
+    match checked {
+        Ok(checked) => Ok(checked.status),
+        Err(fault) => Err(blame_input(&reader, name, fault)),
     }
 }
 
-/// `dm apply`: the base is read before standard input.
+/// `dm apply` of one bundle, without a mirror. The base is taken before the bundle is read.
+fn apply_one<'a>(
+    rt: &HostRuntime,
+    colour: Colour,
+    words: &ArgMatches<'_>,
+    base: Option<Base<'_>>,
+    name: &'a str,
+) -> Result<u8, WordFault<'a>> {
+    let policy = policy_of(words);
+    let as_bundle = words.get_flag("bundle");
+    let mut reader = Input::open(rt, name);
+    let mut writer = Listing::new(rt, as_bundle);
+    let applied = match apply_over(
+        rt.alloc(),
+        base,
+        as_bundle,
+        policy,
+        &mut reader,
+        &mut writer,
+    ) {
+        Ok(applied) => applied,
+        Err(fault) => return Err(blame_input(&reader, name, fault)),
+    };
+    if words.get_flag("explain") {
+        explain_applied(rt, colour, base, policy, &applied);
+    }
+    Ok(applied.status)
+}
+
+/// The one bundle that the words name, or standard input; `None` where they name several.
+fn only_name<'a>(words: &ArgMatches<'a>) -> Option<&'a str> {
+    match words.get_strs("bundles") {
+        None => Some(INPUT),
+        Some(names) if names.len() == 1 => Some(names[0]),
+        Some(_) => None,
+    }
+}
+
+/// `dm apply` after a base, without a mirror.
+fn apply_after<'a>(
+    rt: &HostRuntime,
+    colour: Colour,
+    words: &ArgMatches<'a>,
+    base: Option<Base<'_>>,
+) -> Result<u8, WordFault<'a>> {
+    match only_name(words) {
+        Some(name) if !words.get_flag("hash") && !words.get_flag("quiet") => {
+            apply_one(rt, colour, words, base, name)
+        }
+        _ => {
+            let repo = repo_of(rt.alloc(), base)?;
+            apply_each(rt, colour, words, repo)
+        }
+    }
+}
+
+/// `dm apply` without a mirror.
 fn apply<'a>(
     rt: &HostRuntime,
     colour: Colour,
     words: &ArgMatches<'a>,
 ) -> Result<u8, WordFault<'a>> {
-    if let Some(path) = words.get_str("mirror") {
-        return apply_to_mirror(rt, colour, words, path);
-    }
     let file = read_base(rt, words)?;
-    let as_bundle = words.get_flag("bundle");
-    let policy = policy_of(words);
-    let mut reader = rt.reader();
-    let mut writer = io::writer(rt);
-    let applied = apply_over(
-        rt.alloc(),
-        base_of(&file),
-        as_bundle,
-        policy,
-        &mut reader,
-        &mut writer,
-    )?;
-    if words.get_flag("explain") {
-        explain_applied(rt, colour, base_of(&file), policy, &applied);
+    match (apply_after(rt, colour, words, base_of(&file)), &file) {
+        (Err(WordFault::Tool(ToolFault::BadBase(verdict))), Some(file)) => {
+            Ok(refuse_base(rt, colour, words, file, verdict))
+        }
+        (answered, _) => answered,
     }
-    Ok(applied.status)
-}
-
-/// Says on standard error how many names of theirs were passed over, and that nothing is sent or that a refusal was printed.
-fn say_sent<R: Runtime + AllocGlobal>(rt: &R, sent: &Sent) {
-    let unheld = sent.unheld;
-    let _ = match unheld {
-        0 => Ok(()),
-        1 => eprintln!(rt; "dm: passed over 1 patch that isn't held here"),
-        _ => eprintln!(rt; "dm: passed over {unheld} patches that aren't held here"),
-    };
-    let _ = match sent.new {
-        Some(0) => eprintln!(rt; "dm: nothing to send"),
-        Some(_) => Ok(()),
-        None => eprintln!(rt; "dm: no bundle was made"),
-    };
-}
-
-/// `dm send`: the base is read before what they hold.
-fn send<'a, R: Runtime + AllocGlobal>(rt: &R, words: &ArgMatches<'a>) -> Result<u8, WordFault<'a>> {
-    let Some(mine) = read_base(rt, words)? else {
-        return Ok(NO_ANSWER);
-    };
-    let theirs = read_file(rt, words.get_str("to").unwrap_or(""), Limits::STANDARD)?;
-    let most = match words.get_one::<u32>("first") {
-        Some(most) => most as usize,
-        None => usize::MAX,
-    };
-    let is_minimal = words.get_flag("minimal");
-    let mut writer = io::writer(rt);
-    let sent = send_over(
-        rt.alloc(),
-        mine.base(),
-        &theirs,
-        most,
-        is_minimal,
-        &mut writer,
-    )?;
-    say_sent(rt, &sent);
-    Ok(sent.status)
 }
 
 /// Out of memory, where that is why the words could not be read.
@@ -138,10 +150,10 @@ fn out_of_memory(kind: ErrorKind) -> Option<ToolFault> {
 /// Prints why the words start no command, or the help that they ask for, and returns the exit status.
 fn say_why<R: Runtime + AllocGlobal>(rt: &R, error: &Error) -> u8 {
     if let Some(fault) = out_of_memory(error.kind()) {
-        return tell(rt, WordFault::Tool(fault));
+        return tell(rt, Manner::Short, WordFault::Tool(fault));
     }
     if error.print(rt).is_err() && !error.use_stderr() {
-        return tell(rt, WordFault::Tool(ToolFault::Write));
+        return tell(rt, Manner::Short, WordFault::Tool(ToolFault::Write));
     }
     if error.use_stderr() { NO_ANSWER } else { 0 }
 }
@@ -154,13 +166,26 @@ fn start<R: Runtime + AllocGlobal + Threads + Wait + Sync>(
     matches: &ArgMatches<'_>,
 ) -> u8 {
     let colour = colour_of(rt, is_terminal);
+    let full = Manner::Full;
     match matches.subcommand() {
-        Some(("apply", words)) => exit_status(rt, apply(host, colour, words)),
-        Some(("check", words)) => exit_status(rt, check(rt, colour, words)),
-        Some(("checkout", words)) => exit_status(rt, check_out(host, words, is_terminal)),
-        Some(("log", words)) => exit_status(rt, log(host, words)),
-        Some(("run", words)) => exit_status(rt, run_plan(rt, colour, words)),
-        Some(("send", words)) => exit_status(rt, send(rt, words)),
+        Some(("apply", words)) => match words.get_str("mirror") {
+            Some(path) => exit_status(
+                rt,
+                full,
+                apply_to_mirror(host, colour, words, path, is_terminal),
+            ),
+            None => exit_status(rt, fixed_manner(words), apply(host, colour, words)),
+        },
+        Some(("check", words)) => {
+            exit_status(rt, fixed_manner(words), check(host, colour, words))
+        }
+        Some(("checkout", words)) => exit_status(rt, full, check_out(host, words, is_terminal)),
+        Some(("init", words)) => exit_status(rt, full, init(host, colour, words, is_terminal)),
+        Some(("log", words)) => exit_status(rt, full, log(host, words, is_terminal)),
+        Some(("run", words)) => {
+            exit_status(rt, fixed_manner(words), run_plan(rt, host, colour, words))
+        }
+        Some(("send", words)) => exit_status(rt, full, send(host, colour, words, is_terminal)),
         _ => NO_ANSWER,
     }
 }
@@ -174,7 +199,7 @@ fn run_command<R: Runtime + AllocGlobal + Threads + Wait + Sync>(
 ) -> u8 {
     let program = match program(rt.alloc()) {
         Ok(program) => program,
-        Err(fault) => return tell(rt, WordFault::from(fault)),
+        Err(fault) => return tell(rt, Manner::Short, WordFault::from(fault)),
     };
     match program.try_get_matches_from(words) {
         Ok(matches) => start(rt, host, is_terminal, &matches),
@@ -183,7 +208,7 @@ fn run_command<R: Runtime + AllocGlobal + Threads + Wait + Sync>(
 }
 
 /// Runs the command of the process's own words, and returns the exit status. Standard error may be a terminal. `host` is the same
-/// runtime as `rt`, for the files of mirrors.
+/// runtime as `rt`, for files.
 pub fn run<R: Runtime + AllocGlobal + Threads + Wait + Sync>(
     rt: &R,
     host: &HostRuntime,
@@ -198,6 +223,6 @@ pub fn run<R: Runtime + AllocGlobal + Threads + Wait + Sync>(
             let words: Vec<String> = words;
             run_command(rt, host, is_terminal, &words)
         }
-        Err(fault) => tell(rt, WordFault::from(fault)),
+        Err(fault) => tell(rt, Manner::Short, WordFault::from(fault)),
     }
 }

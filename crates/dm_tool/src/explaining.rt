@@ -9,10 +9,11 @@ use crate::check::Unread;
 use crate::colour::{Colour, say};
 use bumpalo::Bump;
 use dm_bundle::{Bundle, read_bundle};
+use dm_deliver::{HashFault, HashFaultKind, HashRule, hash_fault};
 use dm_explain::{Account, AccountWithSkips, Malformed, account_of, skips_of};
 use dm_mail::{Body, Mail};
 use dm_mirror::Outcome;
-use dm_named::FaultKind;
+use dm_named::{FaultKind, ReadFault};
 use dm_repo::{Policy, Repo, Skip, find_skips};
 use dm_scratch::{Verdict, take};
 use std::alloc::Global;
@@ -25,6 +26,64 @@ pub fn explain_unread<R: Runtime + AllocGlobal>(rt: &R, colour: Colour, unread: 
     }
     let malformed = Malformed::new(&unread.text, unread.fault);
     say(rt, colour, &malformed);
+}
+
+/// Says why a base isn't taken.
+pub fn explain_base<R: Runtime + AllocGlobal>(
+    rt: &R,
+    colour: Colour,
+    base: Base<'_>,
+    verdict: Verdict,
+) {
+    let repo = Repo::new(rt.alloc());
+    explain_verdict(rt, colour, &repo, base.text, Policy::Refuse, verdict, None);
+}
+
+/// Says why a text tells no names.
+pub fn explain_theirs<R: Runtime + AllocGlobal>(
+    rt: &R,
+    colour: Colour,
+    text: &[u8],
+    fault: ReadFault,
+) {
+    let malformed = Malformed::new(text, fault);
+    say(rt, colour, &malformed);
+}
+
+/// Says what is wrong with the hash of a bundle.
+pub fn explain_hash_fault<R: Runtime + AllocGlobal>(rt: &R, colour: Colour, fault: HashFault) {
+    let at = fault.at;
+    match fault.kind {
+        HashFaultKind::WrongHash => say(
+            rt,
+            colour,
+            &format_args!(
+                "The hash at byte {at} isn't that of the patches: the bundle was changed since it was made. Ask for it once more.\n"
+            ),
+        ),
+        HashFaultKind::NoHash => say(
+            rt,
+            colour,
+            &format_args!("No hash of the patches stands behind the context, at byte {at}.\n"),
+        ),
+    }
+}
+
+/// Says where the hash of a bundle is wrong; and where one has to stand, that there is none.
+pub fn explain_hash<R: Runtime + AllocGlobal>(
+    rt: &R,
+    colour: Colour,
+    text: &[u8],
+    is_wanted: bool,
+) {
+    let rule = if is_wanted {
+        HashRule::Right
+    } else {
+        HashRule::NotWrong
+    };
+    if let Ok(Some(fault)) = hash_fault(rt.alloc(), text, rule) {
+        explain_hash_fault(rt, colour, fault);
+    }
 }
 
 /// Which patches of a text are skipped where it is taken into this repository with `--skip`, and why.
@@ -146,6 +205,7 @@ pub fn explain_applied<R: Runtime + AllocGlobal>(
         applied.verdict,
         skips,
     );
+    explain_hash(rt, colour, &applied.text, false);
 }
 
 /// Says whom the verdict on a text is about that was taken into this repository, and why patches were skipped, where

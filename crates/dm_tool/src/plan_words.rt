@@ -1,13 +1,17 @@
 //! The words of `dm run`, and what they start.
 use crate::base::Base;
 use crate::colour::Colour;
-use crate::explaining::explain_run;
+use crate::explaining::{explain_base, explain_run};
 use crate::fault::ToolFault;
-use crate::files::{BaseFile, WordFault, read_base, read_file};
+use crate::files::{BaseFile, read_base, read_file};
 use crate::running::{Bases, Ran, run_over};
+use crate::telling::{Manner, NO_ANSWER, fixed_manner, tell};
+use crate::word_fault::WordFault;
 use clap::ArgMatches;
+use dm_mirror::PlanFault;
 use dm_named::Limits;
 use dm_repo::Policy;
+use dm_scratch::Verdict;
 use indexmap::IndexMap;
 use memchr::memchr;
 use std::alloc::{AllocError, Global};
@@ -47,8 +51,8 @@ fn split_words<'a>(
 }
 
 /// Each poster with the bytes of its files, which are read in this order.
-fn read_posters<'a, R: Runtime + AllocGlobal>(
-    rt: &R,
+fn read_posters<'a>(
+    rt: &HostRuntime,
     words: &[(&'a str, &'a str)],
 ) -> Result<Posters<'a>, WordFault<'a>> {
     let mut posters = IndexMap::new(rt.alloc());
@@ -151,7 +155,7 @@ fn run_texts<'a, R: Runtime + AllocGlobal + Threads + Wait + Sync>(
 }
 
 /// The base that a file is, or an empty text.
-fn base_or_empty(file: &Option<BaseFile>) -> Base<'_> {
+fn base_or_empty<'f>(file: &'f Option<BaseFile<'_>>) -> Base<'f> {
     match file {
         Some(file) => file.base(),
         None => Base {
@@ -169,23 +173,70 @@ fn taken(base: Base<'_>) -> Option<Base<'_>> {
     Some(base)
 }
 
+/// The most bundles of one poster.
+fn most_bundles(posters: &Posters<'_>) -> usize {
+    let mut most = 0;
+    for (_, texts) in posters.iter() {
+        most = most.max(texts.len());
+    }
+    most
+}
+
+/// How many there are of what a plan has too many or too few of.
+fn count_of(fault: PlanFault, posters: &Posters<'_>, mirrors: u32, bound: u32) -> usize {
+    match fault {
+        PlanFault::Posters => posters.len(),
+        PlanFault::Mirrors => mirrors as usize,
+        PlanFault::Bound => bound as usize,
+        _ => most_bundles(posters),
+    }
+}
+
+/// Says that the base isn't taken, and why where that is asked for.
+pub fn refuse_base(
+    rt: &HostRuntime,
+    colour: Colour,
+    words: &ArgMatches<'_>,
+    file: &BaseFile<'_>,
+    verdict: Verdict,
+) -> u8 {
+    let manner = fixed_manner(words);
+    tell(rt, manner, WordFault::BadBase(file.name, verdict));
+    if manner == Manner::Explained {
+        explain_base(rt, colour, file.base(), verdict);
+    }
+    NO_ANSWER
+}
+
 /// Runs the plan that the words name: the base is read first, then the files in the order of the words. Returns the exit
 /// status.
 pub fn run_plan<'a, R: Runtime + AllocGlobal + Threads + Wait + Sync>(
     rt: &R,
+    host: &HostRuntime,
     colour: Colour,
     words: &ArgMatches<'a>,
 ) -> Result<u8, WordFault<'a>> {
     let files = split_words(rt.alloc(), words.get_strs("posters").unwrap_or(&[]))?;
-    let file = read_base(rt, words)?;
-    let posters = read_posters(rt, &files)?;
+    let file = read_base(host, words)?;
+    let posters = read_posters(host, &files)?;
     let mirrors = words.get_one::<u32>("mirrors").unwrap_or(0);
     let bound = words.get_one::<u32>("bound").unwrap_or(0);
     let policy = policy_of(words);
     let base = base_or_empty(&file);
-    let ran = run_texts(rt, &posters, base, policy, mirrors, bound)?;
-    if words.get_flag("explain") {
-        explain_run(rt, colour, &ran.outcome, taken(base), policy);
+    match (run_texts(rt, &posters, base, policy, mirrors, bound), &file) {
+        (Ok(ran), _) => {
+            if words.get_flag("explain") {
+                explain_run(rt, colour, &ran.outcome, taken(base), policy);
+            }
+            Ok(ran.status)
+        }
+        (Err(ToolFault::BadPlan(PlanFault::BadBase(_, verdict))), Some(file)) => {
+            Ok(refuse_base(host, colour, words, file, verdict))
+        }
+        (Err(ToolFault::BadPlan(fault)), _) => Err(WordFault::BadPlan(
+            fault,
+            count_of(fault, &posters, mirrors, bound),
+        )),
+        (Err(fault), _) => Err(WordFault::Tool(fault)),
     }
-    Ok(ran.status)
 }

@@ -2,7 +2,6 @@
 ghost use Rattle.std.specs.Prelude.{◌≡◌, ◌≢◌, ◌≤◌, ◌⊎◌, length, IfOk, IfErr, MatchBool};
 ghost use Rattle.std.specs.Io.KnownBytes.{Keeps};
 ghost use Rattle.std.specs.List.{AllByRecursion};
-ghost use Rattle.dm_bundle.specs.Canonical.{bundle_text};
 ghost use Rattle.dm_bundle.specs.Patches.{AreFew};
 ghost use Rattle.dm_named.specs.Limits.{standard};
 ghost use Rattle.dm_scratch.specs.declared.verdict.Verdict.TheVariants.{Refused};
@@ -11,14 +10,15 @@ ghost use Rattle.dm_scratch.specs.Taking.{Reads};
 ghost use Rattle.dm_scratch.specs.Words.{verdict_text};
 ghost use Rattle.dm_send.specs.Telling.{TellsNames};
 ghost use Rattle.dm_tool.specs.Streams.{Writes, WritesPrefix};
-ghost use Rattle.dm_tool.specs.Sending.{AnswersNames, AnswersTexts, CountsUnheld, IsPastLimits, IsWithinLimits, RefusesNames, RefusesTexts};
+ghost use Rattle.dm_tool.specs.Sending.{AnswersNames, AnswersTexts, CountsUnheld, hashed_text, IsPastLimits, IsWithinLimits, RefusesNames, RefusesTexts, RefusesTheirs, TheirNames};
 ghost use Rattle.dm_tool.specs.Sending.{RefusesToSendFor, SendsFor, TellsNumbers, TellsTexts};
 
-use crate::base::{Base, repo_of_base};
+use crate::base::Base;
 use crate::fault::ToolFault;
 use crate::status::status_of;
 use crate::streams::write_text;
-use dm_bundle::{Bundle, write_bundle};
+use dm_bundle::Bundle;
+use dm_hash::write_hashed;
 use dm_info::Info;
 use dm_named::{Limits, Named};
 use dm_repo::{Refusal, Repo};
@@ -39,11 +39,11 @@ pub struct Sent {
 }
 
 /// The names that a text tells.
-fn names_of(alloc: Global, theirs: &[u8]) -> Result<Vec<Info<Global>>, ToolFault>
-    ensures ok { IfOk result (λ names. TellsNames theirs.now names.items) }
-    ensures err { IfErr result (RefusesNames theirs.now) }
+fn names_of(alloc: Global, theirs: &[u8], limits: Limits) -> Result<Vec<Info<Global>>, ToolFault>
+    ensures ok { IfOk result (λ names. TellsNames limits theirs.now names.items) }
+    ensures err { IfErr result (RefusesNames limits theirs.now) }
 {
-    match read_names(alloc, theirs) {
+    match read_names(alloc, theirs, limits) {
         Ok(names) => Ok(names),
         Err(fault) => Err(ToolFault::of_names(fault)),
     }
@@ -104,16 +104,16 @@ fn are_few(patches: &[Named<Global>]) -> bool
     are_short(patches)
 }
 
-/// The canonical text of a bundle, where both are within the limits of what is read.
+/// The text of a bundle with the hash of its patches, where both are within the limits of what is read.
 fn text_of(alloc: Global, bundle: &Bundle<Global>) -> Result<Vec<u8>, ToolFault>
-    ensures text { IfOk result (λ text. text.items ≡ bundle_text bundle.now) }
+    ensures text { IfOk result (λ text. text.items ≡ hashed_text bundle.now) }
     ensures reads { IfOk result (λ text. Reads text.items bundle.now) }
     ensures err { IfErr result (λ e. (e ≡ ToolFault.NoMemory) ⊎ ((e ≡ ToolFault.TooManyToSend) × (IsWithinLimits bundle.now → ⊥))) }
 {
     if !are_few(bundle.new_patches()) {
         return Err(ToolFault::TooManyToSend);
     }
-    let text = write_bundle(alloc, bundle)?;
+    let text = write_hashed(alloc, bundle)?;
     if text.len() > Limits::STANDARD.bytes {
         return Err(ToolFault::TooManyToSend);
     }
@@ -170,49 +170,60 @@ fn answer_for(
     }
 }
 
-/// What is printed for somebody of whom a text tells what they hold, and what is told of it.
-fn answer_of(
+/// The names of what somebody holds: those that their text tells, and none without a text.
+fn their_names(alloc: Global, theirs: Option<Base<'_>>) -> Result<Vec<Info<Global>>, ToolFault>
+    ensures ok { IfOk result (λ names. TheirNames theirs.entry names.items) }
+    ensures err { IfErr result (RefusesTheirs theirs.entry) }
+{
+    match theirs {
+        None => Ok(Vec::new(alloc)),
+        Some(theirs) => names_of(alloc, theirs.text, theirs.limits),
+    }
+}
+
+/// What is printed for somebody of whom a text tells what they hold, or who holds nothing, and what is told of it.
+fn answer_to(
     alloc: Global,
-    mine: Base<'_>,
-    theirs: &[u8],
+    repo: &Repo<Global>,
+    theirs: Option<Base<'_>>,
     most: usize,
     is_minimal: bool,
 ) -> Result<(Vec<u8>, Sent), ToolFault>
-    ensures ok { IfOk result (λ x. AnswersTexts is_minimal mine.entry.limits mine.entry.text.now theirs.now most x.0.items x.1.status) }
-    ensures told { IfOk result (λ x. TellsTexts is_minimal mine.entry.limits mine.entry.text.now theirs.now most x.1) }
-    ensures err { IfErr result (RefusesTexts is_minimal mine.entry.limits mine.entry.text.now theirs.now most) }
+    ensures ok { IfOk result (λ x. AnswersTexts is_minimal repo.now.patches theirs.entry most x.0.items x.1.status) }
+    ensures told { IfOk result (λ x. TellsTexts is_minimal repo.now.patches theirs.entry most x.1) }
+    ensures err { IfErr result (RefusesTexts is_minimal repo.now.patches theirs.entry most) }
 {
-    let repo = repo_of_base(alloc, mine)?;
-    let names = names_of(alloc, theirs)?;
-    let answer = answer_for(alloc, &repo, &names, most, is_minimal)?;
+    let names = their_names(alloc, theirs)?;
+    let answer = answer_for(alloc, repo, &names, most, is_minimal)?;
     Ok(answer)
 }
 
 /// Writes the canonical bundle of the patches that somebody lacks, as they stand behind what both hold: the first `most` of
-/// those of the repository that a base makes. Another text tells what they hold. A minimal bundle names in its context
-/// only what its patches rest on. Where a patch that they hold rests on one that they don't, or a repository of what both hold
-/// would refuse the bundle, it writes the line of the refusal. Returns the exit status, 0 with a bundle and 1 with a refusal, and what it tells.
+/// those of a repository. Another text tells what they hold; without one they hold nothing. A minimal bundle names in its context
+/// only what its patches rest on. Behind the context stands the hash of the patches. Where a patch that they hold rests on one
+/// that they don't, or a repository of what both hold would refuse the bundle, it writes the line of the refusal. Returns the exit
+/// status, 0 with a bundle and 1 with a refusal, and what it tells.
 ///
-/// Errors: [`ToolFault::BadBase`] where the base isn't taken; then [`ToolFault::BadNames`] where the other text tells no names;
-/// [`ToolFault::TooManyToSend`] where the bundle is past a limit of what `dm` reads; [`ToolFault::NoMemory`];
-/// [`ToolFault::Write`]. Only after the last has anything been written, which is a prefix of the output.
+/// Errors: [`ToolFault::BadNames`] where the other text tells no names; [`ToolFault::TooManyToSend`] where the bundle is past a
+/// limit of what `dm` reads; [`ToolFault::NoMemory`]; [`ToolFault::Write`]. Only after the last has anything been written, which
+/// is a prefix of the output.
 pub fn send_over<W: Write>(
     alloc: Global,
-    mine: Base<'_>,
-    theirs: &[u8],
+    repo: &Repo<Global>,
+    theirs: Option<Base<'_>>,
     most: usize,
     is_minimal: bool,
     writer: &mut W,
 ) -> Result<Sent, ToolFault>
-    ensures ok { IfOk result (λ sent. Writes (AnswersTexts is_minimal mine.entry.limits mine.entry.text.now theirs.now most)
+    ensures ok { IfOk result (λ sent. Writes (AnswersTexts is_minimal repo.now.patches theirs.entry most)
         (W.contents writer.old) (W.contents writer.new) sent.status) }
-    ensures told { IfOk result (TellsTexts is_minimal mine.entry.limits mine.entry.text.now theirs.now most) }
-    ensures fault { IfErr result (λ e. (e ≢ ToolFault.Write) → RefusesTexts is_minimal mine.entry.limits mine.entry.text.now theirs.now most e) }
+    ensures told { IfOk result (TellsTexts is_minimal repo.now.patches theirs.entry most) }
+    ensures fault { IfErr result (λ e. (e ≢ ToolFault.Write) → RefusesTexts is_minimal repo.now.patches theirs.entry most e) }
     ensures silent { IfErr result (λ e. (e ≢ ToolFault.Write) → Keeps (W.contents writer.old) (W.contents writer.new)) }
     ensures prefix { IfErr result (λ e. (e ≡ ToolFault.Write) →
-        WritesPrefix (AnswersTexts is_minimal mine.entry.limits mine.entry.text.now theirs.now most) (W.contents writer.old) (W.contents writer.new)) }
+        WritesPrefix (AnswersTexts is_minimal repo.now.patches theirs.entry most) (W.contents writer.old) (W.contents writer.new)) }
 {
-    let (out, sent) = answer_of(alloc, mine, theirs, most, is_minimal)?;
+    let (out, sent) = answer_to(alloc, repo, theirs, most, is_minimal)?;
     write_text(&out, writer)?;
     Ok(sent)
 }

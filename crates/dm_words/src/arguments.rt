@@ -109,10 +109,40 @@ pub fn stream<'a>(alloc: Global) -> Result<Arg<'a>, AllocError> {
 }
 
 /// The words that name bundles.
-pub fn bundles<'a>(alloc: Global) -> Result<Arg<'a>, AllocError> {
+pub fn bundles<'a>(alloc: Global) -> Arg<'a> {
     Arg::new(alloc, "bundles")
         .value_name("BUNDLE")
         .action(ArgAction::Append)
-        .help("Files of bundles, taken in turn, in place of standard input")
-        .requires_arg("mirror")
+        .help("Files of bundles, taken in turn; without one, or for -, standard input")
+}
+
+/// The word that names one bundle.
+pub fn one_bundle<'a>(alloc: Global, help: &'a str) -> Arg<'a> {
+    Arg::new(alloc, "bundle").value_name("BUNDLE").help(help)
+}
+
+/// A word that is there or not.
+pub fn flag<'a>(alloc: Global, name: &'a str, help: &'a str) -> Arg<'a> {
+    Arg::new(alloc, name)
+        .long(name)
+        .action(ArgAction::SetTrue)
+        .help(help)
+}
+
+/// The word that wants a right hash behind each bundle.
+pub fn hash<'a>(alloc: Global) -> Arg<'a> {
+    flag(
+        alloc,
+        "hash",
+        "Refuse a bundle that doesn't end with the right hash of its patches",
+    )
+}
+
+/// The word that says how many entries are printed.
+pub fn last<'a>(alloc: Global) -> Arg<'a> {
+    Arg::new(alloc, "last")
+        .long("last")
+        .value_name("N")
+        .value_parser(value_parser!(u32))
+        .help("Print the newest N patches alone")
 }

@@ -1,0 +1,95 @@
+//! The words of `dm log`, and what they start.
+use crate::base::repo_of;
+use crate::fault::ToolFault;
+use crate::files::{base_of, read_base, read_file};
+use crate::mirror::read_repo;
+use crate::word_fault::WordFault;
+use clap::ArgMatches;
+use dm_bundle::read_bundle;
+use dm_log::{LogOptions, Patches, write_context, write_entries};
+use dm_named::Limits;
+use dm_scratch::Verdict;
+use std::io::{self, ErrorKind, Write};
+
+/// The text that the words ask for.
+fn text_of<P: Patches>(
+    rt: &HostRuntime,
+    words: &ArgMatches<'_>,
+    patches: &P,
+) -> Result<Vec<u8>, ToolFault> {
+    let last = match words.get_one::<u32>("last") {
+        Some(last) => Some(last as usize),
+        None => None,
+    };
+    if words.get_flag("count") {
+        let count = match last {
+            Some(last) => patches.count().min(last),
+            None => patches.count(),
+        };
+        let line = format!(in rt.alloc(); "{count}\n")?;
+        return Ok(line.into_bytes());
+    }
+    if words.get_flag("context") {
+        return Ok(write_context(rt.alloc(), patches)?);
+    }
+    let options = LogOptions {
+        last,
+        reverse: words.get_flag("reverse"),
+        verbose: words.get_flag("verbose"),
+    };
+    Ok(write_entries(rt.alloc(), patches, options)?)
+}
+
+/// Prints the text. Who reads it may stop early: that is no fault.
+fn print<'a>(rt: &HostRuntime, text: &[u8]) -> Result<u8, WordFault<'a>> {
+    let mut writer = io::writer(rt);
+    let printed = match writer.write_all(text) {
+        Ok(()) => writer.flush(),
+        Err(error) => Err(error),
+    };
+    match printed {
+        Ok(()) => Ok(0),
+        Err(error) if error.kind() == ErrorKind::BrokenPipe => Ok(0),
+        Err(_) => Err(WordFault::Tool(ToolFault::Write)),
+    }
+}
+
+/// The log of the new patches of a bundle.
+fn log_of_bundle<'a>(
+    rt: &HostRuntime,
+    words: &ArgMatches<'a>,
+    name: &'a str,
+) -> Result<Vec<u8>, WordFault<'a>> {
+    let text = read_file(rt, name, Limits::STANDARD)?;
+    match read_bundle(rt.alloc(), &text) {
+        Ok(bundle) => Ok(text_of(rt, words, &bundle)?),
+        Err(fault) => Err(WordFault::of_base(name, ToolFault::of_base(Verdict::unread(fault)))),
+    }
+}
+
+/// The log of the repository that a base makes.
+fn log_of_base<'a>(rt: &HostRuntime, words: &ArgMatches<'a>) -> Result<Vec<u8>, WordFault<'a>> {
+    let file = read_base(rt, words)?;
+    match (repo_of(rt.alloc(), base_of(&file)), &file) {
+        (Ok(repo), _) => Ok(text_of(rt, words, &repo)?),
+        (Err(fault), Some(file)) => Err(WordFault::of_base(file.name, fault)),
+        (Err(fault), None) => Err(WordFault::Tool(fault)),
+    }
+}
+
+/// `dm log`. The mirror's file is let go before anything is printed.
+pub fn log<'a>(
+    rt: &HostRuntime,
+    words: &ArgMatches<'a>,
+    is_terminal: bool,
+) -> Result<u8, WordFault<'a>> {
+    let text = if words.contains_id("mirror") {
+        let repo = read_repo(rt, words, is_terminal)?;
+        text_of(rt, words, &repo)?
+    } else if let Some(name) = words.get_str("bundle") {
+        log_of_bundle(rt, words, name)?
+    } else {
+        log_of_base(rt, words)?
+    };
+    print(rt, &text)
+}
