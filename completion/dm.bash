@@ -1,0 +1,55 @@
+# Completion of dm for bash. Source it, or put it as `dm` into share/bash-completion/completions.
+
+_dm()
+{
+  local word=${COMP_WORDS[COMP_CWORD]} before=${COMP_WORDS[COMP_CWORD - 1]} command=${COMP_WORDS[1]} options i
+  COMPREPLY=()
+  if [ "$COMP_CWORD" -eq 1 ] || { [ "$COMP_CWORD" -eq 2 ] && [ "$command" = help ]; }; then
+    options='apply check checkout init log run send'
+    [ "$COMP_CWORD" -eq 1 ] && options="$options help --help --version"
+    mapfile -t COMPREPLY < <(compgen -W "$options" -- "$word")
+    return
+  fi
+  case $command in
+    apply) options='--base --repository --mirror --no-wait --dry-run --bundle --quiet --hash --explain --skip --stream' ;;
+    check) options='--hash --explain' ;;
+    checkout) options='--mirror --no-wait --all-names' ;;
+    init) options='--mirror --base --repository --no-wait --explain' ;;
+    log) options='--mirror --base --repository --last --reverse --verbose --count --context --no-wait' ;;
+    run) options='--mirrors --bound --base --repository --explain --skip' ;;
+    send) options='--mirror --base --repository --first --minimal --no-wait --explain --to' ;;
+    *) return ;;
+  esac
+  case $before in
+    --base | --repository | --mirror | --to)
+      _dm_files -f "$word"
+      return ;;
+    --mirrors | --bound | --first | --last) return ;;
+  esac
+  if [[ $word = -* ]]; then
+    mapfile -t COMPREPLY < <(compgen -W "$options --help" -- "$word")
+    return
+  fi
+  case $command in
+    checkout) _dm_files -d "$word" ;;
+    # Where `=` parts words, POSTER, `=` and FILE are three words; else FILE is what follows it.
+    run)
+      if [ "$before" = = ]; then
+        _dm_files -f "$word"
+      elif [ "$word" = = ]; then
+        _dm_files -f ''
+      elif [[ $word = *=* ]]; then
+        _dm_files -f "${word#*=}"
+      fi ;;
+    apply | check | log) _dm_files -f "$word" ;;
+  esac
+}
+
+# _dm_files -f|-d WORD: the files or folders whose names begin so
+_dm_files()
+{
+  compopt -o filenames 2>/dev/null
+  mapfile -t COMPREPLY < <(compgen "$1" -- "$2")
+}
+
+complete -F _dm dm
