@@ -2,10 +2,10 @@
 ghost use Rattle.std.specs.Prelude.{◌≡◌};
 ghost use Rattle.dm_checkout.specs.declared.fault.CheckoutFault.TheVariants.{NoMemory};
 
-use bstr::BStr;
+use dm_quoted::Quoted;
 use std::alloc::AllocError;
 use std::fmt::{self, Display, Formatter, Write};
-use std::{io, str};
+use std::io;
 
 /// A path as it is shown: in quotes, with what doesn't print escaped, and what is no UTF-8 too.
 #[derive(Drop)]
@@ -16,10 +16,7 @@ pub struct Place {
 
 impl Display for Place {
     fn fmt<W: Write>(&self, f: &mut Formatter<W>) -> fmt::Result {
-        match str::from_utf8(&self.bytes) {
-            Ok(text) => write!(f, "{text:?}"),
-            Err(_) => write!(f, "{:?}", BStr::new(&self.bytes)),
-        }
+        write!(f, "{}", Quoted { text: &self.bytes })
     }
 }
 

@@ -2,7 +2,9 @@
 use Rattle.std.specs.Prelude.{◌≡◌, ◌⊎◌, ℕ, List, drop, codes}
 use Rattle.memchr.specs.Find.{OccursAt}
 use Rattle.dm_bundle.specs.Bundles.{Contents, EndsAt}
-use Rattle.dm_scratch.specs.Taking.{Reads}
+use Rattle.dm_named.specs.declared.limits.Limits.{Limits}
+use Rattle.dm_named.specs.Limits.{standard}
+use Rattle.dm_scratch.specs.Taking.{ReadsWithin}
 use Rattle.dm_hash.specs.declared.trailer.Trailer.{Trailer}
 use Rattle.dm_hash.specs.declared.trailer.Trailer.TheVariants.{NoHash, Right as IsRight, Wrong}
 use Rattle.dm_hash.specs.Trailers.{trailer_mark, TrailerSays}
@@ -27,29 +29,33 @@ RefusesTrailer Right Wrong kind = kind ≡ WrongHash
 RefusesTrailer Right NoHash kind = kind ≡ Missing
 RefusesTrailer Right IsRight kind = ⊥
 
--- the text is a bundle within the standard limits, and at this place, past the context and white space, its trailer says this
-pub record HasTrailer (text : List ℕ) (trailer : Trailer) (at : ℕ) : Type 0 where
+-- the text is a bundle within the limits, and at this place, past the context and white space, its trailer says this
+pub record HasTrailer (limits : Limits) (text : List ℕ) (trailer : Trailer) (at : ℕ) : Type 0 where
   pub bundle : Contents
-  pub reads : Reads text bundle
+  pub reads : ReadsWithin limits text bundle
   pub ends : EndsAt text bundle (drop at text)
   pub says : TrailerSays bundle.patches (drop at text) trailer
 
--- the text is a bundle whose trailer the rule refuses, for this reason and at this place
-pub record HasHashFault (rule : HashRule) (text : List ℕ) (fault : HashFault) : Type 0 where
+-- the text is a bundle within the limits whose trailer the rule refuses, for this reason and at this place
+pub record HasHashFaultWithin (limits : Limits) (rule : HashRule) (text : List ℕ) (fault : HashFault) : Type 0 where
   pub trailer : Trailer
-  pub has : HasTrailer text trailer fault.at
+  pub has : HasTrailer limits text trailer fault.at
   pub refused : RefusesTrailer rule trailer fault.kind
 
--- the text is a bundle whose trailer the rule allows
-pub record HasAllowedTrailer (rule : HashRule) (text : List ℕ) : Type 0 where
+-- the text is a bundle within the standard limits whose trailer the rule refuses
+abbrev pub HasHashFault : HashRule → List ℕ → HashFault → Type 0
+HasHashFault rule text fault = HasHashFaultWithin standard rule text fault
+
+-- the text is a bundle within the limits whose trailer the rule allows
+pub record HasAllowedTrailer (limits : Limits) (rule : HashRule) (text : List ℕ) : Type 0 where
   pub trailer : Trailer
   pub at : ℕ
-  pub has : HasTrailer text trailer at
+  pub has : HasTrailer limits text trailer at
   pub allowed : (kind : HashFaultKind) → RefusesTrailer rule trailer kind → ⊥
 
--- the text is no bundle within the standard limits
-abbrev pub IsNoBundle : List ℕ → Type 0
-IsNoBundle text = (b : Contents) → Reads text b → ⊥
+-- the text is no bundle within the limits
+abbrev pub IsNoBundle : Limits → List ℕ → Type 0
+IsNoBundle limits text = (b : Contents) → ReadsWithin limits text b → ⊥
 
 -- the rule asks nothing of the text: nothing of any; or only that no hash is wrong, and what begins a trailer stands nowhere in the text
 pub data AsksNothing (rule : HashRule) (text : List ℕ) : Type 0 where
@@ -57,5 +63,9 @@ pub data AsksNothing (rule : HashRule) (text : List ℕ) : Type 0 where
   of_this : rule ≡ NotWrong → ((i : ℕ) → OccursAt text trailer_mark i → ⊥) → AsksNothing rule text
 
 -- the rule refuses nothing of the text: it is a bundle whose trailer is allowed, or no bundle, or nothing is asked of it
+abbrev pub PassesRuleWithin : Limits → HashRule → List ℕ → Type 0
+PassesRuleWithin limits rule text = HasAllowedTrailer limits rule text ⊎ (IsNoBundle limits text ⊎ AsksNothing rule text)
+
+-- the same, within the standard limits
 abbrev pub PassesRule : HashRule → List ℕ → Type 0
-PassesRule rule text = HasAllowedTrailer rule text ⊎ (IsNoBundle text ⊎ AsksNothing rule text)
+PassesRule rule text = PassesRuleWithin standard rule text

@@ -1,7 +1,7 @@
 //! What is asked of the hash with which a bundle may end.
 ghost use Rattle.std.specs.Prelude.{◌≡◌, ℕ, IfOk, IfSome, IfNone, IsTrue};
 ghost use Rattle.dm_deliver.specs.declared.hash_rule.HashFaultKind.{HashFaultKind as Kind};
-ghost use Rattle.dm_deliver.specs.Hashes.{hash_word, RefusesTrailer, HasHashFault, AsksNothing, PassesRule};
+ghost use Rattle.dm_deliver.specs.Hashes.{hash_word, RefusesTrailer, HasHashFault, HasHashFaultWithin, AsksNothing, PassesRule, PassesRuleWithin};
 
 use dm_hash::{Trailer, read_hashed};
 use dm_named::{FaultKind, Limits};
@@ -77,7 +77,7 @@ fn asks_nothing(text: &[u8], rule: HashRule) -> bool
     }
 }
 
-/// What is wrong with the hash of a bundle, by a rule. `None` also for a text that is no bundle.
+/// What is wrong with the hash of a bundle within the standard limits, by a rule. `None` also for a text that is none.
 pub fn hash_fault(
     alloc: Global,
     text: &[u8],
@@ -86,10 +86,23 @@ pub fn hash_fault(
     ensures some { IfOk result (λ found. IfSome found (λ fault. HasHashFault rule text.now fault)) }
     ensures none { IfOk result (λ found. IfNone found (PassesRule rule text.now)) }
 {
+    hash_fault_within(alloc, text, Limits::STANDARD, rule)
+}
+
+/// What is wrong with the hash of a bundle within these limits, by a rule. `None` also for a text that is none.
+pub fn hash_fault_within(
+    alloc: Global,
+    text: &[u8],
+    limits: Limits,
+    rule: HashRule,
+) -> Result<Option<HashFault>, AllocError>
+    ensures some { IfOk result (λ found. IfSome found (λ fault. HasHashFaultWithin limits rule text.now fault)) }
+    ensures none { IfOk result (λ found. IfNone found (PassesRuleWithin limits rule text.now)) }
+{
     if asks_nothing(text, rule) {
         return Ok(None);
     }
-    match read_hashed(alloc, text, Limits::STANDARD) {
+    match read_hashed(alloc, text, limits) {
         Ok(hashed) => match refusal_of(rule, hashed.trailer) {
             Some(kind) => Ok(Some(HashFault {
                 kind,

@@ -25,7 +25,7 @@ pub use delivery::{answer, deliver};
 pub use fault::{AnswerError, DeliverError};
 pub use frame_fault::{FrameFault, FrameFaultKind};
 pub use framed::Framed;
-pub use hash_rule::{HashFault, HashFaultKind, HashRule, hash_fault};
+pub use hash_rule::{HashFault, HashFaultKind, HashRule, hash_fault, hash_fault_within};
 pub use observer::{Observer, Silent};
 pub use source::Source;
 pub use watched::Watched;

@@ -4,7 +4,7 @@
 //! itself in lines for people. [`skips_of`] does so for why patches were skipped, and [`AccountWithSkips`] prints an account with
 //! that. [`Malformed`] does so for a text that is no bundle. All print into any writer and take no memory while they print.
 //!
-//! The crate stands on dm_scratch's verdicts, on dm_repo's repositories, on dm_bundle's bundles, and on `bstr` for what
+//! The crate stands on dm_scratch's verdicts, on dm_repo's repositories, on dm_bundle's bundles, and on dm_quoted for what
 //! strangers wrote: what doesn't print is escaped. Its theorem is the contract of [`account_of`]: the patches that are named
 //! are those at the verdict's places, and of a bundle that was taken each new patch is in the one list that its fate says. So are
 //! the names that [`skips_of`] finds at the places that dm_repo tells.

@@ -3,8 +3,8 @@ ghost use Rattle.std.specs.Prelude.{◌≤◌, length};
 
 use crate::place::{Place, place_of};
 use crate::seeming::seeming_of;
-use bstr::BStr;
 use dm_named::{FaultKind, Limits, ReadFault};
+use dm_quoted::Quoted;
 use std::fmt::{self, Display, Formatter, Write};
 
 /// So many bytes of a line are shown.
@@ -94,11 +94,15 @@ fn write_place<W: Write>(f: &mut Formatter<W>, text: &[u8], place: Place, at: us
 {
     let from = at - (at - place.start).min(BEFORE);
     let to = place.end.min(from + WIDTH);
-    let line = BStr::new(&text[from..to]);
-    let before = BStr::new(&text[from..at]);
-    write!(f, "  {line:?}\n ")?;
+    let line = Quoted {
+        text: &text[from..to],
+    };
+    let before = Quoted {
+        text: &text[from..at],
+    };
+    write!(f, "  {line}\n ")?;
     let mut blanks = Blanks { to: f };
-    write!(blanks, "{before:?}")?;
+    write!(blanks, "{before}")?;
     writeln!(f, "^")
 }
 

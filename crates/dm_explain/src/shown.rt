@@ -1,14 +1,14 @@
 //! How what a stranger wrote is shown.
 use bstr::BStr;
 use dm_info::Info;
+use dm_quoted::Quoted;
 use std::alloc::Global;
 use std::fmt::{self, Display, Formatter, Write};
-use std::str;
 
 /// At most so many bytes of a name are shown.
 const MOST_SHOWN: usize = 100;
 
-/// A text of a stranger, in quotes. What doesn't print is escaped, and so is what is no UTF-8; a long text is cut.
+/// A text of a stranger, in quotes; a long one is cut.
 #[derive(Clone, Copy)]
 pub(crate) struct Shown<'a> {
     pub(crate) text: &'a [u8],
@@ -30,10 +30,7 @@ fn cut(text: &[u8], most: usize) -> &[u8] {
 impl Display for Shown<'_> {
     fn fmt<W: Write>(&self, f: &mut Formatter<W>) -> fmt::Result {
         let shown = cut(self.text, MOST_SHOWN);
-        match str::from_utf8(shown) {
-            Ok(text) => write!(f, "{text:?}")?,
-            Err(_) => write!(f, "{:?}", BStr::new(shown))?,
-        }
+        write!(f, "{}", Quoted { text: shown })?;
         if shown.len() < self.text.len() {
             f.write_str(" ..")?;
         }

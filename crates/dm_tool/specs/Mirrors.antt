@@ -6,8 +6,8 @@ use Rattle.dm_store.specs.declared.store.Store.{Store}
 use Rattle.dm_deliver.specs.declared.answers.Answer.{Answer}
 use Rattle.dm_deliver.specs.declared.hash_rule.HashRule.{HashRule}
 use Rattle.dm_deliver.specs.Answering.{AnswersEach, IsAcceptedAnswer}
-use Rattle.dm_tool.specs.declared.mirror.Stop.{Stop}
-use Rattle.dm_tool.specs.declared.mirror.Stop.TheVariants.{Mirror, Beside}
+use Rattle.dm_tool.specs.declared.delivering.Stop.{Stop}
+use Rattle.dm_tool.specs.declared.delivering.Stop.TheVariants.{Mirror, Beside}
 
 -- texts were answered in turn, each by the repository that the one before it left, and the exit status says whether all were accepted
 pub record AnswersAll (policy : Policy) (rule : HashRule) (old new : List Patch) (status : ℕ) : Type 0 where

@@ -1,15 +1,17 @@
 //! The words of the command line, and what they start.
 use crate::apply::apply_over;
 use crate::base::{Base, repo_of};
+use crate::beginning::init;
 use crate::check::{check_hash_over, check_over};
+use crate::checking_out::check_out;
 use crate::colour::{Colour, colour_of};
+use crate::delivering::{apply_each, apply_to_mirror};
 use crate::explaining::{explain_applied, explain_hash, explain_unread};
 use crate::fault::ToolFault;
 use crate::files::{base_of, blame_input, read_base, read_file};
 use crate::input::{INPUT, Input};
 use crate::listing::Listing;
 use crate::logging::log;
-use crate::mirror::{apply_each, apply_to_mirror, check_out, init};
 use crate::plan_words::{policy_of, refuse_base, run_plan};
 use crate::sending::send;
 use crate::telling::{Manner, NO_ANSWER, exit_status, fixed_manner, tell};

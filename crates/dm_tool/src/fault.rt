@@ -24,6 +24,12 @@ pub enum ToolFault {
     /// The base isn't taken into an empty repository: the text is malformed, or its bundle refused. Nothing was read or written.
     #[error("base {0}")]
     BadBase(Verdict),
+    /// There is no plan of these posters, bases and bound. Nothing was written.
+    #[error("{0}")]
+    BadPlan(PlanFault),
+    /// A thread could not be started. Nothing was written.
+    #[error("no thread")]
+    NoThread,
     /// The text of what somebody holds tells no names. Nothing was written.
     #[error("theirs malformed {} {}", .0.kind.word(), .0.at)]
     BadNames(ReadFault),
@@ -31,12 +37,6 @@ pub enum ToolFault {
     /// Nothing was written.
     #[error("too many patches to send; --first N sends the first N")]
     TooManyToSend,
-    /// There is no plan of these posters, bases and bound. Nothing was written.
-    #[error("{0}")]
-    BadPlan(PlanFault),
-    /// A thread could not be started. Nothing was written.
-    #[error("no thread")]
-    NoThread,
 }
 
 impl ToolFault {
@@ -64,7 +64,7 @@ impl ToolFault {
 }
 
 impl From<PlanFault> for ToolFault {
-    ghost from_gives = { λ fault e. (e ≡ NoMemory) ⊎ (e ≡ BadPlan fault) };
+    ghost from_gives = { λ fault e. ((fault ≡ PlanFault.NoMemory) × (e ≡ NoMemory)) ⊎ ((fault ≢ PlanFault.NoMemory) × (e ≡ BadPlan fault)) };
 
     fn from(fault: PlanFault) -> ToolFault {
         match fault {
@@ -75,7 +75,7 @@ impl From<PlanFault> for ToolFault {
 }
 
 impl From<RunFault> for ToolFault {
-    ghost from_gives = { λ fault e. (e ≡ NoMemory) ⊎ (e ≡ NoThread) };
+    ghost from_gives = { λ fault e. ((fault ≡ RunFault.NoMemory) × (e ≡ NoMemory)) ⊎ ((fault ≡ RunFault.NoThread) × (e ≡ NoThread)) };
 
     fn from(fault: RunFault) -> ToolFault {
         match fault {

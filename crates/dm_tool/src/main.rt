@@ -19,10 +19,13 @@
 
 mod apply;
 mod base;
+mod beginning;
 mod bundles;
 mod check;
+mod checking_out;
 mod colour;
 mod commands;
+mod delivering;
 mod explaining;
 mod fault;
 mod files;

@@ -1,6 +1,6 @@
 use Rattle.std.proofs.Common.{ap, length}
 use Rattle.dm_tool.proofs.MirrorLemmas.{all_came, told_less}
-use Rattle.dm_tool.proofs.mirror.take_named.Goals as goal
+use Rattle.dm_tool.proofs.delivering.take_named.Goals as goal
 
 pub returns-in-Ok-clause-delivers : goal.returns-in-Ok-clause-delivers
 returns-in-Ok-clause-delivers g c =

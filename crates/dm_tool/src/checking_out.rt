@@ -1,0 +1,54 @@
+//! `dm checkout`.
+use crate::mirror::read_repo;
+use crate::progress::Meter;
+use crate::telling::NO_ANSWER;
+use crate::word_fault::WordFault;
+use clap::ArgMatches;
+use dm_checkout::{CheckoutFault, Names, SystemDisk, checkout};
+use std::rt::Runtime;
+
+/// Says why a tree isn't written.
+fn say_unwritten(rt: &HostRuntime, folder: &str, fault: &CheckoutFault) {
+    let _ = eprintln!(rt; "dm: cannot write {folder}: {fault}");
+    if let CheckoutFault::UnsafeNames(places) = fault {
+        for place in places {
+            let _ = eprintln!(rt; "{place}");
+        }
+        let _ = eprintln!(rt;
+            "Other tools obey such names. To write them all the same: --all-names"
+        );
+    }
+}
+
+/// `dm checkout`. Standard error may be a terminal. The mirror's file is let go before anything is written.
+pub fn check_out<'a>(
+    rt: &HostRuntime,
+    words: &ArgMatches<'a>,
+    is_terminal: bool,
+) -> Result<u8, WordFault<'a>> {
+    let folder = words.get_str("folder").unwrap_or("");
+    let names = if words.get_flag("all-names") {
+        Names::All
+    } else {
+        Names::Safe
+    };
+    let repo = read_repo(rt, words, is_terminal)?;
+    let mut meter = Meter::new(*rt, is_terminal);
+    let mut disk = SystemDisk::new(*rt);
+    let written = checkout(
+        rt.alloc(),
+        &mut disk,
+        repo.tree(),
+        folder,
+        names,
+        &mut meter,
+    );
+    meter.end();
+    match written {
+        Ok(_) => Ok(0),
+        Err(fault) => {
+            say_unwritten(rt, folder, &fault);
+            Ok(NO_ANSWER)
+        }
+    }
+}
