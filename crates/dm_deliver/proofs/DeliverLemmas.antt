@@ -1,5 +1,5 @@
 -- Texts that were delivered, and one more.
-use Rattle.std.proofs.Common.{◌≡◌, ◌∙◌, ◌⊎◌, ◌↔◌, ◌<◌, ◌^◌, inl, inr, length, map, ℕ, Bool, true, false, All, IsTrue, List, [], ◌∷◌, ◌++◌, Some, refl, sym, subst, ap, append_assoc, append-nil, true≢false}
+use Rattle.std.proofs.Common.{◌≡◌, ◌≢◌, ◌∙◌, ◌⊎◌, ◌↔◌, ◌<◌, ◌^◌, inl, inr, length, map, ℕ, Bool, true, false, All, IsTrue, List, [], ◌∷◌, ◌++◌, Some, refl, sym, subst, ap, append_assoc, append-nil, true≢false}
 use Rattle.std.proofs.KnownBytes.{Appends-nil, Appends-trans}
 use Rattle.std.proofs.lemmas.Grind.{flat_map-append}
 use Rattle.std.proofs.lemmas.List.{map-append}
@@ -9,7 +9,9 @@ use Rattle.dm_named.specs.Patches.{Patch}
 use Rattle.dm_repo.specs.declared.policy.Policy.{Policy}
 use Rattle.dm_scratch.specs.declared.verdict.Verdict.TheVariants.{NothingNew}
 use Rattle.dm_journal.specs.declared.device.DeviceError.TheVariants.{Failed}
+use Rattle.dm_journal.specs.declared.fault.WriteError.{WriteError}
 use Rattle.dm_journal.specs.declared.fault.WriteError.TheVariants.{Device as WritingDevice, TooLong, Full}
+use Rattle.dm_journal.specs.Ready.{IsFailure}
 use Rattle.dm_journal.specs.Device.{LeavesOnly}
 use Rattle.dm_deliver.proofs.Runs.{followed}
 use Rattle.dm_store.specs.Keeping.{KeepsRepo, CrashesKeep}
@@ -21,7 +23,7 @@ use Rattle.dm_deliver.specs.declared.fault.AnswerError.{AnswerError}
 use Rattle.dm_deliver.specs.declared.fault.AnswerError.TheVariants.{Store as OfStore}
 use Rattle.dm_deliver.specs.declared.hash_rule.HashRule.{HashRule}
 use Rattle.dm_deliver.specs.Answering.{answer_line, Answers, AnswersEach, IsAcceptedAnswer, KeepsEither, KeepsAnswered, LeavesUnanswered}
-use Rattle.dm_deliver.specs.Delivering.{lines_of, KeepsFirst, KeepsSome, Delivers, DeliversButLast}
+use Rattle.dm_deliver.specs.Delivering.{lines_of, KeepsFirst, KeepsSome, Delivers, DeliversAll, DeliversButLast}
 use Rattle.dm_deliver.specs.Outputs.{Output, Puts, PutsEach}
 use Rattle.dm_deliver.proofs.AnswerLemmas.{takes_of_entry}
 
@@ -160,6 +162,27 @@ module _ {D : Type 0} (moment : D → ℕ) (left_since : D → ℕ → List ℕ 
         all_more IsAcceptedAnswer all more d.answers v s.1 both,
       )
 
+  -- a checkpoint was made, or tried
+  pub settled : (Gave : List (List ℕ) → Type 0) (policy : Policy) (rule : HashRule) (old mid new : Store D) (before now : Output) (all : Bool)
+      (s : Accepts moment left_since Gave policy rule old mid before now all) → new.repo ≡ mid.repo →
+      LeavesOnly moment left_since mid.journal.device new.journal.device (λ file. KeepsRepo file mid.repo.patches) →
+      Accepts moment left_since Gave policy rule old new before now all
+  settled Gave policy rule old mid new before now all s same run =
+      let d = s.0 in (
+        record {
+          texts = d.texts;
+          answers = d.answers;
+          came = d.came;
+          takes = subst (λ (r : List Patch). AnswersEach old.repo.patches d.texts policy rule d.answers r) (sym (ap (λ r. r.patches) same)) d.takes;
+          lines = d.lines;
+          flushed = d.flushed;
+          any_moment = followed moment left_since old.journal.device mid.journal.device new.journal.device (KeepsFirst old.repo.patches d.texts policy rule d.answers)
+              d.any_moment
+              (weakened moment left_since mid.journal.device new.journal.device _ _ (λ c keeps. all_are_first old.repo.patches d.texts policy rule d.answers mid.repo.patches c d.takes keeps) run);
+        },
+        s.1,
+      )
+
   -- no text more
   pub no_more : (Gave Gives : List (List ℕ) → Type 0) (policy : Policy) (rule : HashRule) (old new : Store D) (before now : Output) (all : Bool) (s : Accepts moment left_since Gave policy rule old new before now all) →
       Gives s.0.texts → Accepts moment left_since Gives policy rule old new before now all
@@ -211,4 +234,19 @@ module _ {D : Type 0} (moment : D → ℕ) (left_since : D → ℕ → List ℕ 
     failed = failed;
     not_too_long = fits;
     full = full;
+  }
+
+  -- all are answered, and a checkpoint failed
+  pub checkpoint_failed : (faults : D → ℕ) (Gave : List (List ℕ) → Type 0) (policy : Policy) (rule : HashRule) (error : WriteError) (old mid new : Store D) (before now : Output)
+      (d : Delivers moment left_since Gave policy rule old mid before now) → new.repo ≡ mid.repo →
+      LeavesOnly moment left_since mid.journal.device new.journal.device (λ file. KeepsRepo file mid.repo.patches) →
+      (IsFailure error → faults mid.journal.device < faults new.journal.device) → (error ≢ TooLong) × (error ≢ Full) →
+      DeliversAll moment left_since faults Gave policy rule error old new before now
+  checkpoint_failed faults Gave policy rule error old mid new before now d same run failed kind = record {
+    mid = mid;
+    delivered = d;
+    same = same;
+    any_moment = run;
+    failed = failed;
+    kind = kind;
   }

@@ -1,11 +1,13 @@
 -- How texts that come one after the other are delivered.
-use Rattle.std.specs.Prelude.{◌≡◌, ◌<◌, ◌^◌, ℕ, List, [], ◌∷◌, ◌++◌, length, flat_map, map}
+use Rattle.std.specs.Prelude.{◌≡◌, ◌≢◌, ◌<◌, ◌^◌, ℕ, List, [], ◌∷◌, ◌++◌, length, flat_map, map}
 use Rattle.std.specs.Io.KnownBytes.{Appends}
 use Rattle.dm_named.specs.Patches.{Patch}
 use Rattle.dm_repo.specs.declared.policy.Policy.{Policy}
 use Rattle.dm_journal.specs.declared.device.DeviceError.TheVariants.{Failed}
 use Rattle.dm_journal.specs.declared.fault.WriteError.TheVariants.{Device as WritingDevice, TooLong, Full}
+use Rattle.dm_journal.specs.declared.fault.WriteError.{WriteError}
 use Rattle.dm_journal.specs.Device.{LeavesOnly}
+use Rattle.dm_journal.specs.Ready.{IsFailure}
 use Rattle.dm_store.specs.declared.store.Store.{Store}
 use Rattle.dm_store.specs.Keeping.{KeepsRepo}
 use Rattle.dm_deliver.specs.declared.answers.Answer.{Answer as Reply}
@@ -13,7 +15,7 @@ use Rattle.dm_deliver.specs.declared.hash_rule.HashRule.{HashRule}
 use Rattle.dm_deliver.specs.declared.fault.AnswerError.{AnswerError}
 use Rattle.dm_deliver.specs.declared.fault.AnswerError.TheVariants.{Store as OfStore}
 use Rattle.dm_deliver.specs.declared.fault.DeliverError.{DeliverError}
-use Rattle.dm_deliver.specs.declared.fault.DeliverError.TheVariants.{Source, Answer}
+use Rattle.dm_deliver.specs.declared.fault.DeliverError.TheVariants.{Source, Answer, Checkpoint}
 use Rattle.dm_deliver.specs.Answering.{answer_line, AnswersEach, IsOfStore, LeavesUnanswered, KeepsAnswered}
 use Rattle.dm_deliver.specs.Outputs.{Output, PutsEach}
 
@@ -58,15 +60,27 @@ pub record DeliversButLast {D : Type 0} (seen : D → List ℕ) (moment : D → 
   pub not_too_long : error ≡ OfStore TooLong → ⊥
   pub full : error ≡ OfStore Full → 2 ^ 62 < length (seen mid.journal.device)
 
+-- All texts that came were delivered, and then a checkpoint failed, which leaves the repository as it is: why, by the store as it was before it.
+pub record DeliversAll {D : Type 0} (moment : D → ℕ) (left_since : D → ℕ → List ℕ → Type 0) (faults : D → ℕ) (Gave : List (List ℕ) → Type 0) (policy : Policy)
+    (rule : HashRule) (error : WriteError) (old new : Store D) (before now : Output) : Type 0 where
+  pub mid : Store D
+  pub delivered : Delivers moment left_since Gave policy rule old mid before now
+  pub same : new.repo ≡ mid.repo
+  pub any_moment : LeavesOnly moment left_since mid.journal.device new.journal.device (λ file. KeepsRepo file mid.repo.patches)
+  pub failed : IsFailure error → faults mid.journal.device < faults new.journal.device
+  pub kind : (error ≢ TooLong) × (error ≢ Full)
+
 -- what was delivered by an error: all texts that came, or all but the last
 abbrev pub DeliversUntil : {E D : Type 0} → (D → List ℕ) → (D → ℕ) → (D → ℕ → List ℕ → Type 0) → (D → ℕ) → (List (List ℕ) → Type 0) → Policy →
     HashRule → DeliverError E → Store D → Store D → Output → Output → Type 0
 DeliversUntil seen moment left_since faults Gave policy rule (Source why) old new before now = Delivers moment left_since Gave policy rule old new before now
+DeliversUntil seen moment left_since faults Gave policy rule (Checkpoint why) old new before now = DeliversAll moment left_since faults Gave policy rule why old new before now
 DeliversUntil seen moment left_since faults Gave policy rule (Answer why) old new before now = DeliversButLast seen moment left_since faults Gave policy rule why old new before now
 
 -- the error is the store's own
 abbrev pub EndsStore : {E : Type 0} → DeliverError E → Type 0
 EndsStore (Source why) = ⊥
+EndsStore (Checkpoint why) = Unit {0}
 EndsStore (Answer why) = IsOfStore why
 
 -- texts came, and the file keeps the repository that the first of them leave, some or all

@@ -3,7 +3,8 @@ ghost use Rattle.std.specs.Prelude.{◌≡◌, ◌≢◌, ◌⊎◌, ◌<◌, �
 ghost use Rattle.dm_journal.specs.declared.device.DeviceError.TheVariants.{Failed};
 ghost use Rattle.dm_journal.specs.declared.fault.WriteError.TheVariants.{Device as WritingDevice, TooLong, Full};
 ghost use Rattle.dm_journal.specs.Device.{LeavesOnly};
-ghost use Rattle.dm_store.specs.Keeping.{CrashesKeep, IsStored};
+ghost use Rattle.dm_journal.specs.Ready.{IsBeside, IsFailure};
+ghost use Rattle.dm_store.specs.Keeping.{CrashesKeep, IsStored, KeepsRepo};
 ghost use Rattle.dm_deliver.specs.declared.answers.Answer.{Answer as Reply};
 ghost use Rattle.dm_deliver.specs.declared.fault.AnswerError.TheVariants.{Store as OfStore, NoMemory as NoRoom, Write as Unwritten};
 ghost use Rattle.dm_deliver.specs.Answering.{Answers, answer_line, IsAcceptedAnswer, IsOfStore, LeavesUnanswered, KeepsEither, KeepsAnswered};
@@ -17,7 +18,7 @@ use crate::line::write_line;
 use crate::observer::Observer;
 use crate::source::Source;
 use crate::watched::Watched;
-use dm_journal::Device;
+use dm_journal::{Device, WriteError};
 use dm_repo::{Policy, Refusal};
 use dm_scratch::Verdict;
 use dm_store::Store;
@@ -106,11 +107,33 @@ pub fn answer<D: Device, W: Write>(
     Ok(reply)
 }
 
+// Makes a checkpoint where one is worth its while, if it may. Returns whether the next one may be tried: not where the new file of this one
+// could not be made. Then the store goes on without.
+fn settle<D: Device>(alloc: Global, store: &mut Store<D>, may: bool) -> Result<bool, WriteError>
+    requires { IsStored D.seen D.may_leave D.file_may_leave store.old }
+    ensures same { store.new.repo ≡ store.old.repo }
+    ensures stored { OnOk result (IsStored D.seen D.may_leave D.file_may_leave store.new) }
+    ensures any_moment { LeavesOnly D.moment D.left_since store.old.journal.device store.new.journal.device (λ file. KeepsRepo file store.old.repo.patches) }
+    ensures failed { IfErr result (λ e. IsFailure e → D.faults store.old.journal.device < D.faults store.new.journal.device) }
+    ensures kind { IfErr result (λ e. (¬ IsBeside e) × ((e ≢ TooLong) × (e ≢ Full))) }
+{
+    if !may || !store.wants_checkpoint() {
+        return Ok(may);
+    }
+    match store.checkpoint(alloc) {
+        Ok(_) => Ok(true),
+        Err(WriteError::Beside(_)) => Ok(false),
+        Err(error) => Err(error),
+    }
+}
+
 /// Takes the texts of a source into a store, in turn, and answers each by its line once it stands on the disk. A bundle that is
 /// refused is answered, and the next is taken all the same. An observer looks on. Returns whether all were accepted.
 ///
-/// It stops at the first error. What was answered until then stands; after [`AnswerError::Store`]
-/// open the file again.
+/// Where a checkpoint is worth its while, it makes one after the answer. Where its new file can't be made, it goes on without.
+///
+/// It stops at the first error. What was answered until then stands; after [`AnswerError::Store`] and
+/// [`DeliverError::Checkpoint`] open the file again.
 pub fn deliver<D: Device, S: Source, O: Observer, W: Write>(
     alloc: Global,
     store: &mut Store<D>,
@@ -127,7 +150,7 @@ pub fn deliver<D: Device, S: Source, O: Observer, W: Write>(
     ensures delivers { IfOk result (λ all. (d : Delivers D.moment D.left_since (λ texts. S.gave source.old texts source.new) policy rule store.old store.new
         (output W.contents writer.old) (output W.contents writer.new)) × (IsTrue all ↔ All IsAcceptedAnswer d.answers)) }
 
-    // By an error, all texts that came, or all but the last.
+    // By an error, all texts that came, or all but the last; and it doesn't give up a checkpoint by itself.
     ensures delivers_until { IfErr result (λ e. DeliversUntil D.seen D.moment D.left_since D.faults (λ texts. S.gave source.old texts source.new) policy
         rule e store.old store.new (output W.contents writer.old) (output W.contents writer.new)) }
 
@@ -142,6 +165,7 @@ pub fn deliver<D: Device, S: Source, O: Observer, W: Write>(
         (KeepsSome (λ texts. S.gave source.old texts source.new) store.old.repo.patches policy rule) }
 {
     let mut all_accepted = true;
+    let mut may_settle = true;
     loop {
         match source.next_text() {
             Ok(Some(text)) => {
@@ -150,6 +174,7 @@ pub fn deliver<D: Device, S: Source, O: Observer, W: Write>(
                 let reply = answer(alloc, store, bytes, policy, rule, writer)?;
                 observer.after(store.repo(), bytes, policy, reply);
                 all_accepted = all_accepted && reply.is_accepted();
+                may_settle = settle(alloc, store, may_settle)?;
             }
             Ok(None) => return Ok(all_accepted),
             Err(error) => return Err(DeliverError::Source(error)),

@@ -1,7 +1,7 @@
 //! Why a text isn't answered, and why a delivery stops.
 ghost use Rattle.std.specs.Prelude.{◌≡◌};
 ghost use Rattle.dm_deliver.specs.declared.fault.AnswerError.TheVariants.{Store, NoMemory};
-ghost use Rattle.dm_deliver.specs.declared.fault.DeliverError.TheVariants.{Answer};
+ghost use Rattle.dm_deliver.specs.declared.fault.DeliverError.TheVariants.{Answer, Checkpoint};
 
 use dm_journal::WriteError;
 use std::alloc::{AllocError, AllocFailed};
@@ -29,6 +29,9 @@ pub enum DeliverError<E> {
     Source(E),
     /// The last text isn't answered. All before it are.
     Answer(AnswerError),
+    /// All texts that came are answered and stand. The new file of a checkpoint could not take the place of the old one, or nobody
+    /// knows: open the file again.
+    Checkpoint(WriteError),
 }
 
 impl From<WriteError> for AnswerError {
@@ -52,5 +55,13 @@ impl<E> From<AnswerError> for DeliverError<E> {
 
     fn from(error: AnswerError) -> Self {
         DeliverError::Answer(error)
+    }
+}
+
+impl<E> From<WriteError> for DeliverError<E> {
+    ghost from_gives = { λ error e. e ≡ Checkpoint error };
+
+    fn from(error: WriteError) -> Self {
+        DeliverError::Checkpoint(error)
     }
 }

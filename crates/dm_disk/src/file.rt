@@ -35,7 +35,8 @@ struct Failure {
     is_sync: bool,
 }
 
-/// A file on a disk, which is locked until it is dropped. Once a call has failed, every later one fails: open the file again.
+/// A file on a disk, which is locked until it is dropped. Once a call on it has failed, every later one fails: open the file again.
+/// A new file that can't be made leaves it as it was.
 #[derive(Drop)]
 pub struct DiskFile {
     rt: HostRuntime,
@@ -145,7 +146,6 @@ impl Device for DiskFile {
             return Ok(());
         }
         self.log.wrote_beside(NEW_MODE, bytes, false);
-        self.phase = Phase::Stopped;
         Err(DeviceError::Failed)
     }
 
@@ -158,7 +158,7 @@ impl Device for DiskFile {
             return Ok(());
         }
         self.log.synced_beside(false);
-        self.phase = Phase::Stopped;
+        self.new_file = None;
         Err(DeviceError::Failed)
     }
 
@@ -241,7 +241,7 @@ impl DiskFile {
         Some(Rehearsal::new(bytes))
     }
 
-    /// Why the first call that failed did, as the system says. `None` where all were done, or were refused.
+    /// Why the last call that failed did, as the system says. `None` where all were done, or were refused.
     pub fn error(&self) -> Option<io::Error> {
         match &self.failure {
             Some(failure) => Some(failure.error),
@@ -249,7 +249,7 @@ impl DiskFile {
         }
     }
 
-    /// Whether the first call that failed was a sync. Then the system may show what isn't on the disk, also to whoever opens the
+    /// Whether the last call that failed was a sync. Then the system may show what isn't on the disk, also to whoever opens the
     /// file next, until it is mounted anew.
     pub fn failed_to_sync(&self) -> bool {
         let Some(failure) = &self.failure else {

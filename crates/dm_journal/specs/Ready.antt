@@ -2,6 +2,9 @@
 use Rattle.std.specs.Prelude.{◌≡◌, ◌⊎◌, ℕ, ◌+◌, ◌<◌, ◌^◌, List, [], ◌∷◌, ◌++◌, length}
 use Rattle.dm_journal.specs.Device.{IsDurable, LeavesOnly}
 use Rattle.dm_journal.specs.Journal.{Begins, StandsFor}
+use Rattle.dm_journal.specs.declared.device.DeviceError.TheVariants.{Failed}
+use Rattle.dm_journal.specs.declared.fault.WriteError.{WriteError}
+use Rattle.dm_journal.specs.declared.fault.WriteError.TheVariants.{Device, Beside, TooLong, Full}
 use Rattle.dm_journal.specs.declared.journal.Journal.{Journal}
 
 -- the journal has these texts, all of them on the disk, and knows the place of the closed gate behind them
@@ -28,3 +31,17 @@ pub record IsUntouched {D : Type 0} (seen : D → List ℕ) (may_leave file_may_
   pub same : seen new ≡ seen old
   pub durable : IsDurable seen may_leave file_may_leave new
   pub any_moment : LeavesOnly moment left_since old new (λ c. c ≡ seen old)
+
+-- the new file could not be made
+abbrev pub IsBeside : WriteError → Type 0
+IsBeside (Beside why) = Unit {0}
+IsBeside (Device why) = ⊥
+IsBeside TooLong = ⊥
+IsBeside Full = ⊥
+
+-- the disk failed
+abbrev pub IsFailure : WriteError → Type 0
+IsFailure (Beside why) = why ≡ Failed
+IsFailure (Device why) = why ≡ Failed
+IsFailure TooLong = ⊥
+IsFailure Full = ⊥

@@ -92,6 +92,7 @@ pub trait Device {
         ensures written { OnOk result (beside self.new ≡ bytes.now) }
         ensures seen { seen self.new ≡ seen self.old }
         ensures crash { Within (may_leave self.new) (may_leave self.old) }
+        ensures named { Within (may_leave self.old) (file_may_leave self.old) → Within (may_leave self.new) (file_may_leave self.new) }
         ensures time { Elapses (moment self.old) (moment self.new) (left_since self.old) (left_since self.new) (may_leave self.new) }
         ensures cause { HasCause (faults self.old) (faults self.new) result };
 
@@ -101,6 +102,7 @@ pub trait Device {
         ensures beside { beside self.new ≡ beside self.old }
         ensures seen { seen self.new ≡ seen self.old }
         ensures crash { Within (may_leave self.new) (may_leave self.old) }
+        ensures named { Within (may_leave self.old) (file_may_leave self.old) → Within (may_leave self.new) (file_may_leave self.new) }
         ensures time { Elapses (moment self.old) (moment self.new) (left_since self.old) (left_since self.new) (may_leave self.new) }
         ensures cause { HasCause (faults self.old) (faults self.new) result };
 

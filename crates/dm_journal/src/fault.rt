@@ -39,6 +39,10 @@ pub enum WriteError {
     /// A call of the device failed, or there was no memory. The file has the texts or not: open it again.
     #[error("{0}")]
     Device(DeviceError),
+    /// The new file that was to take the place of the old one could not be written, or there was no memory for it. The old one is as
+    /// it was.
+    #[error("{0}")]
+    Beside(DeviceError),
     /// A text has more than [`MOST_BYTES`](crate::MOST_BYTES). Nothing has changed.
     #[error("a text is too long for a journal")]
     TooLong,

@@ -7,7 +7,7 @@ ghost use Rattle.dm_journal.specs.declared.fault.Fault.{Fault as FileFault};
 ghost use Rattle.dm_journal.specs.Device.{IsDurable, LeavesOnly};
 ghost use Rattle.dm_journal.specs.Faults.{HasFault};
 ghost use Rattle.dm_journal.specs.Journal.{Begins, StandsFor};
-ghost use Rattle.dm_journal.specs.Ready.{HasTexts, IsTooLong, StandsWithOrWithout, StandsForEither, IsUntouched};
+ghost use Rattle.dm_journal.specs.Ready.{HasTexts, IsTooLong, IsBeside, IsFailure, StandsWithOrWithout, StandsForEither, IsUntouched};
 
 use crate::device::Device;
 use crate::fault::{OpenError, WriteError};
@@ -93,7 +93,7 @@ impl<D: Device> Journal<D> {
             (λ c. (c ≡ D.seen device) ⊎ StandsFor c (map (λ text. text.now) texts.now))) }
         ensures any_moment_err { IfErr result (λ e. LeavesOnly D.moment D.left_since device e.1
             (λ c. (c ≡ D.seen device) ⊎ StandsFor c (map (λ text. text.now) texts.now))) }
-        ensures failed { IfErr result (λ e. e.0 ≡ WritingDevice Failed → D.faults device < D.faults e.1) }
+        ensures failed { IfErr result (λ e. IsFailure e.0 → D.faults device < D.faults e.1) }
         ensures too_long { IfErr result (λ e. e.0 ≡ TooLong → Any IsTooLong (map (λ text. text.now) texts.now)) }
         ensures not_full { IfErr result (λ e. e.0 ≡ Full → ⊥) }
     {
@@ -104,7 +104,7 @@ impl<D: Device> Journal<D> {
     }
 
     /// Puts these texts in the place of those that the journal has. At `Ok` they are acknowledged: from then on each crash
-    /// leaves a file that has just these.
+    /// leaves a file that has just these. At [`WriteError::Beside`] the journal can go on as it was.
     pub fn replace(&mut self, alloc: Global, texts: &[&[u8]]) -> Result<(), WriteError>
         requires { IsDurable D.seen D.may_leave D.file_may_leave self.old.device }
         ensures acknowledged { OnOk result (HasTexts D.seen D.may_leave D.file_may_leave self.new (map (λ text. text.now) texts.now)) }
@@ -112,7 +112,9 @@ impl<D: Device> Journal<D> {
         // A crash at any moment of the call leaves the old texts or the new ones.
         ensures any_moment { (old : List (List ℕ)) → StandsFor (D.seen self.old.device) old
             → LeavesOnly D.moment D.left_since self.old.device self.new.device (StandsForEither old (map (λ text. text.now) texts.now)) }
-        ensures failed { IsErrOf result (WritingDevice Failed) → D.faults self.old.device < D.faults self.new.device }
+        ensures untouched { IfErr result (λ e. IsBeside e → (old : List (List ℕ)) → HasTexts D.seen D.may_leave D.file_may_leave self.old old
+            → HasTexts D.seen D.may_leave D.file_may_leave self.new old) }
+        ensures failed { IfErr result (λ e. IsFailure e → D.faults self.old.device < D.faults self.new.device) }
         ensures too_long { IsErrOf result TooLong → Any IsTooLong (map (λ text. text.now) texts.now) }
         ensures not_full { IsErrOf result Full → ⊥ }
     {
@@ -133,11 +135,16 @@ fn put_journal<D: Device>(
     ensures durable { OnOk result (IsDurable D.seen D.may_leave D.file_may_leave device.new) }
     ensures any_moment { LeavesOnly D.moment D.left_since device.old device.new
         (λ c. (c ≡ D.seen device.old) ⊎ StandsFor c (map (λ text. text.now) texts.now)) }
-    ensures failed { IsErrOf result (WritingDevice Failed) → D.faults device.old < D.faults device.new }
+    ensures untouched { IfErr result (λ e. IsBeside e → IsUntouched D.seen D.may_leave D.file_may_leave D.moment D.left_since device.old device.new) }
+    ensures failed { IfErr result (λ e. IsFailure e → D.faults device.old < D.faults device.new) }
     ensures too_long { IsErrOf result TooLong → Any IsTooLong (map (λ text. text.now) texts.now) }
     ensures not_full { IsErrOf result Full → ⊥ }
 {
-    let bytes = whole(alloc, texts)?;
+    let bytes = match whole(alloc, texts) {
+        Ok(bytes) => bytes,
+        Err(WriteError::Device(error)) => return Err(WriteError::Beside(error)),
+        Err(error) => return Err(error),
+    };
     put_in_place(device, &bytes)?;
     Ok(bytes.len() - 1)
 }

@@ -1,9 +1,9 @@
 //! What is written, and how it comes on the disk.
-ghost use Rattle.std.specs.Prelude.{◌≡◌, ◌⊎◌, ◌<◌, ◌≤◌, ◌^◌, ◌++◌, [], ◌∷◌, List, ℕ, length, map, Any, IfOk, IfErr, OnOk, IsErrOf};
+ghost use Rattle.std.specs.Prelude.{◌≡◌, ◌≢◌, ◌⊎◌, ◌<◌, ◌≤◌, ◌^◌, ◌++◌, [], ◌∷◌, List, ℕ, length, map, Any, IfOk, IfErr, OnOk, IsErrOf};
 ghost use Rattle.dm_journal.specs.declared.device.DeviceError.TheVariants.{Failed, Memory};
-ghost use Rattle.dm_journal.specs.declared.fault.WriteError.TheVariants.{Device as WritingDevice, TooLong};
-ghost use Rattle.dm_journal.specs.Ready.{IsTooLong};
-ghost use Rattle.dm_journal.specs.Device.{IsDurable, Holds, Torn, LeavesOnly};
+ghost use Rattle.dm_journal.specs.declared.fault.WriteError.TheVariants.{Device as WritingDevice, TooLong, Full};
+ghost use Rattle.dm_journal.specs.Ready.{IsTooLong, IsUntouched, IsBeside, IsFailure};
+ghost use Rattle.dm_journal.specs.Device.{IsDurable, Holds, Torn, LeavesOnly, Only};
 ghost use Rattle.dm_journal.specs.Journal.{Begins, block};
 
 use crate::device::{Device, DeviceError};
@@ -74,16 +74,32 @@ pub fn write_synced<D: Device>(device: &mut D, at: usize, bytes: &[u8]) -> Resul
 }
 
 // Puts a file of these bytes in the place of the one that is there.
-pub fn put_in_place<D: Device>(device: &mut D, bytes: &[u8]) -> Result<(), DeviceError>
+pub fn put_in_place<D: Device>(device: &mut D, bytes: &[u8]) -> Result<(), WriteError>
     requires { IsDurable D.seen D.may_leave D.file_may_leave device.old }
     ensures taken { OnOk result (D.seen device.new ≡ bytes.now) }
     ensures durable { OnOk result (IsDurable D.seen D.may_leave D.file_may_leave device.new) }
     ensures any_moment { LeavesOnly D.moment D.left_since device.old device.new (λ c. (c ≡ D.seen device.old) ⊎ (c ≡ bytes.now)) }
+    ensures untouched { IfErr result (λ e. IsBeside e → IsUntouched D.seen D.may_leave D.file_may_leave D.moment D.left_since device.old device.new) }
+    ensures failed { IfErr result (λ e. IsFailure e → D.faults device.old < D.faults device.new) }
+    ensures kind { IfErr result (λ e. (e ≢ TooLong) × (e ≢ Full)) }
+{
+    if let Err(error) = write_beside_synced(device, bytes) {
+        return Err(WriteError::Beside(error));
+    }
+    device.rename()?;
+    device.sync_folder()?;
+    Ok(())
+}
+
+// Writes the new file, and waits until it is on the disk: it is there before it takes the name.
+fn write_beside_synced<D: Device>(device: &mut D, bytes: &[u8]) -> Result<(), DeviceError>
+    requires { IsDurable D.seen D.may_leave D.file_may_leave device.old }
+    ensures beside { OnOk result (D.beside device.new ≡ bytes.now) }
+    ensures synced { OnOk result (Only bytes.now (D.beside_may_leave device.new)) }
+    ensures untouched { IsUntouched D.seen D.may_leave D.file_may_leave D.moment D.left_since device.old device.new }
+    ensures later { D.faults device.old ≤ D.faults device.new }
     ensures failed { IsErrOf result DeviceError.Failed → D.faults device.old < D.faults device.new }
 {
     device.write_beside(bytes)?;
-    // The new file is on the disk before it takes the name.
-    device.sync_beside()?;
-    device.rename()?;
-    device.sync_folder()
+    device.sync_beside()
 }

@@ -6,7 +6,7 @@ ghost use Rattle.dm_store.specs.Entries.{policy_byte, entry_of, whole_entry};
 
 use dm_journal::WriteError;
 use dm_repo::Policy;
-use std::alloc::Global;
+use std::alloc::{AllocError, Global};
 
 // The first byte of the entry of a whole repository.
 const WHOLE: u8 = 2;
@@ -23,9 +23,8 @@ pub fn make_entry(alloc: Global, text: &[u8], policy: Policy) -> Result<Vec<u8>,
 }
 
 // The entry of the text of a whole repository.
-pub fn make_whole_entry(alloc: Global, text: &[u8]) -> Result<Vec<u8>, WriteError>
-    ensures entry { IfOk result (λ entry. entry.items ≡ whole_entry text.now) }
-    ensures err { IfErr result (λ e. e ≡ WritingDevice Memory) }
+pub fn make_whole_entry(alloc: Global, text: &[u8]) -> Result<Vec<u8>, AllocError>
+    ensures { IfOk result (λ entry. entry.items ≡ whole_entry text.now) }
 {
     let mut entry = Vec::with_capacity(alloc, text.len() + 1)?;
     entry.push(WHOLE)?;

@@ -1,12 +1,12 @@
 //! A store: a repository, and the journal that keeps it.
-ghost use Rattle.std.specs.Prelude.{◌≡◌, ◌≢◌, ◌⊎◌, ◌↔◌, ◌<◌, ◌^◌, List, ℕ, [], ◌∷◌, length, IfOk, IfErr, OnOk, IsErrOf, IsTrue};
+ghost use Rattle.std.specs.Prelude.{◌≡◌, ◌≢◌, ◌⊎◌, ◌↔◌, ◌<◌, ◌^◌, ◌/◌, List, ℕ, [], ◌∷◌, length, IfOk, IfErr, OnOk, IsErrOf, IsTrue};
 ghost use Rattle.dm_journal.specs.declared.device.DeviceError.TheVariants.{Failed};
 ghost use Rattle.dm_journal.specs.declared.fault.Fault.{Fault as FileFault};
 ghost use Rattle.dm_journal.specs.declared.fault.OpenError.TheVariants.{Device as OpeningDevice, File as OpeningFile};
 ghost use Rattle.dm_journal.specs.declared.fault.WriteError.TheVariants.{Device as WritingDevice, TooLong, Full};
 ghost use Rattle.dm_journal.specs.Device.{IsDurable, LeavesOnly};
 ghost use Rattle.dm_journal.specs.Faults.{HasFault};
-ghost use Rattle.dm_journal.specs.Ready.{HasTexts, IsUntouched};
+ghost use Rattle.dm_journal.specs.Ready.{HasTexts, IsUntouched, IsBeside, IsFailure};
 ghost use Rattle.dm_scratch.specs.Taking.{Takes};
 ghost use Rattle.dm_store.specs.declared.fault.StoreError.TheVariants.{Journal as OpeningJournal, BadEntry};
 ghost use Rattle.dm_store.specs.Keeping.{HasTaken, KeepsRepo, KeepsWithOrWithout, IsOrKeeps, CrashesKeep, IsStored, FoldTo, FitsOneEntry, entry_of_all};
@@ -76,7 +76,7 @@ impl<D: Device> Store<D> {
         ensures any_moment_err { IfErr result (λ e. LeavesOnly D.moment D.left_since device e.1 (IsOrKeeps (D.seen device) repo.patches)) }
 
         // It doesn't give up by itself.
-        ensures failed { IfErr result (λ e. e.0 ≡ WritingDevice Failed → D.faults device < D.faults e.1) }
+        ensures failed { IfErr result (λ e. IsFailure e.0 → D.faults device < D.faults e.1) }
         ensures too_long { IfErr result (λ e. e.0 ≡ TooLong → (repo.patches ≢ []) × (FitsOneEntry repo.patches → ⊥)) }
         ensures not_full { IfErr result (λ e. e.0 ≡ Full → ⊥) }
     {
@@ -148,11 +148,11 @@ impl<D: Device> Store<D> {
         Ok(verdict)
     }
 
-    /// Whether a checkpoint is worth its while: since the last one more than 16 texts were taken, or more bytes than the
-    /// repository had then, and than 1 MiB. All of them are taken again at each opening, and each takes time that grows with
-    /// the repository.
+    /// Whether a checkpoint is worth its while: since the last one more than 16 texts were taken, with more bytes than a 64th of
+    /// those that the repository had then; or more bytes than it had, and than 1 MiB. All of them are taken again at each
+    /// opening, and a checkpoint writes the whole repository.
     pub fn wants_checkpoint(&self) -> bool
-        ensures { IsTrue result ↔ ((2 ^ 4 < self.now.growth.entries)
+        ensures { IsTrue result ↔ (((2 ^ 4 < self.now.growth.entries) × (self.now.growth.whole / 64 < self.now.growth.since))
             ⊎ ((self.now.growth.whole < self.now.growth.since) × (2 ^ 20 < self.now.growth.since))) }
     {
         self.growth.is_large()
@@ -162,7 +162,7 @@ impl<D: Device> Store<D> {
     /// repository stays the same, and opening takes one text from then on.
     ///
     /// `false` where there is no patch, or where the text or a patch is past [`dm_named::Limits::OWN`]: the journal is as it
-    /// was then. After an error open the file again.
+    /// was then. So it is after [`WriteError::Beside`], and the store can go on. After another error open the file again.
     pub fn checkpoint(&mut self, alloc: Global) -> Result<bool, WriteError>
         requires { IsStored D.seen D.may_leave D.file_may_leave self.old }
 
@@ -178,8 +178,10 @@ impl<D: Device> Store<D> {
         ensures any_moment { LeavesOnly D.moment D.left_since self.old.journal.device self.new.journal.device
             (λ file. KeepsRepo file self.old.repo.patches) }
 
+        ensures stored_beside { IfErr result (λ e. IsBeside e → IsStored D.seen D.may_leave D.file_may_leave self.new) }
+
         // It doesn't give up by itself.
-        ensures failed { IsErrOf result (WritingDevice Failed) → D.faults self.old.journal.device < D.faults self.new.journal.device }
+        ensures failed { IfErr result (λ e. IsFailure e → D.faults self.old.journal.device < D.faults self.new.journal.device) }
         ensures not_too_long { IsErrOf result TooLong → ⊥ }
         ensures not_full { IsErrOf result Full → ⊥ }
     {
@@ -202,7 +204,7 @@ fn begin<D: Device>(
     ensures stored { IfOk result (λ r. (entries : List (List ℕ)) × HasTexts D.seen D.may_leave D.file_may_leave r.0 entries × FoldTo entries repo.now.patches) }
     ensures any_moment { IfOk result (λ r. LeavesOnly D.moment D.left_since device r.0.device (IsOrKeeps (D.seen device) repo.now.patches)) }
     ensures any_moment_err { IfErr result (λ e. LeavesOnly D.moment D.left_since device e.1 (IsOrKeeps (D.seen device) repo.now.patches)) }
-    ensures failed { IfErr result (λ e. e.0 ≡ WritingDevice Failed → D.faults device < D.faults e.1) }
+    ensures failed { IfErr result (λ e. IsFailure e.0 → D.faults device < D.faults e.1) }
     ensures too_long { IfErr result (λ e. e.0 ≡ TooLong → (repo.now.patches ≢ []) × (FitsOneEntry repo.now.patches → ⊥)) }
     ensures not_full { IfErr result (λ e. e.0 ≡ Full → ⊥) }
 {

@@ -3,16 +3,16 @@ ghost use Rattle.std.specs.Prelude.{◌≡◌, ◌≤◌, [], length, IfOk, IfEr
 ghost use Rattle.std.specs.List.{AllByRecursion};
 ghost use Rattle.dm_bundle.specs.Patches.{AreFewWithin};
 ghost use Rattle.dm_journal.specs.declared.device.DeviceError.TheVariants.{Memory};
-ghost use Rattle.dm_journal.specs.declared.fault.WriteError.TheVariants.{Device as WritingDevice};
+ghost use Rattle.dm_journal.specs.declared.fault.WriteError.TheVariants.{Beside};
 ghost use Rattle.dm_named.specs.Limits.{own};
 ghost use Rattle.dm_store.specs.Keeping.{TakesEntry, FitsOneEntry, entry_of_all};
 
 use crate::entries::make_whole_entry;
 use dm_bundle::write_bundle;
-use dm_journal::WriteError;
+use dm_journal::{DeviceError, WriteError};
 use dm_named::{Limits, Named};
 use dm_repo::Repo;
-use std::alloc::Global;
+use std::alloc::{AllocError, Global};
 
 // The entry that leaves this repository where it is taken first, if the repository fits one.
 pub fn entry_of_repo(alloc: Global, repo: &Repo<Global>) -> Result<Option<Vec<u8>>, WriteError>
@@ -20,7 +20,19 @@ pub fn entry_of_repo(alloc: Global, repo: &Repo<Global>) -> Result<Option<Vec<u8
     ensures fits { IfOk result (λ found. IfSome found (λ _. FitsOneEntry repo.now.patches)) }
     ensures takes { IfOk result (λ found. IfSome found (λ entry. TakesEntry [] entry.items repo.now.patches)) }
     ensures none { IfOk result (λ found. IfNone found (FitsOneEntry repo.now.patches → ⊥)) }
-    ensures err { IfErr result (λ e. e ≡ WritingDevice Memory) }
+    ensures err { IfErr result (λ e. e ≡ Beside Memory) }
+{
+    match write_whole(alloc, repo) {
+        Ok(found) => Ok(found),
+        Err(_) => Err(WriteError::Beside(DeviceError::Memory)),
+    }
+}
+
+fn write_whole(alloc: Global, repo: &Repo<Global>) -> Result<Option<Vec<u8>>, AllocError>
+    ensures entry { IfOk result (λ found. IfSome found (λ entry. entry.items ≡ entry_of_all repo.now.patches)) }
+    ensures fits { IfOk result (λ found. IfSome found (λ _. FitsOneEntry repo.now.patches)) }
+    ensures takes { IfOk result (λ found. IfSome found (λ entry. TakesEntry [] entry.items repo.now.patches)) }
+    ensures none { IfOk result (λ found. IfNone found (FitsOneEntry repo.now.patches → ⊥)) }
 {
     if repo.len() == 0 {
         return Ok(None);

@@ -3,7 +3,7 @@ use Rattle.std.proofs.lemmas.Result.{err_from_is_err_and}
 use Rattle.dm_store.proofs.StoredLemmas.{crashes_keep}
 use Rattle.dm_deliver.specs.Answering.{IsAcceptedAnswer}
 use Rattle.dm_deliver.specs.Outputs.{output}
-use Rattle.dm_deliver.proofs.DeliverLemmas.{begun, one_more, no_more, keeps_some, unanswered_keeps_some, but_last}
+use Rattle.dm_deliver.proofs.DeliverLemmas.{begun, one_more, settled, checkpoint_failed, no_more, keeps_some, unanswered_keeps_some, but_last}
 use Rattle.dm_deliver.proofs.delivery.deliver.Goals as goal
 use Rattle.dm_deliver.proofs.delivery.deliver.Goals.{then-all_accepted, else-all_accepted}
 
@@ -66,13 +66,72 @@ loop-text-preserved g c =
     elim c.if-all_accepted.branch [
       | then-all_accepted w ↦ inl (w.if-all_accepted.true, subst (λ (b : Bool). IsTrue b ↔ IsAcceptedAnswer v) (sym w.all_accepted-is) w.is_accepted-all_accepted.ensures)
       | else-all_accepted w ↦ inr (w.if-all_accepted.false, w.all_accepted-is)
-    ] in (
-      one_more d.moment d.left_since (λ (texts : List (List ℕ)). g.S.Source.gave source texts c.loop-text.source) (λ (texts : List (List ℕ)). g.S.Source.gave source texts c.next_text.new.self)
+    ] in
+    let more = one_more d.moment d.left_since (λ (texts : List (List ℕ)). g.S.Source.gave source texts c.loop-text.source) (λ (texts : List (List ℕ)). g.S.Source.gave source texts c.next_text.new.self)
           c.args.policy c.args.rule c.args.store.now c.loop-text.store c.answer.new.store (output g.W.Write.contents c.args.writer.now) (output g.W.Write.contents c.loop-text.writer) (output g.W.Write.contents c.answer.new.writer)
-          c.loop-text.all_accepted c.if-all_accepted.all_accepted so_far text v came answered.answers answered.line answered.either both,
-      answered.stored,
-      answered.kept,
+          c.loop-text.all_accepted c.if-all_accepted.all_accepted so_far text v came answered.answers answered.line answered.either both in
+    let stored = c.in_ok-may_settle-in-Ok-Some.ensures.stored in (
+      settled d.moment d.left_since (λ (texts : List (List ℕ)). g.S.Source.gave source texts c.next_text.new.self)
+          c.args.policy c.args.rule c.args.store.now c.answer.new.store c.settle.new.store (output g.W.Write.contents c.args.writer.now) (output g.W.Write.contents c.answer.new.writer)
+          c.if-all_accepted.all_accepted more c.settle.ensures.same c.settle.ensures.any_moment,
+      stored,
+      crashes_keep d.seen d.may_leave d.file_may_leave c.settle.new.store.journal stored.entries c.settle.new.store.repo.patches stored.has stored.folds,
     )
+
+pub returns-in_err-may_settle-in-Ok-Some-clause-delivers_until :
+    goal.returns-in_err-may_settle-in-Ok-Some-clause-delivers_until
+returns-in_err-may_settle-in-Ok-Some-clause-delivers_until g c =
+    let d = g.D.Device in
+    let source = c.args.source.now in
+    let so_far = c.loop-text.invariant.0 in
+    let answered = c.in_ok-reply-in-Ok-Some.ensures in
+    let text = c.as_slice-bytes.result.now in
+    let gives = subst (λ (t : List ℕ). g.S.Source.gave c.loop-text.source (t ∷ []) c.next_text.new.self) (sym c.as_slice-bytes.ensures.value) (rw c.in-Ok-Some.field-0-is at c.in-Ok-Some.ensures.some) in
+    let came = g.met.S.Source.gave_more source c.loop-text.source c.next_text.new.self so_far.0.texts (text ∷ []) so_far.0.came gives in
+    let v = c.in_ok-reply-in-Ok-Some.reply in
+    let both : ((c.loop-text.all_accepted ≡ true) × (IsTrue c.if-all_accepted.all_accepted ↔ IsAcceptedAnswer v)) ⊎ ((c.loop-text.all_accepted ≡ false) × (c.if-all_accepted.all_accepted ≡ c.loop-text.all_accepted)) =
+    elim c.if-all_accepted.branch [
+      | then-all_accepted w ↦ inl (w.if-all_accepted.true, subst (λ (b : Bool). IsTrue b ↔ IsAcceptedAnswer v) (sym w.all_accepted-is) w.is_accepted-all_accepted.ensures)
+      | else-all_accepted w ↦ inr (w.if-all_accepted.false, w.all_accepted-is)
+    ] in
+    let more = one_more d.moment d.left_since (λ (texts : List (List ℕ)). g.S.Source.gave source texts c.loop-text.source) (λ (texts : List (List ℕ)). g.S.Source.gave source texts c.next_text.new.self)
+          c.args.policy c.args.rule c.args.store.now c.loop-text.store c.answer.new.store (output g.W.Write.contents c.args.writer.now) (output g.W.Write.contents c.loop-text.writer) (output g.W.Write.contents c.answer.new.writer)
+          c.loop-text.all_accepted c.if-all_accepted.all_accepted so_far text v came answered.answers answered.line answered.either both in
+    let q = err_from_is_err_and c.from_residual-in_err-may_settle-in-Ok-Some.result c.from_residual-in_err-may_settle-in-Ok-Some.ensures.1 in
+    rw (q.1, q.2) (checkpoint_failed d.moment d.left_since d.faults (λ (texts : List (List ℕ)). g.S.Source.gave source texts c.next_text.new.self) c.args.policy c.args.rule
+    c.in_err-may_settle-in-Ok-Some.field-0.0 c.args.store.now c.answer.new.store c.settle.new.store (output g.W.Write.contents c.args.writer.now) (output g.W.Write.contents c.answer.new.writer)
+    more.0 c.settle.ensures.same c.settle.ensures.any_moment c.in_err-may_settle-in-Ok-Some.ensures.failed c.in_err-may_settle-in-Ok-Some.ensures.kind.1)
+
+pub returns-in_err-may_settle-in-Ok-Some-clause-kept_err :
+    goal.returns-in_err-may_settle-in-Ok-Some-clause-kept_err
+returns-in_err-may_settle-in-Ok-Some-clause-kept_err g c =
+    let q = err_from_is_err_and c.from_residual-in_err-may_settle-in-Ok-Some.result c.from_residual-in_err-may_settle-in-Ok-Some.ensures.1 in
+    rw (q.1, q.2) (λ going_on. absurd (going_on tt))
+
+pub returns-in_err-may_settle-in-Ok-Some-clause-any_moment :
+    goal.returns-in_err-may_settle-in-Ok-Some-clause-any_moment
+returns-in_err-may_settle-in-Ok-Some-clause-any_moment g c =
+    let d = g.D.Device in
+    let source = c.args.source.now in
+    let so_far = c.loop-text.invariant.0 in
+    let answered = c.in_ok-reply-in-Ok-Some.ensures in
+    let text = c.as_slice-bytes.result.now in
+    let gives = subst (λ (t : List ℕ). g.S.Source.gave c.loop-text.source (t ∷ []) c.next_text.new.self) (sym c.as_slice-bytes.ensures.value) (rw c.in-Ok-Some.field-0-is at c.in-Ok-Some.ensures.some) in
+    let came = g.met.S.Source.gave_more source c.loop-text.source c.next_text.new.self so_far.0.texts (text ∷ []) so_far.0.came gives in
+    let v = c.in_ok-reply-in-Ok-Some.reply in
+    let both : ((c.loop-text.all_accepted ≡ true) × (IsTrue c.if-all_accepted.all_accepted ↔ IsAcceptedAnswer v)) ⊎ ((c.loop-text.all_accepted ≡ false) × (c.if-all_accepted.all_accepted ≡ c.loop-text.all_accepted)) =
+    elim c.if-all_accepted.branch [
+      | then-all_accepted w ↦ inl (w.if-all_accepted.true, subst (λ (b : Bool). IsTrue b ↔ IsAcceptedAnswer v) (sym w.all_accepted-is) w.is_accepted-all_accepted.ensures)
+      | else-all_accepted w ↦ inr (w.if-all_accepted.false, w.all_accepted-is)
+    ] in
+    let more = one_more d.moment d.left_since (λ (texts : List (List ℕ)). g.S.Source.gave source texts c.loop-text.source) (λ (texts : List (List ℕ)). g.S.Source.gave source texts c.next_text.new.self)
+          c.args.policy c.args.rule c.args.store.now c.loop-text.store c.answer.new.store (output g.W.Write.contents c.args.writer.now) (output g.W.Write.contents c.loop-text.writer) (output g.W.Write.contents c.answer.new.writer)
+          c.loop-text.all_accepted c.if-all_accepted.all_accepted so_far text v came answered.answers answered.line answered.either both in
+    keeps_some d.moment d.left_since (λ (texts : List (List ℕ)). g.S.Source.gave source texts c.next_text.new.self)
+    c.args.policy c.args.rule c.args.store.now c.settle.new.store (output g.W.Write.contents c.args.writer.now) (output g.W.Write.contents c.answer.new.writer)
+    (settled d.moment d.left_since (λ (texts : List (List ℕ)). g.S.Source.gave source texts c.next_text.new.self)
+          c.args.policy c.args.rule c.args.store.now c.answer.new.store c.settle.new.store (output g.W.Write.contents c.args.writer.now) (output g.W.Write.contents c.answer.new.writer)
+          c.if-all_accepted.all_accepted more c.settle.ensures.same c.settle.ensures.any_moment).0
 
 pub returns-in-Ok-None-clause-delivers : goal.returns-in-Ok-None-clause-delivers
 returns-in-Ok-None-clause-delivers g c =

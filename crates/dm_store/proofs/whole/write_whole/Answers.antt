@@ -5,13 +5,13 @@ use Rattle.dm_bundle.specs.Bundles.{Contents, BundleText}
 use Rattle.dm_bundle.specs.Patches.{AreFewWithin}
 use Rattle.dm_store.specs.Entries.{whole_entry}
 use Rattle.dm_store.proofs.WholeLemmas.{entry_takes}
-use Rattle.dm_store.proofs.whole.entry_of_repo.Goals as goal
+use Rattle.dm_store.proofs.whole.write_whole.Goals as goal
 
 pub returns-clause-takes : goal.returns-clause-takes
 returns-clause-takes c =
     let text = c.in_ok-text.text.items in
     entry_takes c.args.repo.now.patches text c.in_ok-entry.entry.items
-    (c.in_ok-entry.ensures.entry ∙ ap (λ (t : List ℕ). whole_entry t) c.deref.ensures.value)
+    (c.in_ok-entry.ensures ∙ ap (λ (t : List ℕ). whole_entry t) c.deref.ensures.value)
     c.len.ensures.valid
     (λ e. absurd (omega (arith, c.if-len-eq0.false, c.len.ensures.value, ap (λ (l : List Patch). length l) e)))
     (subst (λ (b : Contents). BundleText text b) c.in_ok-bundle.ensures c.in_ok-text.ensures.stands)
