@@ -1,5 +1,5 @@
 //! Bundles that are taken one after the other, into a mirror or a repository in memory: `dm apply --mirror`.
-ghost use Rattle.std.specs.Prelude.{◌≡◌, ◌↔◌, All, length, IfOk, IfErr, IfSome, IsTrue, OnOk};
+ghost use Rattle.std.specs.Prelude.{◌≡◌, ◌↔◌, All, length, IfOk, IfErr, IsTrue, OnOk};
 ghost use Rattle.dm_disk.specs.States.{seen, may_leave, file_may_leave};
 ghost use Rattle.dm_store.specs.Keeping.{IsStored};
 ghost use Rattle.dm_deliver.specs.Answering.{IsAcceptedAnswer, IsOfStore};
@@ -13,7 +13,7 @@ use crate::colour::Colour;
 use crate::fault::ToolFault;
 use crate::input::INPUT;
 use crate::listing::Listing;
-use crate::mirror::{blame, open_file, open_store};
+use crate::mirror::blame;
 use crate::plan_words::policy_of;
 use crate::print::push_repo;
 use crate::streams::write_text;
@@ -21,7 +21,7 @@ use crate::watching::Watcher;
 use crate::word_fault::WordFault;
 use clap::ArgMatches;
 use dm_deliver::{AnswerError, DeliverError, Framed, HashRule, Watched, deliver};
-use dm_disk::{Access, DiskFile};
+use dm_disk::DiskFile;
 use dm_journal::{Device, WriteError};
 use dm_repo::{Policy, Repo};
 use dm_store::Store;
@@ -88,6 +88,7 @@ fn take_named<'a, D: Device, W: Write>(
         Ok(all_accepted) => Ok(all_accepted),
         Err(DeliverError::Source(fault)) => Err(Stop::Beside(fault)),
         Err(DeliverError::Answer(fault)) => Err(Stop::of_answer(fault)),
+        Err(DeliverError::Checkpoint(fault)) => Err(Stop::Mirror(fault)),
     }
 }
 
@@ -120,6 +121,7 @@ fn take_stream<'a, D: Device, W: Write>(
         Ok(all_accepted) => Ok(all_accepted),
         Err(DeliverError::Source(fault)) => Err(Stop::Beside(WordFault::of_frame(fault))),
         Err(DeliverError::Answer(fault)) => Err(Stop::of_answer(fault)),
+        Err(DeliverError::Checkpoint(fault)) => Err(Stop::Mirror(fault)),
     }
 }
 
@@ -193,47 +195,24 @@ fn take_and_show<'a, D: Device>(
     }
 }
 
-/// Makes a checkpoint where one is worth its while. Where it fails the mirror is as it was, so that is only said; but the file has to
-/// be opened again then, and there is no store.
-fn settle(rt: &HostRuntime, path: &str, store: Store<DiskFile>) -> Option<Store<DiskFile>>
+/// Makes a checkpoint where one is worth its while. Where it fails what was taken stands, so that is only said.
+fn settle(rt: &HostRuntime, path: &str, store: Store<DiskFile>)
     requires { IsStored seen may_leave file_may_leave store }
-    ensures stored { IfSome result (IsStored seen may_leave file_may_leave) }
-    ensures same { IfSome result (λ settled. settled.repo ≡ store.repo) }
 {
     let mut store = store;
     if !store.wants_checkpoint() {
-        return Some(store);
+        return;
     }
-    let Err(fault) = store.checkpoint(rt.alloc()) else {
-        return Some(store);
-    };
-    let _ = match store.into_device().error() {
+    if let Err(fault) = store.checkpoint(rt.alloc()) {
+        say_unsettled(rt, path, fault, &store.into_device());
+    }
+}
+
+fn say_unsettled(rt: &HostRuntime, path: &str, fault: WriteError, file: &DiskFile) {
+    let _ = match file.error() {
         Some(error) => eprintln!(rt; "dm: no checkpoint of {path}: {error}"),
         None => eprintln!(rt; "dm: no checkpoint of {path}: {fault}"),
     };
-    None
-}
-
-/// The mirror of `--mirror`, to be written. Before a stream it gets a checkpoint, since the last stream may have been killed before
-/// it made its own.
-fn open_settled<'a>(
-    rt: &HostRuntime,
-    colour: Colour,
-    words: &ArgMatches<'a>,
-    path: &'a str,
-    is_terminal: bool,
-) -> Result<Store<DiskFile>, WordFault<'a>>
-    ensures { IfOk result (IsStored seen may_leave file_may_leave) }
-{
-    let store = open_mirror(rt, colour, words, path, is_terminal)?;
-    if !words.get_flag("stream") {
-        return Ok(store);
-    }
-    if let Some(store) = settle(rt, path, store) {
-        return Ok(store);
-    }
-    let file = open_file(rt, words, path, Access::Write, is_terminal)?;
-    open_store(rt, path, file)
 }
 
 /// The exit status of what was tried.
@@ -280,14 +259,14 @@ pub fn apply_to_mirror<'a>(
         let tried = take_and_show(rt, colour, words, &mut store, policy, rule);
         return status_of_trial(tried, path);
     }
-    let mut store = open_settled(rt, colour, words, path, is_terminal)?;
+    let mut store = open_mirror(rt, colour, words, path, is_terminal)?;
     match take_and_show(rt, colour, words, &mut store, policy, rule) {
         Ok(status) => {
-            let _ = settle(rt, path, store);
+            settle(rt, path, store);
             Ok(status)
         }
         Err(Stop::Beside(fault)) => {
-            let _ = settle(rt, path, store);
+            settle(rt, path, store);
             Err(fault)
         }
         Err(Stop::Mirror(fault)) => {
