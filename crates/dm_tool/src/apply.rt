@@ -56,6 +56,7 @@ pub fn apply_over<R: Read, W: Write>(
     ensures prefix { IfErr result (λ e. (e ≡ ToolFault.Write) →
         WritesPrefix (AnswersInput base.entry as_bundle policy (R.remaining reader.old) (R.remaining reader.new))
         (W.contents writer.old) (W.contents writer.new)) }
+    ensures fault { IfErr result (λ e. RefusesStart base.entry e ⊎ ((e ≡ ToolFault.Read) ⊎ ((e ≡ ToolFault.NoMemory) ⊎ (e ≡ ToolFault.Write)))) }
 {
     let mut repo = repo_of(alloc, base)?;
     let mut arena = Bump::new(alloc);

@@ -85,7 +85,7 @@ pub fn check_over<R: Read, W: Write>(
     ensures silent { IfErr result (λ e. (e ≢ ToolFault.Write) → Keeps (W.contents writer.old) (W.contents writer.new)) }
     ensures prefix { IfErr result (λ e. (e ≡ ToolFault.Write) →
         WritesPrefix (ChecksInput (R.remaining reader.old) (R.remaining reader.new)) (W.contents writer.old) (W.contents writer.new)) }
-    ensures no_base { IfErr result (λ e. (v : Verdict) → e ≢ ToolFault.BadBase v) }
+    ensures fault { IfErr result (λ e. (e ≡ ToolFault.Read) ⊎ ((e ≡ ToolFault.NoMemory) ⊎ (e ≡ ToolFault.Write))) }
 {
     let text = read_text(alloc, reader)?;
     let (out, checked) = check_text(alloc, text)?;

@@ -1,7 +1,6 @@
 //! The command `dm run`.
-ghost use Rattle.std.specs.Prelude.{◌≡◌, ◌≢◌, ◌++◌, ℕ, List, map, IfOk, IfErr, OnOk};
+ghost use Rattle.std.specs.Prelude.{◌≡◌, ◌≢◌, ◌⊎◌, ◌++◌, ℕ, List, map, IfOk, IfErr, OnOk};
 ghost use Rattle.std.specs.Io.KnownBytes.{Keeps};
-ghost use Rattle.dm_scratch.specs.declared.verdict.Verdict.{Verdict};
 ghost use Rattle.dm_mirror.specs.declared.plan.PlanFault.{PlanFault};
 ghost use Rattle.dm_mirror.specs.Plans.{IsFirstFault};
 ghost use Rattle.dm_mirror.specs.Report.{IsReport};
@@ -104,9 +103,7 @@ fn answer_of<R: Threads + Wait + Sync>(
     ensures told { IfOk result (λ x. IsRan (texts_in posters.now) (bytes_of bases.entry.texts.now) bases.entry.limits policies.now x.1) }
     ensures bad_plan { IfErr result (λ e. (fault : PlanFault) → (e ≡ ToolFault.BadPlan fault) →
         IsFirstFault bases.entry.limits (texts_in posters.now) (bytes_of bases.entry.texts.now) policies.now bound fault) }
-    ensures unwritten { IfErr result (λ e. e ≢ ToolFault.Write) }
-    ensures unread { IfErr result (λ e. e ≢ ToolFault.Read) }
-    ensures no_base { IfErr result (λ e. (v : Verdict) → e ≢ ToolFault.BadBase v) }
+    ensures fault { IfErr result (λ e. ((fault : PlanFault) × (e ≡ ToolFault.BadPlan fault)) ⊎ ((e ≡ ToolFault.NoThread) ⊎ (e ≡ ToolFault.NoMemory))) }
 {
     let texts = texts_of(alloc, posters)?;
     let plan = Plan::build(alloc, &texts, bases.texts, bases.limits, policies, bound)?;
@@ -140,8 +137,8 @@ pub fn run_over<R: Threads + Wait + Sync, W: Write>(
     ensures prefix { IfErr result (λ e. (e ≡ ToolFault.Write) →
         WritesPrefix (RunsTo (names_in posters.now) (texts_in posters.now) (bytes_of bases.entry.texts.now) bases.entry.limits policies.now bound)
         (W.contents writer.old) (W.contents writer.new)) }
-    ensures unread { IfErr result (λ e. e ≢ ToolFault.Read) }
-    ensures no_base { IfErr result (λ e. (v : Verdict) → e ≢ ToolFault.BadBase v) }
+    ensures fault { IfErr result (λ e. ((fault : PlanFault) × (e ≡ ToolFault.BadPlan fault))
+        ⊎ ((e ≡ ToolFault.NoThread) ⊎ ((e ≡ ToolFault.NoMemory) ⊎ (e ≡ ToolFault.Write)))) }
 {
     let (out, ran) = answer_of(rt, alloc, posters, bases, policies, bound)?;
     write_text(&out, writer)?;
