@@ -107,8 +107,8 @@ pub fn answer<D: Device, W: Write>(
     Ok(reply)
 }
 
-// Makes a checkpoint where one is worth its while, if it may. Returns whether the next one may be tried: not where the new file of this one
-// could not be made. Then the store goes on without.
+// Makes a checkpoint where one is worth its while, if it may. Returns whether the next one may be tried: not where the repository fits
+// none, or its new file could not be made. Then the store goes on without.
 fn settle<D: Device>(alloc: Global, store: &mut Store<D>, may: bool) -> Result<bool, WriteError>
     requires { IsStored D.seen D.may_leave D.file_may_leave store.old }
     ensures same { store.new.repo ≡ store.old.repo }
@@ -121,7 +121,7 @@ fn settle<D: Device>(alloc: Global, store: &mut Store<D>, may: bool) -> Result<b
         return Ok(may);
     }
     match store.checkpoint(alloc) {
-        Ok(_) => Ok(true),
+        Ok(done) => Ok(done),
         Err(WriteError::Beside(_)) => Ok(false),
         Err(error) => Err(error),
     }

@@ -1,16 +1,13 @@
 //! How much longer a journal has become since its last checkpoint.
-ghost use Rattle.std.specs.Prelude.{◌↔◌, ◌⊎◌, ◌<◌, ◌^◌, ◌/◌, IsTrue};
+ghost use Rattle.std.specs.Prelude.{◌↔◌, ◌⊎◌, ◌<◌, ◌^◌, IsTrue};
 
 use crate::entries::strip_whole;
 use dm_journal::Texts;
 
-// For fewer bytes than these no checkpoint is worth its while, unless they are of more entries than those, and a 64th of the
-// repository's bytes: a checkpoint writes the whole repository.
+// For fewer bytes than these no checkpoint is worth its while, unless they are of more entries than those.
 const LEAST: usize = 1 << 20;
 
 const MOST_ENTRIES: usize = 16;
-
-const SHARE: usize = 64;
 
 // The bytes of the entry of a whole repository that a journal begins with, or 0, and the bytes and the number of the entries
 // behind it.
@@ -39,10 +36,9 @@ impl Growth {
 
     // Whether there are so many entries behind the first, or they have so many bytes, that a checkpoint is worth its while.
     pub fn is_large(&self) -> bool
-        ensures { IsTrue result ↔ (((2 ^ 4 < self.now.entries) × (self.now.whole / 64 < self.now.since))
-            ⊎ ((self.now.whole < self.now.since) × (2 ^ 20 < self.now.since))) }
+        ensures { IsTrue result ↔ ((2 ^ 4 < self.now.entries) ⊎ ((self.now.whole < self.now.since) × (2 ^ 20 < self.now.since))) }
     {
-        if self.entries > MOST_ENTRIES && self.since > self.whole / SHARE {
+        if self.entries > MOST_ENTRIES {
             return true;
         }
         self.since > self.whole && self.since > LEAST

@@ -1,5 +1,5 @@
 //! A store: a repository, and the journal that keeps it.
-ghost use Rattle.std.specs.Prelude.{◌≡◌, ◌≢◌, ◌⊎◌, ◌↔◌, ◌<◌, ◌^◌, ◌/◌, List, ℕ, [], ◌∷◌, length, IfOk, IfErr, OnOk, IsErrOf, IsTrue};
+ghost use Rattle.std.specs.Prelude.{◌≡◌, ◌≢◌, ◌⊎◌, ◌↔◌, ◌<◌, ◌^◌, List, ℕ, [], ◌∷◌, length, IfOk, IfErr, OnOk, IsErrOf, IsTrue};
 ghost use Rattle.dm_journal.specs.declared.device.DeviceError.TheVariants.{Failed};
 ghost use Rattle.dm_journal.specs.declared.fault.Fault.{Fault as FileFault};
 ghost use Rattle.dm_journal.specs.declared.fault.OpenError.TheVariants.{Device as OpeningDevice, File as OpeningFile};
@@ -148,11 +148,11 @@ impl<D: Device> Store<D> {
         Ok(verdict)
     }
 
-    /// Whether a checkpoint is worth its while: since the last one more than 16 texts were taken, with more bytes than a 64th of
-    /// those that the repository had then; or more bytes than it had, and than 1 MiB. All of them are taken again at each
-    /// opening, and a checkpoint writes the whole repository.
+    /// Whether a checkpoint is worth its while: since the last one more than 16 texts were taken, or more bytes than the
+    /// repository had then, and than 1 MiB. All of them are taken again at each opening, and each takes time that grows with
+    /// the repository.
     pub fn wants_checkpoint(&self) -> bool
-        ensures { IsTrue result ↔ (((2 ^ 4 < self.now.growth.entries) × (self.now.growth.whole / 64 < self.now.growth.since))
+        ensures { IsTrue result ↔ ((2 ^ 4 < self.now.growth.entries)
             ⊎ ((self.now.growth.whole < self.now.growth.since) × (2 ^ 20 < self.now.growth.since))) }
     {
         self.growth.is_large()
