@@ -1,15 +1,30 @@
-use Rattle.std.proofs.Common.{rules, ◌≡◌, [], ◌∷◌, take, map, sym, subst}
+use Rattle.std.proofs.Common.{rules, ◌≡◌, ◌++◌, [], List, ℕ, take, map, refl, ◌∙◌, ap, subst}
+use Rattle.std.proofs.Math.ListN.{replicate}
 use Rattle.std.proofs.lemmas.List.{take_all}
-use Rattle.dm_journal.specs.Journal.{Begins}
-use Rattle.dm_journal.proofs.Blocks.{end_close, next_text}
+use Rattle.dm_journal.specs.Format.{filling}
+use Rattle.dm_journal.specs.Journal.{Begins, link_after, link_bytes}
+use Rattle.dm_journal.proofs.Made.{header_made, closed_made, next_text}
 use Rattle.dm_journal.proofs.writing.whole.Goals as goal
+
+pub loop-text-init : goal.loop-text-init
+loop-text-init c =
+    let copied : c.in_ok-bytes.bytes.items ≡ c.line.result = search rules in
+    let is = c.in_ok-fill_up.ensures.bytes ∙ ap (λ (l : List ℕ). l ++ replicate (filling c.args.format 13) 0) (copied ∙ c.line.ensures) in
+    record { begins = header_made c.args.format c.fill_up.new.bytes.items is; linked = refl }
 
 pub loop-text-preserved : goal.loop-text-preserved
 loop-text-preserved c =
-    next_text (λ text. text.now) c.args.texts.now c.loop-text.text-index (record { ref_ptr = (0, 0); now = [] }) c.loop-text.bytes.items c.push.new.self.items c.push_block.new.bytes.items (search rules) c.push_block.ensures.fits c.loop-text.invariant c.in_ok-push.ensures.items c.in_ok-push_block.ensures.bytes
+    let more = next_text c.args.format (λ text. text.now) c.args.texts.now c.loop-text.text-index (record { ref_ptr = (0, 0); now = [] }) c.loop-text.bytes.items c.push_text.new.bytes.items (link_bytes c.loop-text.link) (link_bytes c.in_ok-link.link) (search rules) c.loop-text.invariant.begins c.loop-text.invariant.linked c.in_ok-link.ensures.bytes c.in_ok-link.ensures.link in
+    record { begins = more.0; linked = more.1 }
 
 pub returns-clause-texts : goal.returns-clause-texts
 returns-clause-texts c =
-    let closed = end_close c.loop-text.bytes.items (map (λ text. text.now) (take c.loop-text.text-index c.args.texts.now)) c.loop-text.invariant in
     let all : take c.loop-text.text-index c.args.texts.now ≡ c.args.texts.now = take_all _ _ (search rules) in
-    subst (λ l. Begins c.push-2.new.self.items (map (λ text. text.now) l) (0 ∷ [])) all (subst (λ l. Begins l (map (λ text. text.now) (take c.loop-text.text-index c.args.texts.now)) (0 ∷ [])) (sym c.in_ok-push-2.ensures.items) closed)
+    let pushed = c.in_ok-push_gate.ensures.bytes in
+    let begins = closed_made c.args.format c.loop-text.bytes.items c.push_gate.new.bytes.items (map (λ text. text.now) (take c.loop-text.text-index c.args.texts.now)) pushed.0 c.loop-text.invariant.begins pushed.1 in
+    record {
+      rest = pushed.0;
+      begins = subst (λ l. Begins c.args.format c.push_gate.new.bytes.items (map (λ text. text.now) l) pushed.0) all begins;
+      closed = pushed.2;
+      is = c.loop-text.invariant.linked ∙ ap (λ l. link_after c.args.format [] (map (λ text. text.now) l)) all;
+    }
