@@ -1,40 +1,37 @@
 -- What a crash leaves in each of the two writes of an append.
-use Rattle.std.proofs.Common.{◌≡◌, ◌≢◌, inl, inr, ℕ, ◌+◌, ◌<◌, ◌^◌, List, [], ◌∷◌, ◌++◌, length, get_or, take, drop, refl, sym, ◌∙◌, ap, subst, arith, append_assoc, length-append, take-append-drop}
-use Rattle.std.proofs.lemmas.List.{take_at, drop_at, drop_more}
+use Rattle.std.proofs.Common.{◌≡◌, ◌≢◌, inl, inr, ℕ, ◌+◌, ◌-◌, ◌<◌, ◌≤◌, ◌^◌, List, [], ◌∷◌, ◌++◌, length, get_or, take, drop, refl, sym, ◌∙◌, ap, subst, arith, append_assoc, length-append, take-append-drop}
+use Rattle.std.proofs.lemmas.List.{append-nil, take_at, drop_at, drop_more, drop_all}
 use Rattle.std.proofs.lemmas.Bool.{cases_eq}
-use Rattle.sha2.specs.Sha256.{sha256}
-use Rattle.sha2.proofs.Facts256.{length-sha256}
+use Rattle.dm_journal.specs.declared.format.Format.{Format}
+use Rattle.dm_journal.specs.Format.{unit, filled}
 use Rattle.dm_journal.specs.Device.{Holds, Torn, IsDurable}
-use Rattle.dm_journal.specs.Journal.{block, Begins, StandsFor}
+use Rattle.dm_journal.specs.Journal.{checksum_of, next_link, link_after, link_bytes, IsGate, IsNext, Begins, StandsFor}
+use Rattle.dm_journal.specs.Reading.{EndsSo, staged}
 use Rattle.dm_journal.specs.Ready.{HasTexts, StandsWithOrWithout}
 use Rattle.dm_journal.specs.declared.journal.Journal.{Journal}
-use Rattle.dm_journal.proofs.Blocks.{file_front, begins_push, length-block}
+use Rattle.dm_journal.proofs.Blocks.{file_front, begins_push, link_push}
+use Rattle.dm_journal.proofs.Made.{IsStage, is_stage}
+use Rattle.dm_journal.proofs.Once.{length-checksum}
+
+-- bytes, and what stands behind them
+module _ (head rest : List ℕ) (at : ℕ) (size : length head ≡ at) where
+  -- they stand in each outcome of a write behind them
+  pub torn_behind : (n : ℕ) (c : List ℕ) → Torn at n (head ++ rest) c → c ≡ head ++ drop at c
+  torn_behind n c torn = sym (take-append-drop at c) ∙ ap (λ (l : List ℕ). l ++ drop at c) (torn.before ∙ take_at head rest at size)
+
+  pub written_behind : (bytes c : List ℕ) → length rest ≤ length bytes → Holds (head ++ rest) at bytes c → c ≡ head ++ bytes
+  written_behind bytes c covers holds =
+      let none : drop (at + length bytes) (head ++ rest) ≡ [] = drop_all (at + length bytes) (head ++ rest) (omega (arith, covers, size, length-append head rest)) in
+      holds ∙ ap (λ (l : List ℕ). take at (head ++ rest) ++ bytes ++ l) none ∙ append-nil (take at (head ++ rest) ++ bytes) ∙ ap (λ (l : List ℕ). l ++ bytes) (take_at head rest at size)
 
 -- bytes in front of a gate, the gate, and what stands behind it
 module _ (front rest : List ℕ) (gate : ℕ) (size : length front ≡ gate) where
-  through : take (gate + 1) (front ++ 0 ∷ rest) ≡ front ++ 0 ∷ []
-  through =
-      ap (take (gate + 1)) (sym (append_assoc front (0 ∷ []) rest)) ∙ take_at (front ++ 0 ∷ []) rest (gate + 1) (omega (arith, size, length-append front (0 ∷ [])))
-
   behind : drop (gate + 1) (front ++ 0 ∷ rest) ≡ rest
   behind =
       ap (drop (gate + 1)) (sym (append_assoc front (0 ∷ []) rest)) ∙ drop_at (front ++ 0 ∷ []) rest (gate + 1) (omega (arith, size, length-append front (0 ∷ [])))
 
   long : length (front ++ 0 ∷ rest) ≡ gate + 1 + length rest
   long = omega (arith, size, length-append front (0 ∷ rest))
-
-  -- the closed gate stands in each outcome of a write behind it
-  pub torn_behind : (n : ℕ) (c : List ℕ) → Torn (gate + 1) n (front ++ 0 ∷ rest) c → c ≡ front ++ 0 ∷ drop (gate + 1) c
-  torn_behind n c torn =
-      sym (take-append-drop (gate + 1) c) ∙ ap (λ (l : List ℕ). l ++ drop (gate + 1) c) (torn.before ∙ through) ∙ append_assoc front (0 ∷ []) (drop (gate + 1) c)
-
-  pub written_behind : (bytes c : List ℕ) → Holds (front ++ 0 ∷ rest) (gate + 1) bytes c → c ≡ front ++ 0 ∷ (bytes ++ drop (gate + 1 + length bytes) (front ++ 0 ∷ rest))
-  written_behind bytes c holds =
-      let last = drop (gate + 1 + length bytes) (front ++ 0 ∷ rest) in
-      holds
-      ∙ append_assoc (take (gate + 1) (front ++ 0 ∷ rest)) bytes last
-      ∙ ap (λ (l : List ℕ). l ++ (bytes ++ last)) through
-      ∙ append_assoc front (0 ∷ []) (bytes ++ last)
 
   -- only the gate changes in each outcome of a write of the gate
   pub torn_gate : (c : List ℕ) → Torn gate 1 (front ++ 0 ∷ rest) c → c ≡ front ++ get_or c gate 0 ∷ rest
@@ -52,83 +49,126 @@ module _ (front rest : List ℕ) (gate : ℕ) (size : length front ≡ gate) whe
       ∙ ap (λ (l : List ℕ). front ++ 255 ∷ l) behind
 
 -- the file when the block of a text stands behind a closed gate
-pub record IsStaged (texts : List (List ℕ)) (text : List ℕ) (gate : ℕ) (file : List ℕ) : Type 0 where
+pub record IsStaged (format : Format) (texts : List (List ℕ)) (text : List ℕ) (gate : ℕ) (bytes file : List ℕ) : Type 0 where
   pub front : List ℕ
-  pub rest : List ℕ
   pub size : length front ≡ gate
-  pub moves : (r : List ℕ) → Begins (front ++ r) texts r
-  pub is : file ≡ front ++ 0 ∷ (block text ++ 0 ∷ rest)
+  pub moves : (r : List ℕ) → Begins format (front ++ r) texts r
+  pub fill : List ℕ
+  pub filled : 1 + length fill ≡ unit format
+  pub stage : IsStage format (checksum_of (link_after format [] texts) text) text bytes
+  pub is : file ≡ front ++ 0 ∷ (fill ++ bytes)
 
-module _ {D : Type 0} (seen : D → List ℕ) (may_leave file_may_leave : D → List ℕ → Type 0) (journal : Journal D) (texts : List (List ℕ)) (has : HasTexts seen may_leave file_may_leave journal texts) where
-  pub record Fronts : Type 0 where
+module _ {D : Type 0} (seen : D → List ℕ) (may_leave file_may_leave : D → List ℕ → Type 0) (journal : Journal D) (texts : List (List ℕ)) (has : HasTexts seen may_leave file_may_leave journal texts) (b : ℕ) (at : b ≡ journal.end.gate + unit journal.end.format) where
+  record Fronts : Type 0 where
     pub front : List ℕ
-    pub is : seen journal.device ≡ front ++ 0 ∷ has.rest
-    pub size : length front ≡ journal.gate
-    pub moves : (r : List ℕ) → Begins (front ++ r) texts r
+    pub size : length front ≡ journal.end.gate
+    pub moves : (r : List ℕ) → Begins journal.end.format (front ++ r) texts r
+    pub fill : List ℕ
+    pub filled : 1 + length fill ≡ unit journal.end.format
+    pub is : seen journal.device ≡ (front ++ 0 ∷ fill) ++ has.rest
+    pub far : length (front ++ 0 ∷ fill) ≡ b
 
   fronts : Fronts
   fronts =
-      let f = file_front (seen journal.device) texts (0 ∷ has.rest) has.begins in
-      record { front = f.0; is = f.1; size = omega (arith, has.place, ap length f.1, length-append f.0 (0 ∷ has.rest)); moves = f.2 }
+      let file = seen journal.device in
+      let format = journal.end.format in
+      let rest = has.begins.1 in
+      let begins = subst (λ (f : Format). Begins f file texts rest) has.end.format has.begins.2 in
+      let gate = subst (λ (f : Format). IsGate f 0 has.rest rest) has.end.format has.begins.3 in
+      let f = file_front format file texts rest begins in
+      record {
+        front = f.0;
+        size = omega (arith, has.end.place, ap length f.1, length-append f.0 rest);
+        moves = f.2;
+        fill = gate.fill;
+        filled = gate.filled;
+        is = f.1 ∙ ap (λ (l : List ℕ). f.0 ++ l) gate.is ∙ sym (append_assoc f.0 (0 ∷ gate.fill) has.rest);
+        far = omega (arith, at, has.end.place, gate.filled, ap length f.1, length-append f.0 rest, length-append f.0 (0 ∷ gate.fill));
+      }
+
+  -- the texts as they were
+  without : (f : Fronts) (r c : List ℕ) → c ≡ (f.front ++ 0 ∷ f.fill) ++ r → StandsFor c texts
+  without f r c is =
+      let rest : List ℕ = 0 ∷ (f.fill ++ r) in
+      let is' : c ≡ f.front ++ rest = is ∙ append_assoc f.front (0 ∷ f.fill) r in
+      (r, (journal.end.format, rest, subst (λ (l : List ℕ). Begins journal.end.format l texts rest) (sym is') (f.moves rest), record { fill = f.fill; filled = f.filled; is = refl }))
 
   -- each outcome of the first write stands for the texts as they were
-  pub first_leaves : (text : List ℕ) (n : ℕ) (c : List ℕ) → Torn (journal.gate + 1) n (seen journal.device) c → StandsWithOrWithout texts text c
+  pub first_leaves : (text : List ℕ) (n : ℕ) (c : List ℕ) → Torn b n (seen journal.device) c → StandsWithOrWithout texts text c
   first_leaves text n c torn =
       let f = fronts in
-      let torn' = subst (λ l. Torn (journal.gate + 1) n l c) f.is torn in
-      let r = drop (journal.gate + 1) c in
-      let is = torn_behind f.front has.rest journal.gate f.size n c torn' in
-      inl (r, subst (λ l. Begins l texts (0 ∷ r)) (sym is) (f.moves (0 ∷ r)))
+      let torn' = subst (λ l. Torn b n l c) f.is torn in
+      inl (without f (drop b c) c (torn_behind (f.front ++ 0 ∷ f.fill) has.rest b f.far n c torn'))
 
-  pub staged : (text bytes c : List ℕ) → bytes ≡ block text ++ 0 ∷ [] → Holds (seen journal.device) (journal.gate + 1) bytes c → IsStaged texts text journal.gate c
-  staged text bytes c are holds =
+  staged_so : (text bytes c : List ℕ) → IsStage journal.end.format (checksum_of (link_bytes journal.end.link) text) text bytes → length (seen journal.device) ≤ b + length bytes → Holds (seen journal.device) b bytes c → IsStaged journal.end.format texts text journal.end.gate bytes c
+  staged_so text bytes c stage covers holds =
       let f = fronts in
-      let holds' = subst (λ l. Holds l (journal.gate + 1) bytes c) f.is holds in
-      let last = drop (journal.gate + 1 + length bytes) (front_file f) in
+      let head : List ℕ = f.front ++ 0 ∷ f.fill in
+      let holds' = subst (λ l. Holds l b bytes c) f.is holds in
+      let is = written_behind head has.rest b f.far bytes c (omega (arith, covers, ap length f.is, f.far, length-append head has.rest)) holds' in
       record {
         front = f.front;
-        rest = last;
         size = f.size;
         moves = f.moves;
-        is = written_behind f.front has.rest journal.gate f.size bytes c holds' ∙ ap (λ (l : List ℕ). f.front ++ 0 ∷ (l ++ last)) are ∙ ap (λ (l : List ℕ). f.front ++ 0 ∷ l) (append_assoc (block text) (0 ∷ []) last);
+        fill = f.fill;
+        filled = f.filled;
+        stage = subst (λ (l : List ℕ). IsStage journal.end.format (checksum_of l text) text bytes) has.end.link stage;
+        is = is ∙ append_assoc f.front (0 ∷ f.fill) bytes;
       }
-    where
-      front_file : Fronts → List ℕ
-      front_file f = f.front ++ 0 ∷ has.rest
 
-module _ (texts : List (List ℕ)) (text : List ℕ) (fits : length text < 2 ^ 64) (gate : ℕ) (file : List ℕ) (s : IsStaged texts text gate file) where
-  opened : (g : ℕ) → g ≢ 0 → Begins (s.front ++ g ∷ (block text ++ 0 ∷ s.rest)) (texts ++ text ∷ []) (0 ∷ s.rest)
+  -- the first write, when it is done
+  pub staged_by : (text checksum bytes : List ℕ) (room : ℕ) (c : List ℕ) → checksum ≡ checksum_of (link_bytes journal.end.link) text → room ≡ journal.end.size - b → bytes ≡ staged journal.end.format checksum text room → length text < 2 ^ 64 → 1 ≤ unit journal.end.format → Holds (seen journal.device) b bytes c → IsStaged journal.end.format texts text journal.end.gate bytes c
+  staged_by text checksum bytes room c sum rooms are fits some holds =
+      let format = journal.end.format in
+      let link = link_bytes journal.end.link in
+      let same = are ∙ ap (λ (l : List ℕ). staged format l text room) sum in
+      let stage = is_stage format (checksum_of link text) text room (length-checksum link text) some fits in
+      staged_so text bytes c (subst (IsStage format (checksum_of link text) text) (sym same) stage.0) (omega (arith, ap length same, stage.1, rooms, has.end.size)) holds
+
+module _ (format : Format) (texts : List (List ℕ)) (text : List ℕ) (gate : ℕ) (bytes file : List ℕ) (s : IsStaged format texts text gate bytes file) where
+  opened : (g : ℕ) → g ≢ 0 → Begins format (s.front ++ g ∷ (s.fill ++ bytes)) (texts ++ text ∷ []) s.stage.closing
   opened g is_open =
-      begins_push (s.front ++ g ∷ (block text ++ 0 ∷ s.rest)) texts text (g ∷ (block text ++ 0 ∷ s.rest)) (0 ∷ s.rest) (s.moves (g ∷ (block text ++ 0 ∷ s.rest))) (record { gate = g; is_open = is_open; fits = fits; is = refl })
+      let rest : List ℕ = g ∷ (s.fill ++ bytes) in
+      let next : IsNext format (link_after format [] texts) text s.stage.closing rest = record { gate = g; is_open = is_open; behind = bytes; stands = record { fill = s.fill; filled = s.filled; is = refl }; has = s.stage.stands } in
+      begins_push format (s.front ++ rest) texts text rest s.stage.closing (s.moves rest) next
+
+  with_text : (c : List ℕ) (g : ℕ) → g ≢ 0 → c ≡ s.front ++ g ∷ (s.fill ++ bytes) → Begins format c (texts ++ text ∷ []) s.stage.closing
+  with_text c g is_open is = subst (λ (l : List ℕ). Begins format l (texts ++ text ∷ []) s.stage.closing) (sym is) (opened g is_open)
 
   -- each outcome of the second write has the text or not
   pub second_leaves : (c : List ℕ) → Torn gate 1 file c → StandsWithOrWithout texts text c
   second_leaves c torn =
       let torn' = subst (λ l. Torn gate 1 l c) s.is torn in
-      let is = torn_gate s.front (block text ++ 0 ∷ s.rest) gate s.size c torn' in
+      let is = torn_gate s.front (s.fill ++ bytes) gate s.size c torn' in
       elim (cases_eq (get_or c gate 0) 0) [
-        | inl closed ↦ inl (without c (is ∙ ap (λ (g : ℕ). s.front ++ g ∷ (block text ++ 0 ∷ s.rest)) closed))
-        | inr is_open ↦ inr (s.rest, subst (λ l. Begins l (texts ++ text ∷ []) (0 ∷ s.rest)) (sym is) (opened (get_or c gate 0) is_open))
+        | inl closed ↦ inl (closed_still c (is ∙ ap (λ (g : ℕ). s.front ++ g ∷ (s.fill ++ bytes)) closed))
+        | inr is_open ↦ inr (s.stage.behind, (format, s.stage.closing, with_text c (get_or c gate 0) is_open is, s.stage.closed))
       ]
     where
-      without : (c : List ℕ) → c ≡ s.front ++ 0 ∷ (block text ++ 0 ∷ s.rest) → StandsFor c texts
-      without c is = (block text ++ 0 ∷ s.rest, subst (λ l. Begins l texts (0 ∷ (block text ++ 0 ∷ s.rest))) (sym is) (s.moves (0 ∷ (block text ++ 0 ∷ s.rest))))
+      closed_still : (c : List ℕ) → c ≡ s.front ++ 0 ∷ (s.fill ++ bytes) → StandsFor c texts
+      closed_still c is =
+          let rest : List ℕ = 0 ∷ (s.fill ++ bytes) in
+          (bytes, (format, rest, subst (λ (l : List ℕ). Begins format l texts rest) (sym is) (s.moves rest), record { fill = s.fill; filled = s.filled; is = refl }))
 
   -- and when it is done, it has the text
-  pub acknowledged : {D : Type 0} (seen : D → List ℕ) (may_leave file_may_leave : D → List ℕ → Type 0) (journal : Journal D) → Holds file gate (255 ∷ []) (seen journal.device) → IsDurable seen may_leave file_may_leave journal.device → journal.gate ≡ gate + length (block text ++ 0 ∷ []) → HasTexts seen may_leave file_may_leave journal (texts ++ text ∷ [])
-  acknowledged seen may_leave file_may_leave journal holds only moved =
-      let is = written_gate s.front (block text ++ 0 ∷ s.rest) gate s.size (seen journal.device) (subst (λ l. Holds l gate (255 ∷ []) (seen journal.device)) s.is holds) in
+  pub acknowledged : {D : Type 0} (seen : D → List ℕ) (may_leave file_may_leave : D → List ℕ → Type 0) (journal : Journal D) → Holds file gate (255 ∷ []) (seen journal.device) → IsDurable seen may_leave file_may_leave journal.device → journal.end.format ≡ format → link_bytes journal.end.link ≡ next_link format (checksum_of (link_after format [] texts) text) → journal.end.gate ≡ gate + unit format + filled format (40 + length text) → journal.end.size ≡ gate + unit format + length bytes → HasTexts seen may_leave file_may_leave journal (texts ++ text ∷ [])
+  acknowledged seen may_leave file_may_leave journal holds only formats links moved grown =
+      let is = written_gate s.front (s.fill ++ bytes) gate s.size (seen journal.device) (subst (λ l. Holds l gate (255 ∷ []) (seen journal.device)) s.is holds) in
+      let all : length (seen journal.device) ≡ gate + unit format + length bytes = omega (arith, ap length is, s.size, s.filled, length-append s.front (255 ∷ (s.fill ++ bytes)), length-append s.fill bytes) in
       record {
-        rest = s.rest;
-        begins = subst (λ l. Begins l (texts ++ text ∷ []) (0 ∷ s.rest)) (sym is) (opened 255 (omega arith));
-        place = omega (
-          arith,
-          moved,
-          s.size,
-          ap length is,
-          length-append s.front (255 ∷ (block text ++ 0 ∷ s.rest)),
-          length-block (sha256 text) text (0 ∷ []) (length-sha256 text),
-          length-block (sha256 text) text (0 ∷ s.rest) (length-sha256 text),
-        );
+        rest = s.stage.behind;
+        begins = (format, s.stage.closing, with_text (seen journal.device) 255 (omega arith) is, s.stage.closed);
+        end = record {
+          format = sym formats;
+          link = links ∙ link_push format [] texts text ∙ ap (λ (f : Format). link_after f [] (texts ++ text ∷ [])) (sym formats);
+          place = omega (arith, moved, all, s.stage.long);
+          size = omega (arith, grown, all);
+        };
         durable = only;
       }
+
+-- a journal of a file that ends so
+pub has_texts : {D : Type 0} (seen : D → List ℕ) (may_leave file_may_leave : D → List ℕ → Type 0) (journal : Journal D) (file : List ℕ) (texts : List (List ℕ)) → EndsSo file texts journal.end → seen journal.device ≡ file → IsDurable seen may_leave file_may_leave journal.device → HasTexts seen may_leave file_may_leave journal texts
+has_texts seen may_leave file_may_leave journal file texts ends same durable =
+    let here = subst (λ (l : List ℕ). EndsSo l texts journal.end) (sym same) ends in
+    record { rest = here.behind; begins = here.closes; end = here.is; durable = durable }

@@ -1,6 +1,9 @@
 mod Blocks
 mod Crash
+mod Found
 mod Kept
+mod Made
 mod Moments
 mod Once
-mod Ranges
+mod OneAnswer
+pub mod Untouched

@@ -1,13 +1,13 @@
 -- Where the blocks of a file end there is one answer.
-use Rattle.std.proofs.Common.{◌≡◌, inl, inr, ℕ, ◌<◌, ◌^◌, List, [], ◌∷◌, ◌++◌, length, get_or, take, drop, refl, sym, ◌∙◌, ap, subst, arith}
+use Rattle.std.proofs.Common.{◌≡◌, inl, inr, ℕ, ◌+◌, ◌<◌, ◌^◌, List, [], ◌∷◌, ◌++◌, length, get_or, take, drop, refl, sym, ◌∙◌, ap, subst, arith, length-append}
 use Rattle.std.specs.Int.{w64, to_le_bytes}
-use Rattle.std.proofs.lemmas.List.{take_at, append_cancel_left}
-use Rattle.sha2.specs.Sha256.{sha256}
+use Rattle.std.proofs.lemmas.List.{take_at}
 use Rattle.sha2.proofs.Facts256.{length-sha256}
-use Rattle.dm_journal.specs.Journal.{header, block_with, block, IsBlock, AreBlocks, Begins}
-use Rattle.dm_journal.specs.Faults.{IsShort, EndsEarly, IsDamaged}
-use Rattle.dm_journal.specs.Laws.{StandsForOneList, JournalsHaveNoFault, FilesHaveOneFault}
-use Rattle.dm_journal.specs.declared.fault.Fault.TheVariants.{NotAJournal, Cut, Damaged}
+use Rattle.dm_journal.specs.declared.format.Format.{Format}
+use Rattle.dm_journal.specs.declared.format.Format.TheVariants.{First, Second}
+use Rattle.dm_journal.specs.Format.{family, line, filling}
+use Rattle.dm_journal.specs.Journal.{block, checksum_of, next_link, link_after, IsGate, IsBlock, IsNext, AreBlocks, Begins}
+use Rattle.dm_journal.specs.Faults.{IsShort, EndsEarly, HasOtherChecksum, IsDamaged, BeginsWith}
 use Rattle.dm_journal.proofs.Blocks.{flat, length-block, same_parts, same_number}
 
 same_head : (a b : ℕ) (xs ys : List ℕ) → a ∷ xs ≡ b ∷ ys → a ≡ b
@@ -16,98 +16,125 @@ same_head a b xs ys same = ap (λ (l : List ℕ). get_or l 0 0) same
 same_tail : (a b : ℕ) (xs ys : List ℕ) → a ∷ xs ≡ b ∷ ys → xs ≡ ys
 same_tail a b xs ys same = ap (λ (l : List ℕ). drop 1 l) same
 
-same_blocks : (s t m u v n : List ℕ) → length s ≡ 32 → length u ≡ 32 → length t < 2 ^ 64 → length v < 2 ^ 64 → block_with s t ++ m ≡ block_with u v ++ n → (s ≡ u) × (t ≡ v) × (m ≡ n)
+same_blocks : (s t m u v n : List ℕ) → length s ≡ 32 → length u ≡ 32 → length t < 2 ^ 64 → length v < 2 ^ 64 → block s t ++ m ≡ block u v ++ n → (s ≡ u) × (t ≡ v) × (m ≡ n)
 same_blocks s t m u v n ls lu lt lv same =
     let numbers = same_parts (to_le_bytes w64 (length t)) (s ++ (t ++ m)) (to_le_bytes w64 (length v)) (u ++ (v ++ n)) refl (sym (flat s t m) ∙ same ∙ flat u v n) in
     let sums = same_parts s (t ++ m) u (v ++ n) (ls ∙ sym lu) numbers.1 in
     let texts = same_parts t m v n (same_number (length t) (length v) lt lv numbers.0) sums.1 in
     (sums.0, texts.0, texts.1)
 
-same_block : (t u m n bytes : List ℕ) → IsBlock t m bytes → IsBlock u n bytes → (t ≡ u) × (m ≡ n)
-same_block t u m n bytes a b =
-    let same = same_tail a.gate b.gate (block t ++ m) (block u ++ n) (sym a.is ∙ b.is) in
-    let parts = same_blocks (sha256 t) t m (sha256 u) u n (length-sha256 t) (length-sha256 u) a.fits b.fits same in
-    (parts.1, parts.2)
+pub length-checksum : (link text : List ℕ) → length (checksum_of link text) ≡ 32
+length-checksum link text = length-sha256 (link ++ text)
 
--- no block stands in front
-abbrev pub HasNoBlock : List ℕ → Type 0
-HasNoBlock bytes = (text more : List ℕ) → IsBlock text more bytes → ⊥
+-- what the line of a format begins with
+pub in_family : (format : Format) (more : List ℕ) → BeginsWith family (line format ++ more)
+unfolding line
+in_family First more = (49 ∷ 10 ∷ more, refl)
+in_family Second more = (50 ∷ 10 ∷ more, refl)
 
-ends_alike : (bytes : List ℕ) (a b : List (List ℕ)) (r s : List ℕ) → HasNoBlock r → HasNoBlock s → AreBlocks bytes a r → AreBlocks bytes b s → (a ≡ b) × (r ≡ s)
-ends_alike bytes [] [] r s none none' p q = (refl, sym p ∙ q)
-ends_alike bytes [] (u ∷ b) r s none none' p q = absurd (none u q.0 (subst (λ l. IsBlock u q.0 l) p q.1))
-ends_alike bytes (t ∷ a) [] r s none none' p q = absurd (none' t p.0 (subst (λ l. IsBlock t p.0 l) q p.1))
-ends_alike bytes (t ∷ a) (u ∷ b) r s none none' p q =
-    let same = same_block t u p.0 q.0 bytes p.1 q.1 in
-    let rest = ends_alike q.0 a b r s none none' (subst (λ l. AreBlocks l a r) same.1 p.2) q.2 in
-    (ap (λ h. h ∷ a) same.0 ∙ ap (λ l. u ∷ l) rest.0, rest.1)
+pub length-line : (format : Format) → length (line format) ≡ 13
+unfolding line
+length-line First = refl
+length-line Second = refl
 
-files_end_alike : (file : List ℕ) (a b : List (List ℕ)) (r s : List ℕ) → HasNoBlock r → HasNoBlock s → Begins file a r → Begins file b s → (a ≡ b) × (r ≡ s)
-files_end_alike file a b r s none none' p q =
-    let same = append_cancel_left header p.0 q.0 (sym p.1 ∙ q.1) in
-    ends_alike q.0 a b r s none none' (subst (λ l. AreBlocks l a r) same p.2) q.2
+pub one_line : (f g : Format) (m n : List ℕ) → line f ++ m ≡ line g ++ n → f ≡ g
+unfolding line
+one_line First First m n same = refl
+one_line First Second m n same = let h : 49 ≡ 50 = ap (λ (l : List ℕ). get_or l 11 0) same in absurd (omega (arith, h))
+one_line Second First m n same = let h : 50 ≡ 49 = ap (λ (l : List ℕ). get_or l 11 0) same in absurd (omega (arith, h))
+one_line Second Second m n same = refl
 
-closed_has_none : (rest : List ℕ) → HasNoBlock (0 ∷ rest)
-closed_has_none rest text more b = b.is_open (sym (same_head 0 b.gate rest (block text ++ more) b.is))
+module _ (format : Format) where
+  pub same_gate : (g h : ℕ) (a b bytes : List ℕ) → IsGate format g a bytes → IsGate format h b bytes → (g ≡ h) × (a ≡ b)
+  same_gate g h a b bytes p q =
+      let same = sym p.is ∙ q.is in
+      let parts = same_parts p.fill a q.fill b (omega (arith, p.filled, q.filled)) (same_tail g h (p.fill ++ a) (q.fill ++ b) same) in
+      (same_head g h (p.fill ++ a) (q.fill ++ b) same, parts.1)
 
-short_is_no_block : (bytes s t m : List ℕ) → IsShort bytes → length s ≡ 32 → length t < 2 ^ 64 → bytes ≡ block_with s t ++ m → ⊥
-short_is_no_block bytes s t m (inl short) ls lt is = omega (arith, short, ap length is, length-block s t m ls)
-short_is_no_block bytes s t m (inr short) ls lt is =
-    let number = take_at (to_le_bytes w64 (length t)) (s ++ (t ++ m)) 8 refl in
-    let same = same_number short.0 (length t) short.1 lt (sym short.2 ∙ ap (take 8) (is ∙ flat s t m) ∙ number) in
-    omega (arith, same, short.3, ap length is, length-block s t m ls)
+  pub same_block : (s t m u v n bytes : List ℕ) → length s ≡ 32 → length u ≡ 32 → IsBlock format s t m bytes → IsBlock format u v n bytes → (s ≡ u) × (t ≡ v) × (m ≡ n)
+  same_block s t m u v n bytes ls lu p q =
+      let parts = same_blocks s t (p.fill ++ m) u v (q.fill ++ n) ls lu p.fits q.fits (sym p.is ∙ q.is) in
+      let fills = p.filled ∙ ap (λ (l : List ℕ). filling format (40 + length l)) parts.1 ∙ sym q.filled in
+      (parts.0, parts.1, (same_parts p.fill m q.fill n fills parts.2).1)
 
-early_is_no_block : (bytes s t m : List ℕ) (gate : ℕ) → EndsEarly bytes → length s ≡ 32 → length t < 2 ^ 64 → bytes ≡ gate ∷ (block_with s t ++ m) → ⊥
-early_is_no_block bytes s t m gate (inl none) ls lt is = omega (arith, ap length none, ap length is)
-early_is_no_block bytes s t m gate (inr early) ls lt is =
-    short_is_no_block early.1 s t m early.4 ls lt (same_tail early.0 gate early.1 (block_with s t ++ m) (sym early.3 ∙ is))
+  pub same_next : (link t m u n bytes : List ℕ) → IsNext format link t m bytes → IsNext format link u n bytes → (t ≡ u) × (m ≡ n)
+  same_next link t m u n bytes p q =
+      let behind = (same_gate p.gate q.gate p.behind q.behind bytes p.stands q.stands).1 in
+      let parts = same_block (checksum_of link t) t m (checksum_of link u) u n q.behind (length-checksum link t) (length-checksum link u) (subst (λ (l : List ℕ). IsBlock format (checksum_of link t) t m l) behind p.has) q.has in
+      (parts.1, parts.2)
 
-early_has_none : (bytes : List ℕ) → EndsEarly bytes → HasNoBlock bytes
-early_has_none bytes early text more b = early_is_no_block bytes (sha256 text) text more b.gate early (length-sha256 text) b.fits b.is
+  -- no block that follows on the link stands here
+  abbrev pub HasNone : List ℕ → List ℕ → Type 0
+  HasNone link bytes = (text more : List ℕ) → IsNext format link text more bytes → ⊥
 
-damaged_has_none : (bytes : List ℕ) → IsDamaged bytes → HasNoBlock bytes
-damaged_has_none bytes d text more b =
-    let same = same_tail d.gate b.gate (block_with d.checksum d.text ++ d.more) (block text ++ more) (sym d.is ∙ b.is) in
-    let parts = same_blocks d.checksum d.text d.more (sha256 text) text more d.whole (length-sha256 text) d.fits b.fits same in
-    d.differs (parts.0 ∙ ap sha256 (sym parts.1))
+  ends_alike : (link bytes : List ℕ) (a b : List (List ℕ)) (r s : List ℕ) → HasNone (link_after format link a) r → HasNone (link_after format link b) s → AreBlocks format link bytes a r → AreBlocks format link bytes b s → (a ≡ b) × (r ≡ s)
+  ends_alike link bytes [] [] r s none none' p q = (refl, sym p ∙ q)
+  ends_alike link bytes [] (u ∷ b) r s none none' p q = absurd (none u q.0 (subst (λ (l : List ℕ). IsNext format link u q.0 l) p q.1))
+  ends_alike link bytes (t ∷ a) [] r s none none' p q = absurd (none' t p.0 (subst (λ (l : List ℕ). IsNext format link t p.0 l) q p.1))
+  ends_alike link bytes (t ∷ a) (u ∷ b) r s none none' p q =
+      let same = same_next link t p.0 u q.0 bytes p.1 q.1 in
+      let next = λ (x : List ℕ). next_link format (checksum_of link x) in
+      let none'' = subst (λ (x : List ℕ). HasNone (link_after format (next x) a) r) same.0 none in
+      let blocks = subst (λ (x : List ℕ). AreBlocks format (next x) q.0 a r) same.0 (subst (λ (l : List ℕ). AreBlocks format (next t) l a r) same.1 p.2) in
+      let rest = ends_alike (next u) q.0 a b r s none'' none' blocks q.2 in
+      (ap (λ h. h ∷ a) same.0 ∙ ap (λ l. u ∷ l) rest.0, rest.1)
 
-closed_is_not_early : (rest : List ℕ) → EndsEarly (0 ∷ rest) → ⊥
-closed_is_not_early rest (inl none) = omega (arith, ap length none)
-closed_is_not_early rest (inr early) = early.2 (sym (same_head 0 early.0 rest early.1 early.3))
+  alike : (file : List ℕ) (a b : List (List ℕ)) (r s : List ℕ) → HasNone (link_after format [] a) r → HasNone (link_after format [] b) s → Begins format file a r → Begins format file b s → (a ≡ b) × (r ≡ s)
+  alike file a b r s none none' p q =
+      let fills = same_parts (line format) (p.fill ++ p.bytes) (line format) (q.fill ++ q.bytes) refl (sym p.is ∙ q.is) in
+      let bytes = (same_parts p.fill p.bytes q.fill q.bytes (p.filled ∙ sym q.filled) fills.1).1 in
+      ends_alike [] q.bytes a b r s none none' (subst (λ (l : List ℕ). AreBlocks format [] l a r) bytes p.blocks) q.blocks
 
-early_is_not_damaged : (bytes : List ℕ) → EndsEarly bytes → IsDamaged bytes → ⊥
-early_is_not_damaged bytes early d = early_is_no_block bytes d.checksum d.text d.more d.gate early d.whole d.fits d.is
+  -- where no block stands
+  pub short_has_none : (s t m bytes : List ℕ) → length s ≡ 32 → IsShort format bytes → IsBlock format s t m bytes → ⊥
+  short_has_none s t m bytes ls (inl short) b = omega (arith, short, ap length b.is, length-block s t (b.fill ++ m) ls)
+  short_has_none s t m bytes ls (inr short) b =
+      let number = take_at (to_le_bytes w64 (length t)) (s ++ (t ++ (b.fill ++ m))) 8 refl in
+      let same = same_number short.0 (length t) short.1 b.fits (sym short.2 ∙ ap (take 8) (b.is ∙ flat s t (b.fill ++ m)) ∙ number) in
+      let fill = b.filled ∙ ap (λ (n : ℕ). filling format (40 + n)) (sym same) in
+      omega (arith, same, fill, short.3, ap length b.is, length-block s t (b.fill ++ m) ls, length-append b.fill m)
 
-pub one_list : StandsForOneList
-one_list file a b p q = (files_end_alike file a b (0 ∷ p.0) (0 ∷ q.0) (closed_has_none p.0) (closed_has_none q.0) p.1 q.1).0
+  pub other_has_none : (link t m bytes : List ℕ) → HasOtherChecksum format link bytes → IsBlock format (checksum_of link t) t m bytes → ⊥
+  other_has_none link t m bytes o b =
+      let same = same_block o.checksum o.text o.more (checksum_of link t) t m bytes o.whole (length-checksum link t) o.stands b in
+      o.differs (same.0 ∙ ap (checksum_of link) (sym same.1))
 
-pub no_fault : JournalsHaveNoFault
-no_fault file texts NotAJournal p fault = fault p.1.0 p.1.1
-no_fault file texts (Cut at) p fault =
-    let same = (files_end_alike file texts fault.texts (0 ∷ p.0) fault.rest (closed_has_none p.0) (early_has_none fault.rest fault.why) p.1 fault.begins).1 in
-    closed_is_not_early p.0 (subst EndsEarly (sym same) fault.why)
-no_fault file texts (Damaged at) p fault =
-    let d = fault.why in
-    let same = (files_end_alike file texts fault.texts (0 ∷ p.0) fault.rest (closed_has_none p.0) (damaged_has_none fault.rest d) p.1 fault.begins).1 in
-    d.is_open (sym (same_head 0 d.gate p.0 (block_with d.checksum d.text ++ d.more) (same ∙ d.is)))
+  pub closed_has_none : (link behind bytes : List ℕ) → IsGate format 0 behind bytes → HasNone link bytes
+  closed_has_none link behind bytes g text more n = n.is_open (sym (same_gate 0 n.gate behind n.behind bytes g n.stands).0)
 
-pub one_fault : FilesHaveOneFault
-one_fault file NotAJournal NotAJournal p q = refl
-one_fault file NotAJournal (Cut b) p q = absurd (p q.begins.0 q.begins.1)
-one_fault file NotAJournal (Damaged b) p q = absurd (p q.begins.0 q.begins.1)
-one_fault file (Cut a) NotAJournal p q = absurd (q p.begins.0 p.begins.1)
-one_fault file (Damaged a) NotAJournal p q = absurd (q p.begins.0 p.begins.1)
-one_fault file (Cut a) (Cut b) p q =
-    let same = (files_end_alike file p.texts q.texts p.rest q.rest (early_has_none p.rest p.why) (early_has_none q.rest q.why) p.begins q.begins).1 in
-    let at : a ≡ b = omega (arith, ap length same, p.place, q.place) in
-    ap Cut at
-one_fault file (Damaged a) (Damaged b) p q =
-    let same = (files_end_alike file p.texts q.texts p.rest q.rest (damaged_has_none p.rest p.why) (damaged_has_none q.rest q.why) p.begins q.begins).1 in
-    let at : a ≡ b = omega (arith, ap length same, p.place, q.place) in
-    ap Damaged at
-one_fault file (Cut a) (Damaged b) p q =
-    let same = (files_end_alike file p.texts q.texts p.rest q.rest (early_has_none p.rest p.why) (damaged_has_none q.rest q.why) p.begins q.begins).1 in
-    absurd (early_is_not_damaged q.rest (subst EndsEarly same p.why) q.why)
-one_fault file (Damaged a) (Cut b) p q =
-    let same = (files_end_alike file p.texts q.texts p.rest q.rest (damaged_has_none p.rest p.why) (early_has_none q.rest q.why) p.begins q.begins).1 in
-    absurd (early_is_not_damaged q.rest q.why (subst IsDamaged same p.why))
+  pub early_has_none : (link bytes : List ℕ) → EndsEarly format link bytes → HasNone link bytes
+  early_has_none link bytes (inl short) text more n =
+      omega (arith, short, n.stands.filled, ap length n.stands.is, length-append n.stands.fill n.behind)
+  early_has_none link bytes (inr early) text more n =
+      let behind = (same_gate n.gate early.gate n.behind early.behind bytes n.stands early.stands).1 in
+      short_has_none (checksum_of link text) text more early.behind (length-checksum link text) early.has (subst (λ (l : List ℕ). IsBlock format (checksum_of link text) text more l) behind n.has)
+
+  pub damaged_has_none : (link bytes : List ℕ) → IsDamaged format link bytes → HasNone link bytes
+  damaged_has_none link bytes d text more n =
+      let behind = (same_gate n.gate d.gate n.behind d.behind bytes n.stands d.stands).1 in
+      other_has_none link text more d.behind d.has (subst (λ (l : List ℕ). IsBlock format (checksum_of link text) text more l) behind n.has)
+
+  -- no two answers at one place
+  pub closed_is_not_early : (link behind bytes : List ℕ) → IsGate format 0 behind bytes → EndsEarly format link bytes → ⊥
+  closed_is_not_early link behind bytes g (inl short) = omega (arith, short, g.filled, ap length g.is, length-append g.fill behind)
+  closed_is_not_early link behind bytes g (inr early) = early.is_open (sym (same_gate 0 early.gate behind early.behind bytes g early.stands).0)
+
+  pub closed_is_not_damaged : (link behind bytes : List ℕ) → IsGate format 0 behind bytes → IsDamaged format link bytes → ⊥
+  closed_is_not_damaged link behind bytes g d = d.is_open (sym (same_gate 0 d.gate behind d.behind bytes g d.stands).0)
+
+  pub early_is_not_damaged : (link bytes : List ℕ) → EndsEarly format link bytes → IsDamaged format link bytes → ⊥
+  early_is_not_damaged link bytes (inl short) d = omega (arith, short, d.stands.filled, ap length d.stands.is, length-append d.stands.fill d.behind)
+  early_is_not_damaged link bytes (inr early) d =
+      let behind = (same_gate d.gate early.gate d.behind early.behind bytes d.stands early.stands).1 in
+      let o = d.has in
+      short_has_none o.checksum o.text o.more early.behind o.whole early.has (subst (λ (l : List ℕ). IsBlock format o.checksum o.text o.more l) behind o.stands)
+
+-- two formats
+pub one_format : (f g : Format) (file : List ℕ) (a b : List (List ℕ)) (r s : List ℕ) → Begins f file a r → Begins g file b s → f ≡ g
+one_format f g file a b r s p q = one_line f g (p.fill ++ p.bytes) (q.fill ++ q.bytes) (sym p.is ∙ q.is)
+
+pub files_end_alike : (f g : Format) (file : List ℕ) (a b : List (List ℕ)) (r s : List ℕ) → HasNone f (link_after f [] a) r → HasNone g (link_after g [] b) s → Begins f file a r → Begins g file b s → (f ≡ g) × (a ≡ b) × (r ≡ s)
+files_end_alike f g file a b r s none none' p q =
+    let same = one_format f g file a b r s p q in
+    let ends = alike g file a b r s (subst (λ (h : Format). HasNone h (link_after h [] a) r) same none) none' (subst (λ (h : Format). Begins h file a r) same p) q in
+    (same, ends.0, ends.1)

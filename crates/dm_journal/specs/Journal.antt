@@ -1,36 +1,77 @@
 -- What a journal's file stands for.
-use Rattle.std.specs.Prelude.{◌≡◌, ◌≢◌, ℕ, ◌<◌, ◌^◌, List, [], ◌∷◌, ◌++◌, length, codes}
+use Rattle.std.specs.Prelude.{◌≡◌, ◌≢◌, ℕ, ◌+◌, ◌<◌, ◌^◌, List, [], ◌∷◌, ◌++◌, length, Option, Some, None}
 use Rattle.std.specs.Int.{w64, to_le_bytes}
 use Rattle.sha2.specs.Sha256.{sha256}
-
--- the first bytes of a journal, a line of text
-abbrev pub header : List ℕ
-header = codes "dm journal 1\n"
+use Rattle.dm_journal.specs.declared.format.Format.{Format}
+use Rattle.dm_journal.specs.declared.format.Format.TheVariants.{First, Second}
+use Rattle.dm_journal.specs.Format.{line, unit, filling}
 
 -- a text's length in 8 bytes, this checksum, and the text
-abbrev pub block_with : List ℕ → List ℕ → List ℕ
-block_with checksum text = to_le_bytes w64 (length text) ++ (checksum ++ text)
+abbrev pub block : List ℕ → List ℕ → List ℕ
+block checksum text = to_le_bytes w64 (length text) ++ (checksum ++ text)
 
--- the block of a text has the text's own checksum
-abbrev pub block : List ℕ → List ℕ
-block text = block_with (sha256 text) text
+-- the checksum of a text that follows on a link
+abbrev pub checksum_of : List ℕ → List ℕ → List ℕ
+checksum_of link text = sha256 (link ++ text)
 
--- the bytes are an open gate, which is any byte but 0, the block of the text, and the rest
-pub record IsBlock (text rest bytes : List ℕ) : Type 0 where
+-- what a block follows on that stands behind one with this checksum: in the first format on nothing, in the second on that checksum
+unfoldable pub next_link : Format → List ℕ → List ℕ
+next_link First checksum = []
+next_link Second checksum = checksum
+
+-- what a block follows on that stands behind blocks of these texts
+abbrev pub link_after : Format → List ℕ → List (List ℕ) → List ℕ
+link_after format link [] = link
+link_after format link (text ∷ texts) = link_after format (next_link format (checksum_of link text)) texts
+
+-- the bytes of a link, none where there is no checksum
+abbrev pub link_bytes : Option (List ℕ) → List ℕ
+link_bytes None = []
+link_bytes (Some checksum) = checksum
+
+-- the bytes are a gate, whatever fills its unit, and what stands behind it
+pub record IsGate (format : Format) (gate : ℕ) (behind bytes : List ℕ) : Type 0 where
+  pub fill : List ℕ
+  pub filled : 1 + length fill ≡ unit format
+  pub is : bytes ≡ gate ∷ (fill ++ behind)
+
+-- the bytes are the block of the text with this checksum, whatever fills it up to whole units, and the rest
+pub record IsBlock (format : Format) (checksum text rest bytes : List ℕ) : Type 0 where
+  pub fits : length text < 2 ^ 64
+  pub fill : List ℕ
+  pub filled : length fill ≡ filling format (40 + length text)
+  pub is : bytes ≡ block checksum text ++ (fill ++ rest)
+
+-- behind an open gate, which is any byte but 0, stands something that has P
+pub record IsOpen (format : Format) (P : List ℕ → Type 0) (bytes : List ℕ) : Type 0 where
   pub gate : ℕ
   pub is_open : gate ≢ 0
-  pub fits : length text < 2 ^ 64
-  pub is : bytes ≡ gate ∷ (block text ++ rest)
+  pub behind : List ℕ
+  pub stands : IsGate format gate behind bytes
+  pub has : P behind
 
--- the bytes are a block of each text in turn, and the rest
-abbrev pub AreBlocks : List ℕ → List (List ℕ) → List ℕ → Type 0
-AreBlocks bytes [] rest = bytes ≡ rest
-AreBlocks bytes (text ∷ texts) rest = (more : List ℕ) × IsBlock text more bytes × AreBlocks more texts rest
+-- the bytes are an open gate, the block of a text that follows on the link, and the rest
+abbrev pub IsNext : Format → List ℕ → List ℕ → List ℕ → List ℕ → Type 0
+IsNext format link text rest = IsOpen format (IsBlock format (checksum_of link text) text rest)
 
--- the file is the header, a block of each text in turn, and the rest
-abbrev pub Begins : List ℕ → List (List ℕ) → List ℕ → Type 0
-Begins file texts rest = (bytes : List ℕ) × (file ≡ header ++ bytes) × AreBlocks bytes texts rest
+-- the bytes are a block of each text in turn, each following on the one before it, and the rest
+abbrev pub AreBlocks : Format → List ℕ → List ℕ → List (List ℕ) → List ℕ → Type 0
+AreBlocks format link bytes [] rest = bytes ≡ rest
+AreBlocks format link bytes (text ∷ texts) rest =
+    (more : List ℕ) × IsNext format link text more bytes × AreBlocks format (next_link format (checksum_of link text)) more texts rest
 
--- the file stands for the texts: behind their blocks is a closed gate, and behind that may be anything
+-- the file is the line of the format, whatever fills its unit, a block of each text in turn, and the rest
+pub record Begins (format : Format) (file : List ℕ) (texts : List (List ℕ)) (rest : List ℕ) : Type 0 where
+  pub fill : List ℕ
+  pub filled : length fill ≡ filling format (length (line format))
+  pub bytes : List ℕ
+  pub is : file ≡ line format ++ (fill ++ bytes)
+  pub blocks : AreBlocks format [] bytes texts rest
+
+-- behind the blocks of the texts is a closed gate, which is 0, and behind its unit may be anything
+abbrev pub Closes : List ℕ → List (List ℕ) → List ℕ → Type 0
+Closes file texts behind = (format : Format) × (rest : List ℕ) × Begins format file texts rest × IsGate format 0 behind rest
+
+-- the file stands for the texts
 abbrev pub StandsFor : List ℕ → List (List ℕ) → Type 0
-StandsFor file texts = (rest : List ℕ) × Begins file texts (0 ∷ rest)
+StandsFor file texts = (behind : List ℕ) × Closes file texts behind

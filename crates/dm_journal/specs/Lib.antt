@@ -1,5 +1,7 @@
 pub mod Device
 pub mod Faults
+pub mod Format
+pub mod Hidden
 pub mod Journal
 pub mod Laws
 pub mod Memory

@@ -1,17 +1,18 @@
 -- When a journal may take a text, what it is to have afterwards, and what an opening leaves alone.
-use Rattle.std.specs.Prelude.{◌≡◌, ◌⊎◌, ℕ, ◌+◌, ◌<◌, ◌^◌, List, [], ◌∷◌, ◌++◌, length}
+use Rattle.std.specs.Prelude.{◌≡◌, ◌⊎◌, ℕ, ◌<◌, ◌^◌, List, [], ◌∷◌, ◌++◌, length}
 use Rattle.dm_journal.specs.Device.{IsDurable, LeavesOnly}
-use Rattle.dm_journal.specs.Journal.{Begins, StandsFor}
+use Rattle.dm_journal.specs.Journal.{Closes, StandsFor}
+use Rattle.dm_journal.specs.Reading.{IsEnd}
 use Rattle.dm_journal.specs.declared.device.DeviceError.TheVariants.{Failed}
 use Rattle.dm_journal.specs.declared.fault.WriteError.{WriteError}
 use Rattle.dm_journal.specs.declared.fault.WriteError.TheVariants.{Device, Beside, TooLong, Full}
 use Rattle.dm_journal.specs.declared.journal.Journal.{Journal}
 
--- the journal has these texts, all of them on the disk, and knows the place of the closed gate behind them
+-- the journal has these texts, all of them on the disk, and knows how its file ends
 pub record HasTexts {D : Type 0} (seen : D → List ℕ) (may_leave file_may_leave : D → List ℕ → Type 0) (journal : Journal D) (texts : List (List ℕ)) : Type 0 where
   pub rest : List ℕ
-  pub begins : Begins (seen journal.device) texts (0 ∷ rest)
-  pub place : journal.gate + length (0 ∷ rest) ≡ length (seen journal.device)
+  pub begins : Closes (seen journal.device) texts rest
+  pub end : IsEnd (seen journal.device) texts rest begins journal.end
   pub durable : IsDurable seen may_leave file_may_leave journal.device
 
 -- the text has more than 2 ^ 40 bytes

@@ -1,7 +1,7 @@
 //! Why a journal could not be opened or written.
 ghost use Rattle.std.specs.Prelude.{◌≡◌};
 ghost use Rattle.dm_journal.specs.declared.device.DeviceError.TheVariants.{Memory};
-ghost use Rattle.dm_journal.specs.declared.fault.OpenError.TheVariants.{Device as OpeningDevice};
+ghost use Rattle.dm_journal.specs.declared.fault.OpenError.TheVariants.{Device as OpeningDevice, File};
 ghost use Rattle.dm_journal.specs.declared.fault.WriteError.TheVariants.{Device as WritingDevice};
 
 use crate::device::DeviceError;
@@ -11,10 +11,13 @@ use thiserror::Error;
 /// What is wrong with a file. No crash of a call of a journal leads to one.
 #[derive(Clone, Copy, Debug, PartialEq, Eq, Error)]
 pub enum Fault {
-    /// The header doesn't stand in front.
+    /// It doesn't begin as a journal does.
     #[error("not a journal")]
     NotAJournal,
-    /// The file ends inside the block whose gate is at this byte, or where this gate is due.
+    /// It begins as a journal does, and is of no version that is known here.
+    #[error("the journal was written by another version of dm")]
+    Unknown,
+    /// The file ends inside the block whose gate is at this byte, or before or where this gate is due.
     #[error("the journal is cut in the block at byte {0}")]
     Cut(usize),
     /// The checksum of the block whose gate is at this byte isn't that of its text.
@@ -49,6 +52,14 @@ pub enum WriteError {
     /// The file of a journal that was to take one text more has more than 2^62 bytes. Nothing has changed.
     #[error("the journal is full")]
     Full,
+}
+
+impl From<Fault> for OpenError {
+    ghost from_gives = { λ fault e. e ≡ File fault };
+
+    fn from(fault: Fault) -> Self {
+        OpenError::File(fault)
+    }
 }
 
 impl<T: Drop> From<AllocFailed<T>> for OpenError {

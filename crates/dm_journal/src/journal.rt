@@ -6,12 +6,15 @@ ghost use Rattle.dm_journal.specs.declared.fault.WriteError.TheVariants.{Device 
 ghost use Rattle.dm_journal.specs.declared.fault.Fault.{Fault as FileFault};
 ghost use Rattle.dm_journal.specs.Device.{IsDurable, LeavesOnly};
 ghost use Rattle.dm_journal.specs.Faults.{HasFault};
-ghost use Rattle.dm_journal.specs.Journal.{Begins, StandsFor};
+ghost use Rattle.dm_journal.specs.Hidden.{TellsHidden};
+ghost use Rattle.dm_journal.specs.Journal.{StandsFor};
+ghost use Rattle.dm_journal.specs.Reading.{EndsSo};
 ghost use Rattle.dm_journal.specs.Ready.{HasTexts, IsTooLong, IsBeside, IsFailure, StandsWithOrWithout, StandsForEither, IsUntouched};
 
 use crate::device::Device;
 use crate::fault::{OpenError, WriteError};
-use crate::reading::read_blocks;
+use crate::format::{Format, Link, checksum};
+use crate::reading::{FRONT, read_blocks};
 use crate::texts::Texts;
 use crate::writing::{MOST_BYTES, OPEN, put_in_place, stage, whole, write_synced};
 use std::alloc::Global;
@@ -19,12 +22,24 @@ use std::alloc::Global;
 // The last place of a gate behind which a text is appended.
 const LAST_GATE: usize = 1 << 62;
 
+/// What a journal knows of the end of its file.
+#[derive(Clone, Copy)]
+pub struct End {
+    format: Format,
+    // What the next block follows on.
+    link: Link,
+    // The place of the closed gate behind the last block.
+    gate: usize,
+    // The bytes of the file.
+    size: usize,
+}
+
 /// A journal of texts on one file. After an error of the device, open the file again.
 #[derive(Drop)]
 pub struct Journal<D: Device> {
     pub device: D,
-    // The place of the closed gate behind the last block.
-    gate: usize,
+    end: End,
+    hidden: Option<usize>,
 }
 
 impl<D: Device> Journal<D> {
@@ -38,11 +53,27 @@ impl<D: Device> Journal<D> {
         ensures untouched_err { IfErr result (λ e. IsUntouched D.seen D.may_leave D.file_may_leave D.moment D.left_since device e.1) }
         ensures fault { IfErr result (λ e. (fault : FileFault) → e.0 ≡ OpeningFile fault → HasFault (D.seen device) fault) }
         ensures failed { IfErr result (λ e. e.0 ≡ OpeningDevice Failed → D.faults device < D.faults e.1) }
+        ensures hidden { IfOk result (λ r. TellsHidden (D.seen device) r.0.hidden) }
     {
         match read_journal(alloc, &mut device) {
-            Ok((gate, texts)) => Ok((Journal { device, gate }, texts)),
+            Ok((end, hidden, texts)) => {
+                let journal = Journal {
+                    device,
+                    end,
+                    hidden,
+                };
+                Ok((journal, texts))
+            }
             Err(error) => Err((error, device)),
         }
+    }
+
+    /// The place of the closed gate, if it hid blocks when the file was opened. No crash leaves such a file: somebody has closed a
+    /// gate in front of what was acknowledged.
+    pub fn hidden(&self) -> Option<usize>
+        ensures { result ≡ self.now.hidden }
+    {
+        self.hidden
     }
 
     /// Appends a text. At `Ok` it is acknowledged: from then on each crash leaves a file that has it.
@@ -68,14 +99,29 @@ impl<D: Device> Journal<D> {
         if text.len() > MOST_BYTES {
             return Err(WriteError::TooLong);
         }
-        if self.gate > LAST_GATE {
+        let End {
+            format,
+            link,
+            gate,
+            size,
+        } = self.end;
+        if gate > LAST_GATE {
             return Err(WriteError::Full);
         }
-        let staged = stage(alloc, text)?;
+        let checksum = checksum(link, text);
+        let behind = gate + format.unit();
+        // What a write that failed has left behind the gate is no more.
+        let room = size.saturating_sub(behind);
+        let staged = stage(alloc, format, &checksum, text, room)?;
         // The block stands on the disk before its gate is opened.
-        write_synced(&mut self.device, self.gate + 1, &staged)?;
-        write_synced(&mut self.device, self.gate, &[OPEN])?;
-        self.gate += staged.len();
+        write_synced(&mut self.device, behind, &staged)?;
+        write_synced(&mut self.device, gate, &[OPEN])?;
+        self.end = End {
+            format,
+            link: format.next_link(checksum),
+            gate: behind + format.filled(FRONT + text.len()),
+            size: behind + staged.len(),
+        };
         Ok(())
     }
 
@@ -98,7 +144,11 @@ impl<D: Device> Journal<D> {
         ensures not_full { IfErr result (λ e. e.0 ≡ Full → ⊥) }
     {
         match put_journal(alloc, &mut device, texts) {
-            Ok(gate) => Ok(Journal { device, gate }),
+            Ok(end) => Ok(Journal {
+                device,
+                end,
+                hidden: None,
+            }),
             Err(error) => Err((error, device)),
         }
     }
@@ -118,20 +168,16 @@ impl<D: Device> Journal<D> {
         ensures too_long { IsErrOf result TooLong → Any IsTooLong (map (λ text. text.now) texts.now) }
         ensures not_full { IsErrOf result Full → ⊥ }
     {
-        self.gate = put_journal(alloc, &mut self.device, texts)?;
+        self.end = put_journal(alloc, &mut self.device, texts)?;
+        self.hidden = None;
         Ok(())
     }
 }
 
-// Puts a journal of these texts in the place of the file. The place of the closed gate behind them.
-fn put_journal<D: Device>(
-    alloc: Global,
-    device: &mut D,
-    texts: &[&[u8]],
-) -> Result<usize, WriteError>
+// Puts a journal of these texts in the place of the file, in the newest format.
+fn put_journal<D: Device>(alloc: Global, device: &mut D, texts: &[&[u8]]) -> Result<End, WriteError>
     requires { IsDurable D.seen D.may_leave D.file_may_leave device.old }
-    ensures texts { OnOk result (Begins (D.seen device.new) (map (λ text. text.now) texts.now) (0 ∷ [])) }
-    ensures place { IfOk result (λ gate. gate + 1 ≡ length (D.seen device.new)) }
+    ensures texts { IfOk result (λ end. EndsSo (D.seen device.new) (map (λ text. text.now) texts.now) end) }
     ensures durable { OnOk result (IsDurable D.seen D.may_leave D.file_may_leave device.new) }
     ensures any_moment { LeavesOnly D.moment D.left_since device.old device.new
         (λ c. (c ≡ D.seen device.old) ⊎ StandsFor c (map (λ text. text.now) texts.now)) }
@@ -140,25 +186,40 @@ fn put_journal<D: Device>(
     ensures too_long { IsErrOf result TooLong → Any IsTooLong (map (λ text. text.now) texts.now) }
     ensures not_full { IsErrOf result Full → ⊥ }
 {
-    let bytes = match whole(alloc, texts) {
-        Ok(bytes) => bytes,
-        Err(WriteError::Device(error)) => return Err(WriteError::Beside(error)),
-        Err(error) => return Err(error),
-    };
+    let format = Format::Second;
+    let (bytes, link) = whole(alloc, format, texts)?;
     put_in_place(device, &bytes)?;
-    Ok(bytes.len() - 1)
+    Ok(End {
+        format,
+        link,
+        gate: bytes.len() - format.unit(),
+        size: bytes.len(),
+    })
 }
 
-// The texts of the file, and the place of the closed gate behind them.
-fn read_journal<D: Device>(alloc: Global, device: &mut D) -> Result<(usize, Texts), OpenError>
+// How the file ends, the place of a gate that hides blocks, and the texts.
+fn read_journal<D: Device>(
+    alloc: Global,
+    device: &mut D,
+) -> Result<(End, Option<usize>, Texts), OpenError>
     requires { IsDurable D.seen D.may_leave D.file_may_leave device.old }
-    ensures texts { IfOk result (λ r. (rest : List ℕ) × Begins (D.seen device.old) r.1 (0 ∷ rest)
-        × (r.0 + length (0 ∷ rest) ≡ length (D.seen device.old))) }
+    ensures texts { IfOk result (λ r. EndsSo (D.seen device.old) r.2 r.0) }
+    ensures hidden { IfOk result (λ r. TellsHidden (D.seen device.old) r.1) }
     ensures fault { IfErr result (λ e. (fault : FileFault) → e ≡ OpeningFile fault → HasFault (D.seen device.old) fault) }
     ensures untouched { IsUntouched D.seen D.may_leave D.file_may_leave D.moment D.left_since device.old device.new }
     ensures failed { IsErrOf result (OpeningDevice Failed) → D.faults device.old < D.faults device.new }
 {
     let bytes = device.read(alloc)?;
-    let (gate, ranges) = read_blocks(alloc, &bytes)?;
-    Ok((gate, Texts::new(bytes, ranges)))
+    match read_blocks(alloc, &bytes) {
+        Ok(reading) => {
+            let end = End {
+                format: reading.format,
+                link: reading.link,
+                gate: reading.gate,
+                size: bytes.len(),
+            };
+            Ok((end, reading.hidden, Texts::new(bytes, reading.ranges)))
+        }
+        Err(error) => Err(error),
+    }
 }

@@ -10,6 +10,7 @@
 
 mod device;
 mod fault;
+mod format;
 mod journal;
 pub mod laws;
 mod memory;
@@ -19,6 +20,7 @@ mod writing;
 
 pub use device::{Device, DeviceError};
 pub use fault::{Fault, OpenError, WriteError};
+pub use format::Format;
 pub use journal::Journal;
 pub use memory::Memory;
 pub use texts::Texts;

@@ -1,53 +1,93 @@
 //! How a file is read: block by block, up to a closed gate or a fault.
-ghost use Rattle.std.specs.Prelude.{◌≡◌, ◌<◌, ◌+◌, ◌++◌, List, ℕ, ◌∷◌, length, IfSome, IfNone, IfOk, IfErr};
+ghost use Rattle.std.specs.Prelude.{◌≡◌, ◌<◌, ◌≤◌, ◌++◌, true, false, drop, length, IfSome, IfNone, IfOk, IfErr};
 ghost use Rattle.std.specs.Int.{w64, to_le_bytes};
-ghost use Rattle.dm_journal.specs.Journal.{Begins};
-ghost use Rattle.dm_journal.specs.Reading.{StandsAt, IsFaultOf};
-ghost use Rattle.dm_journal.specs.Texts.{ranges_of};
+ghost use Rattle.dm_journal.specs.declared.format.Format.{Format as JournalFormat};
+ghost use Rattle.dm_journal.specs.Faults.{BeginsWith, HasFault};
+ghost use Rattle.dm_journal.specs.Format.{line, unit};
+ghost use Rattle.dm_journal.specs.Hidden.{AreTwoBlocks};
+ghost use Rattle.dm_journal.specs.Journal.{link_bytes};
+ghost use Rattle.dm_journal.specs.Reading.{IsHeaded, IsReading, IsFaultOf, StandsAt, StandsBehind};
 
 use crate::fault::{Fault, OpenError};
+use crate::format::{Format, Link, checksum};
 use crate::texts::Range;
-use sha2::{Digest, Sha256};
 use std::alloc::Global;
 
-pub const HEADER: [u8; 13] = *b"dm journal 1\n";
+// What a file of any version begins with.
+const FAMILY: [u8; 11] = *b"dm journal ";
 
-// The bytes of a gate, a length and a checksum.
-const FRONT: usize = 41;
+/// The bytes of a format's line.
+pub const HEADER: usize = 13;
 
-// What stands where a gate is due.
+/// The bytes of a length and a checksum.
+pub const FRONT: usize = 40;
+
+/// The blocks of a file up to a closed gate.
+#[derive(Drop)]
+pub struct Reading {
+    pub format: Format,
+    pub ranges: Vec<Range>,
+    // What a block behind them follows on.
+    pub link: Link,
+    // The place of the closed gate.
+    pub gate: usize,
+    // Its place, if it hides blocks.
+    pub hidden: Option<usize>,
+}
+
+// What stands where a gate is due, or behind an open one.
 #[derive(Clone, Copy)]
 pub enum Step {
     // A closed gate.
     End,
-    // A block of a text of this length.
-    Block(usize),
+    // A block of a text of this length, of so many bytes with what fills it up, and its checksum.
+    Whole {
+        len: usize,
+        size: usize,
+        checksum: [u8; 32],
+    },
     // Less than a block.
     Cut,
     // A block with another text's checksum.
     Damaged,
 }
 
-// The texts up to the closed gate, and the place of this gate.
-pub fn read_blocks(alloc: Global, bytes: &[u8]) -> Result<(usize, Vec<Range>), OpenError>
-    ensures ok { IfOk result (λ r. (rest : List ℕ) × Begins bytes.now (ranges_of bytes.now r.1.items) (0 ∷ rest)
-        × (r.0 + length (0 ∷ rest) ≡ length bytes.now)) }
+/// Reads the blocks up to a closed gate.
+pub fn read_blocks(alloc: Global, bytes: &[u8]) -> Result<Reading, OpenError>
+    ensures ok { IfOk result (IsReading bytes.now) }
     ensures fault { IfErr result (IsFaultOf bytes.now) }
 {
     let mut ranges = Vec::new(alloc);
-    if !bytes.starts_with(&HEADER) {
-        return Err(OpenError::File(Fault::NotAJournal));
-    }
-    let mut at = HEADER.len();
+    let (format, mut at) = read_header(bytes)?;
+    let mut link = None;
     'walk: loop {
-        match read_block(&bytes[at..]) {
-            Step::End => return Ok((at, ranges)),
-            Step::Block(len) => {
+        match read_block(format, link, &bytes[at..]) {
+            Step::End => {
+                let hidden = if hides(format, link, &bytes[at..]) {
+                    Some(at)
+                } else {
+                    None
+                };
+                return Ok(Reading {
+                    format,
+                    ranges,
+                    link,
+                    gate: at,
+                    hidden,
+                });
+            }
+            Step::Whole {
+                len,
+                size,
+                checksum,
+            } => {
+                let behind = at + format.unit();
                 ranges.push(Range {
-                    start: at + FRONT,
+                    start: behind + FRONT,
                     len,
                 })?;
-                at += FRONT + len;
+                at = behind + size;
+                link = format.next_link(checksum);
             }
             Step::Cut => return Err(OpenError::File(Fault::Cut(at))),
             Step::Damaged => return Err(OpenError::File(Fault::Damaged(at))),
@@ -55,31 +95,96 @@ pub fn read_blocks(alloc: Global, bytes: &[u8]) -> Result<(usize, Vec<Range>), O
     }
 }
 
-fn read_block(bytes: &[u8]) -> Step
-    ensures { StandsAt bytes.now result }
+// The format of a file, and the place where its first gate is due.
+fn read_header(bytes: &[u8]) -> Result<(Format, usize), Fault>
+    ensures ok { IfOk result (λ r. IsHeaded bytes.now r.0 r.1) }
+    ensures fault { IfErr result (HasFault bytes.now) }
 {
-    let [gate, block @ ..] = bytes else {
-        return Step::Cut;
+    let Some(format) = known_format(bytes) else {
+        return Err(if bytes.starts_with(&FAMILY) {
+            Fault::Unknown
+        } else {
+            Fault::NotAJournal
+        });
     };
-    if *gate == 0 {
+    let at = format.filled(HEADER);
+    if bytes.len() < at {
+        return Err(Fault::Cut(at));
+    }
+    Ok((format, at))
+}
+
+// The format whose line the file begins with.
+fn known_format(bytes: &[u8]) -> Option<Format>
+    ensures some { IfSome result (λ format. BeginsWith (line format) bytes.now) }
+    ensures none { IfNone result ((format : JournalFormat) → ¬ BeginsWith (line format) bytes.now) }
+{
+    if bytes.starts_with(&Format::First.line()) {
+        return Some(Format::First);
+    }
+    if bytes.starts_with(&Format::Second.line()) {
+        return Some(Format::Second);
+    }
+    None
+}
+
+fn read_block(format: Format, link: Link, bytes: &[u8]) -> Step
+    ensures { StandsAt format (link_bytes link) bytes.now result }
+{
+    let unit = format.unit();
+    if bytes.len() < unit {
+        return Step::Cut;
+    }
+    if bytes[0] == 0 {
         return Step::End;
     }
-    let Some((len, rest)) = read_length(block) else {
+    read_behind(format, link, &bytes[unit..])
+}
+
+// What stands behind a gate that is open.
+fn read_behind(format: Format, link: Link, bytes: &[u8]) -> Step
+    ensures { StandsBehind format (link_bytes link) bytes.now result }
+{
+    let Some((len, rest)) = read_length(bytes) else {
         return Step::Cut;
     };
     if rest.len() < 32 {
         return Step::Cut;
     }
-    let (checksum, rest) = rest.split_at(32);
+    let (told, rest) = rest.split_at(32);
     if len > rest.len() as u64 {
         return Step::Cut;
     }
     let len = len as usize;
-    let digest = Sha256::digest(&rest[..len]);
-    if digest.as_slice() != checksum {
+    let size = format.filled(FRONT + len);
+    if bytes.len() < size {
+        return Step::Cut;
+    }
+    let checksum = checksum(link, &rest[..len]);
+    if checksum.as_slice() != told {
         return Step::Damaged;
     }
-    Step::Block(len)
+    Step::Whole {
+        len,
+        size,
+        checksum,
+    }
+}
+
+// Whether behind this closed gate stand two blocks that follow on the link.
+fn hides(format: Format, link: Link, bytes: &[u8]) -> bool
+    requires { unit format ≤ length bytes.now }
+    ensures yes { result ≡ true → AreTwoBlocks format (link_bytes link) (drop (unit format) bytes.now) }
+    ensures no { result ≡ false → ¬ AreTwoBlocks format (link_bytes link) (drop (unit format) bytes.now) }
+{
+    let behind = &bytes[format.unit()..];
+    let Step::Whole { size, checksum, .. } = read_behind(format, link, behind) else {
+        return false;
+    };
+    match read_block(format, format.next_link(checksum), &behind[size..]) {
+        Step::Whole { .. } => true,
+        _ => false,
+    }
 }
 
 // A number of 8 bytes, the lowest first, and what stands behind it.

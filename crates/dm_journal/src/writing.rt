@@ -1,15 +1,18 @@
 //! What is written, and how it comes on the disk.
 ghost use Rattle.std.specs.Prelude.{◌≡◌, ◌≢◌, ◌⊎◌, ◌<◌, ◌≤◌, ◌^◌, ◌++◌, [], ◌∷◌, List, ℕ, length, map, Any, IfOk, IfErr, OnOk, IsErrOf};
 ghost use Rattle.dm_journal.specs.declared.device.DeviceError.TheVariants.{Failed, Memory};
-ghost use Rattle.dm_journal.specs.declared.fault.WriteError.TheVariants.{Device as WritingDevice, TooLong, Full};
+ghost use Rattle.dm_journal.specs.declared.fault.WriteError.TheVariants.{Device as WritingDevice, Beside, TooLong, Full};
 ghost use Rattle.dm_journal.specs.Ready.{IsTooLong, IsUntouched, IsBeside, IsFailure};
 ghost use Rattle.dm_journal.specs.Device.{IsDurable, Holds, Torn, LeavesOnly, Only};
-ghost use Rattle.dm_journal.specs.Journal.{Begins, block};
+ghost use Rattle.dm_journal.specs.Format.{filling};
+ghost use Rattle.dm_journal.specs.Journal.{block, checksum_of, next_link, link_bytes, IsGate};
+ghost use Rattle.dm_journal.specs.Reading.{staged, IsWholeFile, IsPushed};
+ghost use Rattle.std.proofs.Math.ListN.{replicate};
 
 use crate::device::{Device, DeviceError};
 use crate::fault::WriteError;
-use crate::reading::HEADER;
-use sha2::{Digest, Sha256};
+use crate::format::{Format, Link, checksum};
+use crate::reading::{FRONT, HEADER};
 use std::alloc::Global;
 
 /// The most bytes of a text that is written.
@@ -18,43 +21,111 @@ pub const MOST_BYTES: usize = 1 << 40;
 // An open gate. Any byte but 0 is one, so no single bit that turns closes it.
 pub const OPEN: u8 = 255;
 
-// The block of a text, and a closed gate.
-pub fn stage(alloc: Global, text: &[u8]) -> Result<Vec<u8>, DeviceError>
+// The block of a text, and zeros: they fill it up, are a closed gate, and reach as far as `room` bytes.
+pub fn stage(
+    alloc: Global,
+    format: Format,
+    checksum: &[u8; 32],
+    text: &[u8],
+    room: usize,
+) -> Result<Vec<u8>, DeviceError>
     requires { length text.now ≤ 2 ^ 40 }
-    ensures bytes { IfOk result (λ bytes. bytes.items ≡ block text.now ++ 0 ∷ []) }
+    ensures bytes { IfOk result (λ bytes. bytes.items ≡ staged format checksum.now text.now room) }
     ensures err { IfErr result (λ e. e ≡ Memory) }
 {
-    let mut bytes = Vec::with_capacity(alloc, text.len() + 41)?;
-    push_block(&mut bytes, text)?;
-    bytes.push(0)?;
+    let needed = format.filled(FRONT + text.len()) + format.unit();
+    let size = needed.max(room);
+    let mut bytes = Vec::with_capacity(alloc, size)?;
+    push_block(&mut bytes, checksum, text)?;
+    bytes.resize(size, 0)?;
     Ok(bytes)
 }
 
-// A whole journal of these texts.
-pub fn whole(alloc: Global, texts: &[&[u8]]) -> Result<Vec<u8>, WriteError>
-    ensures texts { IfOk result (λ bytes. Begins bytes.items (map (λ text. text.now) texts.now) (0 ∷ [])) }
+// A whole journal of these texts, and what the next block follows on.
+pub fn whole(alloc: Global, format: Format, texts: &[&[u8]]) -> Result<(Vec<u8>, Link), WriteError>
+    ensures texts { IfOk result (λ r. IsWholeFile format r.0.items (map (λ text. text.now) texts.now) (link_bytes r.1)) }
+    ensures err { IfErr result (λ e. (e ≡ Beside Memory) ⊎ (e ≡ TooLong)) }
+    ensures too_long { IsErrOf result TooLong → Any IsTooLong (map (λ text. text.now) texts.now) }
+{
+    match write_whole(alloc, format, texts) {
+        Ok(made) => Ok(made),
+        Err(WriteError::Device(error)) => Err(WriteError::Beside(error)),
+        Err(error) => Err(error),
+    }
+}
+
+fn write_whole(alloc: Global, format: Format, texts: &[&[u8]]) -> Result<(Vec<u8>, Link), WriteError>
+    ensures texts { IfOk result (λ r. IsWholeFile format r.0.items (map (λ text. text.now) texts.now) (link_bytes r.1)) }
     ensures err { IfErr result (λ e. (e ≡ WritingDevice Memory) ⊎ (e ≡ TooLong)) }
     ensures too_long { IsErrOf result TooLong → Any IsTooLong (map (λ text. text.now) texts.now) }
 {
-    let mut bytes = HEADER.to_vec(alloc)?;
+    let mut bytes = format.line().to_vec(alloc)?;
+    fill_up(&mut bytes, format, HEADER)?;
+    let mut link = None;
     for text in texts {
         if text.len() > MOST_BYTES {
             return Err(WriteError::TooLong);
         }
-        bytes.push(OPEN)?;
-        push_block(&mut bytes, text)?;
+        link = push_text(&mut bytes, format, link, text)?;
     }
-    bytes.push(0)?;
-    Ok(bytes)
+    push_gate(&mut bytes, format, 0)?;
+    Ok((bytes, link))
 }
 
-fn push_block(bytes: &mut Vec<u8>, text: &[u8]) -> Result<(), DeviceError>
-    ensures bytes { OnOk result (bytes.new.items ≡ bytes.old.items ++ block text.now) }
+// An open gate and the block of a text that follows on the link. What the next block follows on.
+fn push_text(
+    bytes: &mut Vec<u8>,
+    format: Format,
+    link: Link,
+    text: &[u8],
+) -> Result<Link, DeviceError>
+    requires { length text.now ≤ 2 ^ 40 }
+    ensures bytes { OnOk result (IsPushed format (link_bytes link) text.now bytes.old.items bytes.new.items) }
+    ensures link { IfOk result (λ next. link_bytes next ≡ next_link format (checksum_of (link_bytes link) text.now)) }
+    ensures err { IfErr result (λ e. e ≡ Memory) }
+{
+    push_gate(bytes, format, OPEN)?;
+    let checksum = checksum(link, text);
+    push_block(bytes, &checksum, text)?;
+    fill_up(bytes, format, FRONT + text.len())?;
+    Ok(format.next_link(checksum))
+}
+
+// A gate, in a unit of its own.
+fn push_gate(bytes: &mut Vec<u8>, format: Format, gate: u8) -> Result<(), DeviceError>
+    ensures bytes { OnOk result ((more : List ℕ) × (bytes.new.items ≡ bytes.old.items ++ more) × IsGate format gate [] more) }
+    ensures err { IfErr result (λ e. e ≡ Memory) }
+{
+    bytes.push(gate)?;
+    push_zeros(bytes, format.unit() - 1)
+}
+
+// What fills so many bytes up to whole units.
+fn fill_up(bytes: &mut Vec<u8>, format: Format, len: usize) -> Result<(), DeviceError>
+    requires { len ≤ 2 ^ 63 }
+    ensures bytes { OnOk result (bytes.new.items ≡ bytes.old.items ++ replicate (filling format len) 0) }
+    ensures err { IfErr result (λ e. e ≡ Memory) }
+{
+    push_zeros(bytes, format.filled(len) - len)
+}
+
+fn push_zeros(bytes: &mut Vec<u8>, count: usize) -> Result<(), DeviceError>
+    requires { count ≤ 2 ^ 12 }
+    ensures bytes { OnOk result (bytes.new.items ≡ bytes.old.items ++ replicate count 0) }
+    ensures err { IfErr result (λ e. e ≡ Memory) }
+{
+    let size = bytes.len() + count;
+    bytes.resize(size, 0)?;
+    Ok(())
+}
+
+fn push_block(bytes: &mut Vec<u8>, checksum: &[u8; 32], text: &[u8]) -> Result<(), DeviceError>
+    ensures bytes { OnOk result (bytes.new.items ≡ bytes.old.items ++ block checksum.now text.now) }
     ensures fits { length text.now < 2 ^ 64 }
     ensures err { IfErr result (λ e. e ≡ Memory) }
 {
     bytes.extend_from_slice(&(text.len() as u64).to_le_bytes())?;
-    bytes.extend_from_slice(&Sha256::digest(text))?;
+    bytes.extend_from_slice(checksum)?;
     bytes.extend_from_slice(text)?;
     Ok(())
 }

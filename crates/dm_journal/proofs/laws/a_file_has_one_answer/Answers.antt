@@ -1,4 +1,4 @@
-use Rattle.dm_journal.proofs.Once.{one_list, no_fault, one_fault}
+use Rattle.dm_journal.proofs.OneAnswer.{one_list, no_fault, one_fault}
 use Rattle.dm_journal.proofs.laws.a_file_has_one_answer.Goals as goal
 
 pub returns-clause-texts : goal.returns-clause-texts

@@ -1,19 +1,24 @@
-use Rattle.std.proofs.Common.{rules, ◌≡◌, ◌≢◌, ℕ, List, length, get_or, take, arith, sym, ◌∙◌, ap}
+use Rattle.std.proofs.Common.{List, ℕ, get_or, drop, arith, ◌∙◌, ap, subst}
 use Rattle.std.proofs.lemmas.List.{take_rest}
-use Rattle.sha2.specs.Sha256.{sha256}
-use Rattle.dm_journal.proofs.Blocks.{is_block, is_damaged}
+use Rattle.dm_journal.specs.Format.{unit}
+use Rattle.dm_journal.specs.Journal.{link_bytes, IsGate}
+use Rattle.dm_journal.specs.Reading.{StandsBehind}
+use Rattle.dm_journal.proofs.Found.{gate_here, stands_open}
 use Rattle.dm_journal.proofs.reading.read_block.Goals as goal
 
-pub returns-then-ne : goal.returns-then-ne
-returns-then-ne c =
-    let is_open : get_or c.args.bytes.now 0 0 ≢ 0 = search rules in
-    let differ : c.as_slice.result.now ≢ c.split_at.result.0.now = search rules in
-    let digest = c.as_slice.ensures ∙ c.digest-digest.ensures ∙ ap (λ (l : List ℕ). sha256 (take c.in-Some.len l)) c.split_at.ensures.back in
-    is_damaged c.args.bytes.now c.in-Some.len c.in-Some.rest.now (omega (arith, c.in-len1-up.len_at_least)) (sym (take_rest c.args.bytes.now 1) ∙ c.in-Some.ensures.some) (omega (arith, c.if-rest-lt32.false)) (omega (arith, c.if-len-rest.false, ap length c.split_at.ensures.back)) (search rules) is_open (λ same. differ (digest ∙ sym same ∙ sym c.split_at.ensures.front))
+pub returns-then-bytes-eq0 : goal.returns-then-bytes-eq0
+returns-then-bytes-eq0 c =
+    let bytes = c.args.bytes.now in
+    let format = c.args.format in
+    let gate = gate_here format bytes (omega (arith, c.unit-unit.ensures.some, c.unit-unit.ensures.is)) (omega (arith, c.unit-unit.ensures.is, c.if-bytes-unit.false)) in
+    subst (λ (g : ℕ). IsGate format g (drop (unit format) bytes) bytes) c.if-bytes-eq0.true gate
 
 pub returns : goal.returns
 returns c =
-    let is_open : get_or c.args.bytes.now 0 0 ≢ 0 = search rules in
-    let same : c.as_slice.result.now ≡ c.split_at.result.0.now = search rules in
-    let digest = c.as_slice.ensures ∙ c.digest-digest.ensures ∙ ap (λ (l : List ℕ). sha256 (take c.in-Some.len l)) c.split_at.ensures.back in
-    is_block c.args.bytes.now c.in-Some.len c.in-Some.rest.now (omega (arith, c.in-len1-up.len_at_least)) (sym (take_rest c.args.bytes.now 1) ∙ c.in-Some.ensures.some) (omega (arith, c.if-rest-lt32.false)) (omega (arith, c.if-len-rest.false, ap length c.split_at.ensures.back)) (search rules) is_open (sym digest ∙ same ∙ c.split_at.ensures.front)
+    let bytes = c.args.bytes.now in
+    let format = c.args.format in
+    let link = link_bytes c.args.link in
+    let gate = gate_here format bytes (omega (arith, c.unit-unit.ensures.some, c.unit-unit.ensures.is)) (omega (arith, c.unit-unit.ensures.is, c.if-bytes-unit.false)) in
+    let behind = take_rest bytes c.unit-unit.result ∙ ap (λ (k : ℕ). drop k bytes) c.unit-unit.ensures.is in
+    let stands = subst (λ (l : List ℕ). StandsBehind format link l c.read_behind.result) behind c.read_behind.ensures in
+    stands_open format link (drop (unit format) bytes) bytes (get_or bytes 0 0) c.read_behind.result c.if-bytes-eq0.false gate stands

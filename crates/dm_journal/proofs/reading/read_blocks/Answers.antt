@@ -1,25 +1,64 @@
-use Rattle.std.proofs.Common.{rules, ◌≡◌, ◌≤◌, ◌+◌, ◌++◌, List, ℕ, length, take, drop, refl, sym, ◌∙◌, ap, subst, take-append-drop}
-use Rattle.dm_journal.specs.Journal.{header, AreBlocks, Begins}
-use Rattle.dm_journal.specs.Texts.{ranges_of}
+use Rattle.std.proofs.Common.{◌≡◌, true, false, ◌+◌, ◌-◌, List, [], ℕ, inr, length, take, drop, sym, ◌∙◌, ap, subst, arith}
+use Rattle.std.proofs.lemmas.List.{take_rest, length-drop}
 use Rattle.dm_journal.specs.declared.texts.Range.{Range}
-use Rattle.dm_journal.proofs.Ranges.{range_push}
+use Rattle.dm_journal.specs.Faults.{EndsEarly}
+use Rattle.dm_journal.specs.Format.{unit}
+use Rattle.dm_journal.specs.Hidden.{AreTwoBlocks, TellsHidden}
+use Rattle.dm_journal.specs.Journal.{Begins, IsGate, link_after, link_bytes}
+use Rattle.dm_journal.specs.Texts.{ranges_of}
+use Rattle.dm_journal.proofs.Found.{range_push}
+use Rattle.dm_journal.proofs.OneAnswer.{none_hidden}
+use Rattle.dm_journal.proofs.reading.read_blocks.Goals.{then-hides, else-hides}
 use Rattle.dm_journal.proofs.reading.read_blocks.Goals as goal
 
-pub walk-init : goal.walk-init
-walk-init c =
-    let bytes = c.args.bytes.now in
-    let same : take 13 c.args.bytes.now ≡ header = search rules in
-    let long : 13 ≤ length c.args.bytes.now = search rules in (
-      long,
-      (
-        drop 13 bytes,
-        sym (take-append-drop 13 bytes) ∙ ap (λ (l : List ℕ). l ++ drop 13 bytes) same,
-        subst (λ (l : List Range). AreBlocks (drop 13 bytes) (ranges_of bytes l) (drop 13 bytes)) (sym c.new-ranges.ensures.items) refl,
-      ),
-    )
+pub returns-in-End-clause-ok : goal.returns-in-End-clause-ok
+returns-in-End-clause-ok c =
+    let file = c.args.bytes.now in
+    let format = c.in_ok-format.format in
+    let texts = ranges_of file c.walk.ranges.items in
+    let rest = drop c.walk.at file in
+    let behind = drop (unit format) rest in
+    let here = take_rest file c.walk.at in
+    let closed = subst (λ (l : List ℕ). IsGate format 0 (drop (unit format) l) l) here c.in-End.ensures in
+    let place : c.walk.at + length rest ≡ length file = omega (arith, c.walk.invariant.within, length-drop c.walk.at file) in
+    let yes = λ (e : c.hides.result ≡ true). subst (AreTwoBlocks format (link_after format [] texts)) (ap (drop (unit format)) here) (subst (λ (l : List ℕ). AreTwoBlocks format l (drop (unit format) (take (length file - c.walk.at) rest))) c.walk.invariant.linked (c.hides.ensures.yes e)) in
+    let no = λ (e : c.hides.result ≡ false) (two : AreTwoBlocks format (link_after format [] texts) behind). c.hides.ensures.no e (subst (λ (l : List ℕ). AreTwoBlocks format l (drop (unit format) (take (length file - c.walk.at) rest))) (sym c.walk.invariant.linked) (subst (AreTwoBlocks format (link_after format [] texts)) (sym (ap (drop (unit format)) here)) two)) in
+    record {
+      rest = rest;
+      begins = c.walk.invariant.begins;
+      behind = behind;
+      closed = closed;
+      link = c.walk.invariant.linked;
+      place = place;
+      hidden = elim c.if-hides.branch [
+        | then-hides w ↦ subst (TellsHidden file) (sym w.hidden-is) (record { format = format; texts = texts; rest = rest; begins = c.walk.invariant.begins; place = place; behind = behind; closed = closed; blocks = yes w.if-hides.true })
+        | else-hides w ↦ subst (TellsHidden file) (sym w.hidden-is) (none_hidden format file texts rest behind c.walk.invariant.begins closed (no w.if-hides.false))
+      ];
+    }
 
 pub walk-preserved : goal.walk-preserved
 walk-preserved c =
-    let bytes = c.args.bytes.now in
-    let pushed = range_push bytes c.walk.ranges.items c.walk.at c.in-Block.len c.walk.invariant.0 c.walk.invariant.1 c.in-Block.ensures in
-    (pushed.0, subst (λ (l : List Range). Begins bytes (ranges_of bytes l) (drop (c.walk.at + (41 + c.in-Block.len)) bytes)) (sym c.in_ok-push-in-Block.ensures.items) pushed.1)
+    let file = c.args.bytes.now in
+    let format = c.in_ok-format.format in
+    let behind = c.walk.at + c.unit.result in
+    let pushed = range_push format (link_bytes c.walk.link) file c.walk.ranges.items c.walk.at behind c.in-Whole.len c.in-Whole.size c.in-Whole.checksum (ap (λ (n : ℕ). c.walk.at + n) c.unit.ensures.is) c.walk.invariant.within c.walk.invariant.begins c.walk.invariant.linked c.in-Whole.ensures in
+    let items = c.in_ok-push-in-Whole.ensures.items in
+    record {
+      within = pushed.0;
+      begins = subst (λ (l : List Range). Begins format file (ranges_of file l) (drop (behind + c.in-Whole.size) file)) (sym items) pushed.1;
+      linked = c.next_link-link.ensures ∙ pushed.2 ∙ ap (λ (l : List Range). link_after format [] (ranges_of file l)) (sym items);
+    }
+
+pub returns-in-Cut-clause-fault : goal.returns-in-Cut-clause-fault
+returns-in-Cut-clause-fault c =
+    let file = c.args.bytes.now in
+    let format = c.in_ok-format.format in
+    let texts = ranges_of file c.walk.ranges.items in
+    inr (record {
+      format = format;
+      texts = texts;
+      rest = drop c.walk.at file;
+      begins = c.walk.invariant.begins;
+      place = omega (arith, c.walk.invariant.within, length-drop c.walk.at file);
+      why = subst (EndsEarly format (link_after format [] texts)) (take_rest file c.walk.at) c.in-Cut.ensures;
+    })

@@ -1,39 +1,48 @@
-use Rattle.std.proofs.Common.{◌<◌, ◌^◌, length, arith, ◌∙◌, ap}
+use Rattle.std.proofs.Common.{◌≤◌, ◌<◌, ◌+◌, ◌^◌, ℕ, List, length, refl, arith, ◌∙◌, ap}
+use Rattle.dm_journal.specs.Format.{unit}
+use Rattle.dm_journal.specs.Journal.{checksum_of, next_link}
 use Rattle.dm_journal.proofs.Moments.{weakened, followed}
-use Rattle.dm_journal.proofs.Crash.{first_leaves, staged, second_leaves, acknowledged}
+use Rattle.dm_journal.proofs.Crash.{first_leaves, staged_by, second_leaves, acknowledged}
 use Rattle.dm_journal.proofs.journal.Journal.append.Goals as goal
 
 pub returns-in_err-write_synced-clause-any_moment :
     goal.returns-in_err-write_synced-clause-any_moment
 returns-in_err-write_synced-clause-any_moment g c texts has =
     let d = g.D.Device in
-    weakened d.moment d.left_since _ _ _ _ (first_leaves d.seen d.may_leave d.file_may_leave c.args.self.now texts has c.args.text.now _) c.write_synced.ensures.any_moment
+    let at = ap (λ (n : ℕ). c.args.self.now.end.gate + n) c.unit.ensures.is in
+    weakened d.moment d.left_since _ _ _ _ (first_leaves d.seen d.may_leave d.file_may_leave c.args.self.now texts has _ at c.args.text.now _) c.write_synced.ensures.any_moment
 
 pub returns-in_err-write_synced-2-clause-any_moment :
     goal.returns-in_err-write_synced-2-clause-any_moment
 returns-in_err-write_synced-2-clause-any_moment g c texts has =
     let d = g.D.Device in
-    let first = weakened d.moment d.left_since _ _ _ _ (first_leaves d.seen d.may_leave d.file_may_leave c.args.self.now texts has c.args.text.now _) c.write_synced.ensures.any_moment in
+    let at = ap (λ (n : ℕ). c.args.self.now.end.gate + n) c.unit.ensures.is in
+    let first = weakened d.moment d.left_since _ _ _ _ (first_leaves d.seen d.may_leave d.file_may_leave c.args.self.now texts has _ at c.args.text.now _) c.write_synced.ensures.any_moment in
     let fits : length c.args.text.now < 2 ^ 64 = omega (arith, c.if-text-gt-MOST_BYTES.false) in
-    let bytes = c.deref.ensures.value ∙ c.in_ok-staged.ensures.bytes in
-    let s = staged d.seen d.may_leave d.file_may_leave c.args.self.now texts has c.args.text.now _ _ bytes c.in_ok-write_synced.ensures.written in
-    let second = weakened d.moment d.left_since _ _ _ _ (second_leaves texts c.args.text.now fits _ _ s) c.write_synced-2.ensures.any_moment in
+    let some : 1 ≤ unit c.args.self.now.end.format = omega (arith, c.unit.ensures.is, c.unit.ensures.some) in
+    let s = staged_by d.seen d.may_leave d.file_may_leave c.args.self.now texts has _ at c.args.text.now c.checksum-checksum.result _ _ _ c.checksum-checksum.ensures c.saturating_sub-room.ensures (c.deref.ensures.value ∙ c.in_ok-staged.ensures.bytes) fits some c.in_ok-write_synced.ensures.written in
+    let second = weakened d.moment d.left_since _ _ _ _ (second_leaves c.args.self.now.end.format texts c.args.text.now _ _ _ s) c.write_synced-2.ensures.any_moment in
     followed d.moment d.left_since _ _ _ _ first second
 
 pub returns-clause-acknowledged : goal.returns-clause-acknowledged
 returns-clause-acknowledged g c texts has =
     let d = g.D.Device in
-    let fits : length c.args.text.now < 2 ^ 64 = omega (arith, c.if-text-gt-MOST_BYTES.false) in
-    let bytes = c.deref.ensures.value ∙ c.in_ok-staged.ensures.bytes in
-    let s = staged d.seen d.may_leave d.file_may_leave c.args.self.now texts has c.args.text.now _ _ bytes c.in_ok-write_synced.ensures.written in
-    acknowledged texts c.args.text.now fits _ _ s d.seen d.may_leave d.file_may_leave _ c.in_ok-write_synced-2.ensures.written c.in_ok-write_synced-2.ensures.durable (omega (arith, c.len.ensures, c.deref.ensures.len, ap length bytes))
+    let format = c.args.self.now.end.format in
+    let text = c.args.text.now in
+    let at = ap (λ (n : ℕ). c.args.self.now.end.gate + n) c.unit.ensures.is in
+    let fits : length text < 2 ^ 64 = omega (arith, c.if-text-gt-MOST_BYTES.false) in
+    let some : 1 ≤ unit format = omega (arith, c.unit.ensures.is, c.unit.ensures.some) in
+    let s = staged_by d.seen d.may_leave d.file_may_leave c.args.self.now texts has _ at text c.checksum-checksum.result _ _ _ c.checksum-checksum.ensures c.saturating_sub-room.ensures (c.deref.ensures.value ∙ c.in_ok-staged.ensures.bytes) fits some c.in_ok-write_synced.ensures.written in
+    let links = c.next_link.ensures ∙ ap (next_link format) (c.checksum-checksum.ensures ∙ ap (λ (l : List ℕ). checksum_of l text) has.end.link) in
+    acknowledged format texts text _ _ _ s d.seen d.may_leave d.file_may_leave _ c.in_ok-write_synced-2.ensures.written c.in_ok-write_synced-2.ensures.durable refl links (omega (arith, c.unit.ensures.is, c.filled.ensures.is)) (omega (arith, c.unit.ensures.is, c.len.ensures, c.deref.ensures.len))
 
 pub returns-clause-any_moment : goal.returns-clause-any_moment
 returns-clause-any_moment g c texts has =
     let d = g.D.Device in
-    let first = weakened d.moment d.left_since _ _ _ _ (first_leaves d.seen d.may_leave d.file_may_leave c.args.self.now texts has c.args.text.now _) c.write_synced.ensures.any_moment in
+    let at = ap (λ (n : ℕ). c.args.self.now.end.gate + n) c.unit.ensures.is in
+    let first = weakened d.moment d.left_since _ _ _ _ (first_leaves d.seen d.may_leave d.file_may_leave c.args.self.now texts has _ at c.args.text.now _) c.write_synced.ensures.any_moment in
     let fits : length c.args.text.now < 2 ^ 64 = omega (arith, c.if-text-gt-MOST_BYTES.false) in
-    let bytes = c.deref.ensures.value ∙ c.in_ok-staged.ensures.bytes in
-    let s = staged d.seen d.may_leave d.file_may_leave c.args.self.now texts has c.args.text.now _ _ bytes c.in_ok-write_synced.ensures.written in
-    let second = weakened d.moment d.left_since _ _ _ _ (second_leaves texts c.args.text.now fits _ _ s) c.write_synced-2.ensures.any_moment in
+    let some : 1 ≤ unit c.args.self.now.end.format = omega (arith, c.unit.ensures.is, c.unit.ensures.some) in
+    let s = staged_by d.seen d.may_leave d.file_may_leave c.args.self.now texts has _ at c.args.text.now c.checksum-checksum.result _ _ _ c.checksum-checksum.ensures c.saturating_sub-room.ensures (c.deref.ensures.value ∙ c.in_ok-staged.ensures.bytes) fits some c.in_ok-write_synced.ensures.written in
+    let second = weakened d.moment d.left_since _ _ _ _ (second_leaves c.args.self.now.end.format texts c.args.text.now _ _ _ s) c.write_synced-2.ensures.any_moment in
     followed d.moment d.left_since _ _ _ _ first second

@@ -1,0 +1,17 @@
+use Rattle.std.proofs.Common.{List, ℕ, inl, inr, ⊎_elim, sym, subst}
+use Rattle.dm_journal.specs.Journal.{StandsFor}
+use Rattle.dm_journal.proofs.Moments.{weakened}
+use Rattle.std.proofs.lemmas.Result.{err_from_is_err_and}
+use Rattle.dm_journal.proofs.Untouched.{still_has}
+use Rattle.dm_journal.proofs.journal.Journal.replace.Goals as goal
+
+pub returns-clause-any_moment : goal.returns-clause-any_moment
+returns-clause-any_moment g c old stands =
+    let d = g.D.Device in
+    weakened d.moment d.left_since _ _ _ _ (λ file. ⊎_elim (λ same. inl (subst (λ (l : List ℕ). StandsFor l old) (sym same) stands)) (λ made. inr made)) c.put_journal.ensures.any_moment
+
+pub returns-in_err-self-clause-untouched : goal.returns-in_err-self-clause-untouched
+returns-in_err-self-clause-untouched g c =
+    let d = g.D.Device in
+    let q = err_from_is_err_and c.from_residual.result c.from_residual.ensures.1 in
+    rw (q.1, q.2) (λ beside old has. still_has d.seen d.may_leave d.file_may_leave d.moment d.left_since c.args.self.now c.put_journal.new.device old (c.in_err-self.ensures.untouched beside) has)

@@ -1,0 +1,11 @@
+use Rattle.std.proofs.Common.{inl}
+use Rattle.dm_journal.proofs.Found.{cut_header, header_here}
+use Rattle.dm_journal.proofs.reading.read_header.Goals as goal
+
+pub returns-then-bytes-at-clause-fault : goal.returns-then-bytes-at-clause-fault
+returns-then-bytes-at-clause-fault c =
+    inl (cut_header c.in-Some.format c.args.bytes.now c.filled-at.result c.filled-at.ensures.is c.if-bytes-at.true c.in-Some.ensures.some)
+
+pub returns-clause-ok : goal.returns-clause-ok
+returns-clause-ok c =
+    header_here c.in-Some.format c.args.bytes.now c.filled-at.result c.filled-at.ensures.is c.if-bytes-at.false c.in-Some.ensures.some

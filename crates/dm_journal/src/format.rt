@@ -1,0 +1,78 @@
+//! The formats of a journal's file, and what differs between them.
+ghost use Rattle.std.specs.Prelude.{◌≡◌, ◌≤◌, ◌<◌, ◌+◌, ◌^◌};
+ghost use Rattle.dm_journal.specs.Format.{line, unit, filling, filled};
+ghost use Rattle.dm_journal.specs.Journal.{checksum_of, next_link, link_bytes};
+
+use sha2::{Digest, Sha256};
+
+/// How the bytes of a journal's file are laid out.
+#[derive(Clone, Copy, Debug, PartialEq, Eq)]
+pub enum Format {
+    /// The parts stand right behind one another, and each checksum is that of its text alone.
+    First,
+    /// Each part begins a unit of 4,096 bytes, and each checksum follows on the one before it.
+    Second,
+}
+
+/// What the next block follows on: a checksum, or nothing.
+pub type Link = Option<[u8; 32]>;
+
+impl Format {
+    /// The line that a file of the format begins with.
+    #[tactic(auto, unfolding(crate::specs::Format::line))]
+    pub fn line(self) -> [u8; 13]
+        ensures { result ≡ line self }
+    {
+        match self {
+            Format::First => *b"dm journal 1\n",
+            Format::Second => *b"dm journal 2\n",
+        }
+    }
+
+    /// The bytes of a unit.
+    #[tactic(auto, unfolding(crate::specs::Format::unit))]
+    pub fn unit(self) -> usize
+        ensures is { result ≡ unit self }
+        ensures some { 1 ≤ result }
+        ensures few { result ≤ 2 ^ 12 }
+    {
+        match self {
+            Format::First => 1,
+            Format::Second => 1 << 12,
+        }
+    }
+
+    /// So many bytes, filled up to whole units.
+    #[tactic(auto, unfolding(crate::specs::Format::filling))]
+    pub fn filled(self, len: usize) -> usize
+        requires { len ≤ 2 ^ 63 }
+        ensures is { result ≡ filled self len }
+        ensures few { result < len + 2 ^ 12 }
+    {
+        let unit = self.unit();
+        len + (unit - len % unit) % unit
+    }
+
+    /// What a block follows on that stands behind one with this checksum.
+    #[tactic(auto, unfolding(crate::specs::Journal::next_link))]
+    pub fn next_link(self, checksum: [u8; 32]) -> Link
+        ensures { link_bytes result ≡ next_link self checksum }
+    {
+        match self {
+            Format::First => None,
+            Format::Second => Some(checksum),
+        }
+    }
+}
+
+/// The checksum of a text that follows on a link.
+pub fn checksum(link: Link, text: &[u8]) -> [u8; 32]
+    ensures { result ≡ checksum_of (link_bytes link) text.now }
+{
+    let mut hasher = Sha256::new();
+    if let Some(before) = link {
+        hasher.update(before.as_slice());
+    }
+    hasher.update(text);
+    hasher.finalize()
+}
