@@ -1,6 +1,7 @@
 -- What the ends of a mirror's mail show: of which mail they are, what a poster sent, and what was taken from each poster.
 use Rattle.std.specs.Prelude.{◌≡◌, ℕ, suc, ◌<◌, true, false, List, [], ◌∷◌, ◌++◌, length}
 use Rattle.crossbeam_channel.specs.Claims.{Pass, view}
+use Rattle.crossbeam_channel.specs.Ends.{receives_on, ruled_capacity}
 use Rattle.crossbeam_channel.specs.declared.flavors.array.Key.{Key}
 use Rattle.atomic_table.specs.Seated.{TableId}
 use Rattle.atomic_table.specs.declared.badge.Badge.{Badge}
@@ -52,9 +53,9 @@ sent_id s = outlet_of (pass_id s.pass) (sent_poster s)
 abbrev pub inlet_posters : Inlet → ℕ
 inlet_posters i = (view i.pass).posters
 
--- how many mails may wait
+-- how many mails may wait: the capacity of its channel
 abbrev pub inlet_bound : Inlet → ℕ
-inlet_bound i = (view i.pass).bound
+inlet_bound i = ruled_capacity (receives_on i.receiver)
 
 -- what the poster has sent
 abbrev pub outlet_mails : Outlet → List Mail

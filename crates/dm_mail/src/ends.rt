@@ -49,6 +49,7 @@ pub struct Inlet {
     pub(crate) marks: usize,
     ghost seated: { IsSeatAt (receives_on receiver) pass },
     ghost told: { (view pass).is_told ≡ true },
+    ghost bound: { ruled_capacity (receives_on receiver) ≡ (view pass).bound },
     ghost is_mirror: { (view pass).is_mirror ≡ true },
     ghost known: { (view pass).posters ≡ posters },
     ghost counted: { count_marks (view pass).taken ≡ marks },

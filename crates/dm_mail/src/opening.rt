@@ -3,7 +3,7 @@ ghost use Rattle.std.specs.Prelude.{◌≡◌, ◌<◌, ◌≤◌, [], ℕ, leng
 ghost use Rattle.dm_mail.specs.declared.opening.MailFault.{MailFault};
 ghost use Rattle.dm_mail.specs.declared.opening.MailFault.TheVariants.{NoMemory};
 ghost use Rattle.dm_mail.specs.Faults.{IsOpenable, IsFirstFault};
-ghost use Rattle.dm_mail.specs.Ends.{inlet_posters, taken_of, AreNewOutlets, inlet_bound};
+ghost use Rattle.dm_mail.specs.Ends.{inlet_posters, all_taken, AreNewOutlets, inlet_bound};
 
 use crate::ends::{Inlet, Outlet};
 use crate::mail::Mail;
@@ -49,7 +49,7 @@ pub fn open<R: Wait>(
 ) -> Result<(Vec<Outlet>, Inlet), MailFault>
     ensures valid { OnOk result (IsOpenable posters bound) }
     ensures outlets { IfOk result (λ r. (length r.0.items ≡ posters) × AreNewOutlets r.1 0 r.0.items) }
-    ensures inlet { IfOk result (λ r. (inlet_posters r.1 ≡ posters) × ((p : ℕ) → taken_of r.1 p ≡ [])) }
+    ensures inlet { IfOk result (λ r. (inlet_posters r.1 ≡ posters) × (all_taken r.1 ≡ [])) }
     ensures bound { IfOk result (λ r. inlet_bound r.1 ≡ bound) }
     ensures fault { IfErr result (IsFirstFault posters bound) }
 {
@@ -70,7 +70,7 @@ fn open_within<B: Bound>(
 ) -> Result<(Vec<Outlet>, Inlet), AllocError>
     requires { (0 < posters) × (0 < bound) × (bound ≡ B.bound) }
     ensures outlets { IfOk result (λ r. (length r.0.items ≡ posters) × AreNewOutlets r.1 0 r.0.items) }
-    ensures inlet { IfOk result (λ r. (inlet_posters r.1 ≡ posters) × ((p : ℕ) → taken_of r.1 p ≡ [])) }
+    ensures inlet { IfOk result (λ r. (inlet_posters r.1 ≡ posters) × (all_taken r.1 ≡ [])) }
     ensures bound { IfOk result (λ r. inlet_bound r.1 ≡ bound) }
 {
     let mut outlets = Vec::new(alloc);

@@ -8,7 +8,6 @@ use Rattle.dm_mail.specs.declared.ends.Sent.{Sent}
 use Rattle.dm_mail.specs.Mails.{bundle, mark, mails_of, is_closed, count_bundles, numbered_mails, AllBelow}
 use Rattle.dm_mail.specs.Ends.{MailId, outlet_of, sent_id, sent_poster, sent_mails}
 use Rattle.dm_mail.specs.Laws.{total, AllTakenIsAllSent}
-use Rattle.dm_mail.proofs.MailLemmas.{mails_of-append}
 use Rattle.dm_mirror.specs.declared.mirror.Mirror.{Mirror}
 use Rattle.dm_mirror.specs.Deliveries.{all_mails, mails_in}
 use Rattle.dm_mirror.specs.Jobs.{IsSentIn}
@@ -23,9 +22,9 @@ pub below_more : (n : ℕ) (ms : List Mail) (m : Mail) → AllBelow n ms → m.p
 below_more n [] m h l = (l, tt)
 below_more n (x ∷ ms) m h l = (h.0, below_more n ms m h.1 l)
 
--- what was taken from a poster, when a mail is taken
-pub taken_more : (p : ℕ) (before after ms new : List Mail) (m : Mail) → new ≡ ms ++ m ∷ [] → before ≡ mails_of p ms → after ≡ before ++ mails_of p (m ∷ []) → after ≡ mails_of p new
-taken_more p before after ms new m e was is = is ∙ (ap (λ l. l ++ mails_of p (m ∷ [])) was ∙ (sym (mails_of-append p ms (m ∷ [])) ∙ ap (mails_of p) (sym e)))
+-- what was taken, when a mail is taken
+pub taken_more : (before after ms new : List Mail) (m : Mail) → new ≡ ms ++ m ∷ [] → before ≡ ms → after ≡ before ++ m ∷ [] → after ≡ new
+taken_more before after ms new m e was is = is ∙ (ap (λ l. l ++ m ∷ []) was ∙ sym e)
 
 count_numbered : (p n : ℕ) (texts : List (List ℕ)) → count_bundles (numbered_mails p n (map bundle texts ++ mark ∷ [])) ≡ length texts
 count_numbered p n [] = refl

@@ -6,8 +6,9 @@ use Rattle.dm_named.specs.Patches.{Patch}
 use Rattle.dm_repo.specs.declared.policy.Policy.{Policy}
 use Rattle.dm_mail.specs.declared.ends.Outlet.{Outlet}
 use Rattle.dm_mail.specs.declared.ends.Sent.{Sent}
+use Rattle.dm_mail.specs.declared.ends.Inlet.{Inlet}
 use Rattle.dm_mail.specs.Mails.{is_closed, AllBelow}
-use Rattle.dm_mail.specs.Ends.{MailId, outlet_of, outlet_id, outlet_poster, outlet_mails, inlet_id, AreNewOutlets}
+use Rattle.dm_mail.specs.Ends.{MailId, outlet_of, outlet_id, outlet_poster, outlet_mails, inlet_id, inlet_bound, all_taken, AreNewOutlets}
 use Rattle.dm_mirror.specs.declared.jobs.NewLine.{NewLine}
 use Rattle.dm_mirror.specs.declared.jobs.PostJob.{PostJob}
 use Rattle.dm_mirror.specs.declared.jobs.TakeJob.{TakeJob}
@@ -20,7 +21,7 @@ use Rattle.dm_mirror.specs.Jobs.{IsLine, EndsNew, IsLineTo, IsJobOf, IsOpened, I
 use Rattle.dm_mirror.specs.Lists.{EachWith, EachFrom, AreHeads}
 use Rattle.dm_mirror.specs.Mirrors.{IsReady, IsComplete, AreComplete}
 use Rattle.dm_mirror.specs.PlainFolds.{IsPlainFold}
-use Rattle.dm_mirror.specs.Runs.{IsServed, IsRunOf}
+use Rattle.dm_mirror.specs.Runs.{IsAt, IsFedWithin, IsServed, IsRunOf}
 use Rattle.dm_mirror.proofs.ListLemmas.{each_join, each_unmap, each_length, one_less}
 use Rattle.dm_mirror.proofs.DeliveryLemmas.{some_inj, answered_length, closed_numbered, receipt_for}
 
@@ -253,20 +254,42 @@ same_starts posters expected bound (m ∷ mirrors) (j ∷ jobs) opened =
     let others = same_starts posters expected bound mirrors jobs opened.1 in
     λ i. one i ∷ others i
 
-run_of_jobs : (texts : List (List (List ℕ))) (jobs : List TakeJob) (o : Outcome) → o.posters ≡ length texts → EachWith (IsDoneFrom texts) jobs o.mirrors.items →
-    IsRunOf texts (map (λ job. job.mirror.repo.patches) jobs) (map (λ job. job.policy) jobs) o
-run_of_jobs texts jobs o e each = record {
+-- where a mirror took out of an inlet within the bound, and was settled
+abbrev IsFedFrom : List Kept → ℕ → ℕ → Mirror → Type 0
+IsFedFrom kept bound m mirror = (inlet : Inlet) × (slice_get (map (λ one. one.inlet) kept) m ≡ Some inlet) × (inlet_bound inlet ≡ bound) × (all_taken inlet ≡ mirror.mails.items)
+
+fed_at : (texts : List (List (List ℕ))) (bound : ℕ) (kept : List Kept) (out : List Mirror) → AllByRecursion (IsKept texts bound) kept → EachWith (IsSettled texts) kept out →
+    (m : ℕ) (mirror : Mirror) → slice_get out m ≡ Some mirror → IsFedFrom kept bound m mirror
+fed_at texts bound [] [] all settled m mirror e = absurd (cc e)
+fed_at texts bound [] (o ∷ out) all settled m mirror e = absurd settled
+fed_at texts bound (k ∷ kept) [] all settled m mirror e = absurd settled
+fed_at texts bound (k ∷ kept) (o ∷ out) all settled zero mirror e =
+    (k.inlet, refl, all.0.bound_is, all.0.taken ∙ (ap (λ ms. ms.items) (sym settled.0.mails) ∙ ap (λ (x : Mirror). x.mails.items) (some_inj o mirror e)))
+fed_at texts bound (k ∷ kept) (o ∷ out) all settled (suc m) mirror e = fed_at texts bound kept out all.1 settled.1 m mirror e
+
+-- each mirror took within the bound of the plan
+pub fed_within : (texts : List (List (List ℕ))) (bound : ℕ) (kept : List Kept) (o : Outcome) → o.kept.value.items ≡ kept → AllByRecursion (IsKept texts bound) kept → EachWith (IsSettled texts) kept o.mirrors.items →
+    (m : ℕ) (mirror : Mirror) → IsAt o m mirror → IsFedWithin bound o m mirror
+fed_within texts bound kept o same all settled m mirror at =
+    let fed = fed_at texts bound kept o.mirrors.items all settled m mirror at in
+    record { inlet = fed.0; is_inlet = ap (λ ks. slice_get (map (λ one. one.inlet) ks) m) same ∙ fed.1; bound_is = fed.2; taken = fed.3 }
+
+run_of_jobs : (texts : List (List (List ℕ))) (bound : ℕ) (jobs : List TakeJob) (o : Outcome) → o.posters ≡ length texts → EachWith (IsDoneFrom texts) jobs o.mirrors.items →
+    ((m : ℕ) (mirror : Mirror) → IsAt o m mirror → IsFedWithin bound o m mirror) →
+    IsRunOf texts (map (λ job. job.mirror.repo.patches) jobs) (map (λ job. job.policy) jobs) bound o
+run_of_jobs texts bound jobs o e each fed = record {
   posters = e;
   mirrors = each_length (IsDoneFrom texts) jobs o.mirrors.items each ∙ sym (length_map (λ (job : TakeJob). job.mirror.repo.patches) jobs);
   as_many = length_map (λ (job : TakeJob). job.policy) jobs ∙ sym (length_map (λ (job : TakeJob). job.mirror.repo.patches) jobs);
   each = λ m start policy mirror at under is.
       (each_get (λ start policy mirror. IsDone texts start policy mirror) (λ (job : TakeJob). job.mirror.repo.patches) (λ (job : TakeJob). job.policy) jobs o.mirrors.items m start policy mirror each at under is).0;
+  fed = fed;
 }
 
 -- so the run is one of the plan
 pub run_of : (posters expected bound : ℕ) (texts : List (List (List ℕ))) (mirrors : List Mirror) (policies : List Policy) (jobs : List TakeJob) (o : Outcome) → o.posters ≡ length texts →
     EachWith (IsOpened posters expected bound) mirrors jobs → map (λ job. job.policy) jobs ≡ policies → EachWith (IsDoneFrom texts) jobs o.mirrors.items →
-    IsRunOf texts (map (λ mirror. mirror.repo.patches) mirrors) policies o
-run_of posters expected bound texts mirrors policies jobs o e opened under each =
-    subst (λ ps. IsRunOf texts (map (λ mirror. mirror.repo.patches) mirrors) ps o) under
-    (subst (λ ss. IsRunOf texts ss (map (λ (job : TakeJob). job.policy) jobs) o) (same_starts posters expected bound mirrors jobs opened) (run_of_jobs texts jobs o e each))
+    ((m : ℕ) (mirror : Mirror) → IsAt o m mirror → IsFedWithin bound o m mirror) → IsRunOf texts (map (λ mirror. mirror.repo.patches) mirrors) policies bound o
+run_of posters expected bound texts mirrors policies jobs o e opened under each fed =
+    subst (λ ps. IsRunOf texts (map (λ mirror. mirror.repo.patches) mirrors) ps bound o) under
+    (subst (λ ss. IsRunOf texts ss (map (λ (job : TakeJob). job.policy) jobs) bound o) (same_starts posters expected bound mirrors jobs opened) (run_of_jobs texts bound jobs o e each fed))

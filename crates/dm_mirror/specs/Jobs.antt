@@ -5,7 +5,7 @@ use Rattle.dm_mail.specs.declared.ends.Outlet.{Outlet}
 use Rattle.dm_mail.specs.declared.ends.Sent.{Sent}
 use Rattle.dm_mail.specs.declared.ends.Inlet.{Inlet}
 use Rattle.dm_repo.specs.declared.policy.Policy.{Policy}
-use Rattle.dm_mail.specs.Ends.{MailId, EndsAs, SameInlet, SameOutlet, outlet_of, outlet_id, outlet_poster, sent_id, sent_poster, sent_mails, inlet_id, inlet_posters, inlet_bound, taken_of}
+use Rattle.dm_mail.specs.Ends.{MailId, EndsAs, SameInlet, SameOutlet, outlet_of, outlet_id, outlet_poster, sent_id, sent_poster, sent_mails, inlet_id, inlet_posters, inlet_bound, all_taken}
 use Rattle.dm_mirror.specs.declared.jobs.Line.{Line}
 use Rattle.dm_mirror.specs.declared.jobs.NewLine.{NewLine}
 use Rattle.dm_mirror.specs.declared.jobs.PostJob.{PostJob}
@@ -73,7 +73,7 @@ AreRowsSent ids texts rows = AreRowsFrom 0 ids texts rows
 -- for their receipts
 pub record IsKept (texts : List (List (List ℕ))) (bound : ℕ) (kept : Kept) : Type 0 where
   pub bound_is : inlet_bound kept.inlet ≡ bound
-  pub taken : (p : ℕ) → taken_of kept.inlet p ≡ mails_of p kept.mirror.mails.items
+  pub taken : all_taken kept.inlet ≡ kept.mirror.mails.items
   pub count : length kept.mirror.mails.items ≡ mails_in texts
   pub below : AllBelow (length texts) kept.mirror.mails.items
   pub no_receipts : kept.mirror.receipts.items ≡ []
@@ -90,7 +90,7 @@ pub record IsSettled (texts : List (List (List ℕ))) (kept : Kept) (mirror : Mi
 -- an inlet and a mirror once as many mails were taken as were expected, and their bundles under the policy into the mirror's repository
 pub record TakesInto (policy : Policy) (inlet : Inlet) (mirror : Mirror) (expected : ℕ) (done : Inlet × Mirror) : Type 0 where
   pub same : SameInlet inlet done.0
-  pub taken : (p : ℕ) → taken_of done.0 p ≡ mails_of p done.1.mails.items
+  pub taken : all_taken done.0 ≡ done.1.mails.items
   pub count : length done.1.mails.items ≡ expected
   pub below : AllBelow (inlet_posters inlet) done.1.mails.items
   pub fold : IsPlainFold mirror.repo.patches done.1.mails.items policy done.1.verdicts.items done.1.repo.patches

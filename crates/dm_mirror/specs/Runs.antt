@@ -1,5 +1,5 @@
 -- What a run of a plan leaves.
-use Rattle.std.specs.Prelude.{◌≡◌, ℕ, Bool, true, List, [], Option, Some, None, length, slice_get}
+use Rattle.std.specs.Prelude.{◌≡◌, ℕ, Bool, true, List, [], Option, Some, None, length, map, slice_get}
 use Rattle.std.specs.List.{All}
 use Rattle.dm_named.specs.Patches.{Patch}
 use Rattle.dm_repo.specs.declared.policy.Policy.{Policy}
@@ -7,7 +7,9 @@ use Rattle.dm_repo.specs.Repositories.{Repository}
 use Rattle.dm_scratch.specs.declared.verdict.Verdict.{Verdict}
 use Rattle.dm_scratch.specs.Taking.{IsAccepted}
 use Rattle.dm_mail.specs.declared.mail.Mail.{Mail}
+use Rattle.dm_mail.specs.declared.ends.Inlet.{Inlet}
 use Rattle.dm_mail.specs.Mails.{mails_of, is_closed, AllBelow}
+use Rattle.dm_mail.specs.Ends.{inlet_bound, all_taken}
 use Rattle.dm_mirror.specs.declared.mirror.Mirror.{Mirror}
 use Rattle.dm_mirror.specs.declared.outcome.Outcome.{Outcome}
 use Rattle.dm_mirror.specs.Deliveries.{all_mails}
@@ -20,6 +22,10 @@ mirror_count o = length o.mirrors.items
 -- the mirror of this number
 abbrev pub IsAt : Outcome → ℕ → Mirror → Type 0
 IsAt o m mirror = slice_get o.mirrors.items m ≡ Some mirror
+
+-- the mirror of this number took out of this inlet
+abbrev pub IsInletAt : Outcome → ℕ → Inlet → Type 0
+IsInletAt o m inlet = slice_get (map (λ kept. kept.inlet) o.kept.value.items) m ≡ Some inlet
 
 -- the mails of a mirror, if there is one
 abbrev pub mirror_mails : Option Mirror → List Mail
@@ -63,13 +69,21 @@ pub record IsServed (texts : List (List (List ℕ))) (start : List Patch) (polic
   -- its verdicts and its repository are those of taking the bundles one after the other, in the order in which it took them and under its policy
   pub folded : IsPlainFold start mirror.mails.items policy mirror.verdicts.items mirror.repo.patches
 
--- what a run leaves: each mirror is served
-pub record IsRunOf (texts : List (List (List ℕ))) (starts : List (List Patch)) (policies : List Policy) (o : Outcome) : Type 0 where
+-- the mirror of this number took its mails out of one inlet, in this order, and no more than the bound could wait there
+pub record IsFedWithin (bound : ℕ) (o : Outcome) (m : ℕ) (mirror : Mirror) : Type 0 where
+  pub inlet : Inlet
+  pub is_inlet : IsInletAt o m inlet
+  pub bound_is : inlet_bound inlet ≡ bound
+  pub taken : all_taken inlet ≡ mirror.mails.items
+
+-- what a run leaves: each mirror is served, and was fed within the bound
+pub record IsRunOf (texts : List (List (List ℕ))) (starts : List (List Patch)) (policies : List Policy) (bound : ℕ) (o : Outcome) : Type 0 where
   pub posters : o.posters ≡ length texts
   pub mirrors : length o.mirrors.items ≡ length starts
   pub as_many : length policies ≡ length starts
   pub each : (m : ℕ) (start : List Patch) (policy : Policy) (mirror : Mirror) → slice_get starts m ≡ Some start → slice_get policies m ≡ Some policy → IsAt o m mirror →
       IsServed texts start policy mirror
+  pub fed : (m : ℕ) (mirror : Mirror) → IsAt o m mirror → IsFedWithin bound o m mirror
 
 -- a bundle was taken or brought nothing new; a mark has no verdict
 abbrev pub IsFine : Option Verdict → Type 0

@@ -1,7 +1,7 @@
 //! What each thread is given, and what it hands back.
 ghost use Rattle.std.specs.Prelude.{◌≡◌, ◌≤◌, ◌+◌, ℕ, [], length};
 ghost use Rattle.dm_mail.specs.Limits.{most_bundles};
-ghost use Rattle.dm_mail.specs.Ends.{outlet_mails, outlet_poster, taken_of, inlet_posters};
+ghost use Rattle.dm_mail.specs.Ends.{outlet_mails, outlet_poster, all_taken, inlet_posters};
 ghost use Rattle.dm_mirror.specs.Deliveries.{SentUpTo};
 ghost use Rattle.dm_mirror.specs.Mirrors.{IsReady};
 
@@ -46,7 +46,7 @@ pub(crate) struct TakeJob {
     pub(crate) mirror: Mirror,
     pub(crate) policy: Policy,
     pub(crate) expected: usize,
-    ghost fresh: { (p : ℕ) → taken_of inlet p ≡ [] },
+    ghost fresh: { all_taken inlet ≡ [] },
     ghost ready: { IsReady (inlet_posters inlet) expected mirror },
 }
 

@@ -1,17 +1,22 @@
 //! What a run leaves.
 ghost use Rattle.dm_mirror.specs.Mirrors.{AreComplete};
 
+use crate::jobs::Kept;
 use crate::mirror::Mirror;
 use dm_mail::Mail;
 use dm_repo::Repo;
 use dm_scratch::Verdict;
 use std::alloc::Global;
+use std::collections::VecDeque;
+use std::snapshot::Snapshot;
 
 /// What each mirror took in a run, with the verdicts and its repository, and what each poster sent.
 #[derive(Drop)]
 pub struct Outcome {
     pub(crate) posters: usize,
     pub(crate) mirrors: Vec<Mirror>,
+    // Out of which inlet each mirror took, as its thread handed it back. Contracts alone see it.
+    pub(crate) kept: Snapshot<VecDeque<Kept>>,
     ghost complete: { AreComplete posters mirrors.items },
 }
 

@@ -7,6 +7,7 @@ mod starts;
 ghost use Rattle.std.specs.Prelude.{◌≡◌, ◌≤◌, ◌<◌, [], length, map, vec_capacity};
 ghost use Rattle.std.specs.List.{All};
 ghost use Rattle.dm_mirror.specs.Deliveries.{mails_in};
+ghost use Rattle.dm_named.specs.Limits.{standard};
 ghost use Rattle.dm_mail.specs.Limits.{most_posters, most_waiting};
 ghost use Rattle.dm_mirror.specs.Mirrors.{IsReady};
 ghost use Rattle.dm_mirror.specs.Limits.{most_mirrors};
@@ -54,17 +55,35 @@ impl Plan {
 
     /// A plan for these posters, each with the texts of its bundles, and these mirrors, each with the text of its base and its
     /// policy; an empty text is an empty repository. There are one to eight of each. At most `bound` mails wait at a mirror.
-    /// The bases are read within `limits` and taken here, where a conflict refuses them whatever the policy; each text is copied
-    /// once, and all memory for the record of the run is taken, so that a run never grows it.
+    /// The bases are read within [`Limits::STANDARD`] and taken here, where a conflict refuses them whatever the policy; each text
+    /// is copied once, and all memory for the record of the run is taken, so that a run never grows it.
     ///
     /// Errors: see [`PlanFault`]. A base that was refused for memory is [`PlanFault::NoMemory`].
     pub fn build(
         alloc: Global,
         posters: &[&[&[u8]]],
         bases: &[&[u8]],
-        limits: Limits,
         policies: &[Policy],
         bound: usize,
+    ) -> Result<Plan, PlanFault>
+        ensures texts { IfOk result (λ plan. plan_texts plan ≡ map (λ texts. map (λ text. text.now) texts.now) posters.now) }
+        ensures starts { IfOk result (λ plan. AreStarts standard (map (λ base. base.now) bases.now) (plan_starts plan)) }
+        ensures policies { IfOk result (λ plan. plan_policies plan ≡ policies.now) }
+        ensures bound { IfOk result (λ plan. plan_bound plan ≡ bound) }
+        ensures valid { OnOk result (IsPlannable (map (λ texts. map (λ text. text.now) texts.now) posters.now) (map (λ base. base.now) bases.now) policies.now bound) }
+        ensures fault { IfErr result (IsFirstFault standard (map (λ texts. map (λ text. text.now) texts.now) posters.now) (map (λ base. base.now) bases.now) policies.now bound) }
+    {
+        Plan::build_within(alloc, posters, bases, policies, bound, Limits::STANDARD)
+    }
+
+    /// The same, with bases that are read within these limits.
+    pub fn build_within(
+        alloc: Global,
+        posters: &[&[&[u8]]],
+        bases: &[&[u8]],
+        policies: &[Policy],
+        bound: usize,
+        limits: Limits,
     ) -> Result<Plan, PlanFault>
         ensures texts { IfOk result (λ plan. plan_texts plan ≡ map (λ texts. map (λ text. text.now) texts.now) posters.now) }
         ensures starts { IfOk result (λ plan. AreStarts limits (map (λ base. base.now) bases.now) (plan_starts plan)) }

@@ -223,14 +223,15 @@ fn settle_each<R: Wait>(
 /// Returns once all threads have ended. That they end, and in which order the mails of two posters come, is in no
 /// contract. A verdict may be that memory ran out; the repository is then as it was, and the run goes on.
 ///
-/// Errors: [`RunFault`]; no mail was sent, and the plan is given up.
+/// Errors: [`RunFault::NoThread`] where a thread couldn't be started, [`RunFault::NoMemory`] where memory was refused; no mail was
+/// sent, and the plan is given up.
 pub fn run<R: Threads + Wait + Sync, G: Gate + Sync>(
     rt: &R,
     alloc: Global,
     plan: Plan,
     gate: &G,
 ) -> Result<Outcome, RunFault>
-    ensures { IfOk result (IsRunOf (plan_texts plan) (plan_starts plan) (plan_policies plan)) }
+    ensures { IfOk result (IsRunOf (plan_texts plan) (plan_starts plan) (plan_policies plan) (plan_bound plan)) }
 {
     let whole_plan = Snapshot::of(&plan);
     let Plan {
@@ -247,9 +248,11 @@ pub fn run<R: Threads + Wait + Sync, G: Gate + Sync>(
     let opened = open_each(rt, alloc, mirrors, &policies, count, expected, bound)?;
     let (posters, mirrors) = jobs_of(alloc, posters, opened)?;
     let ended = in_threads(rt, alloc, gate, posters, mirrors)?;
+    let kept = Snapshot::of(&ended.kept);
     let mirrors = settle_each(rt, &whole_plan, ended, room, room_for_ends, outcome);
     Ok(Outcome {
         posters: count,
         mirrors,
+        kept,
     })
 }

@@ -1,7 +1,7 @@
 //! What a mirror's thread does.
-ghost use Rattle.std.specs.Prelude.{◌≡◌, [], ℕ, length};
-ghost use Rattle.dm_mail.specs.Ends.{SameInlet, inlet_posters, taken_of};
-ghost use Rattle.dm_mail.specs.Mails.{mails_of, AllBelow};
+ghost use Rattle.std.specs.Prelude.{◌≡◌, [], length};
+ghost use Rattle.dm_mail.specs.Ends.{SameInlet, inlet_posters, all_taken};
+ghost use Rattle.dm_mail.specs.Mails.{AllBelow};
 ghost use Rattle.dm_mirror.specs.Mirrors.{IsReady};
 ghost use Rattle.dm_mirror.specs.PlainFolds.{IsPlainFold, TakesBody};
 
@@ -43,10 +43,10 @@ pub(crate) fn take_mails<R: Wait, G: Gate>(
     mirror: Mirror,
     expected: usize,
 ) -> Kept
-    requires fresh { (p : ℕ) → taken_of inlet p ≡ [] }
+    requires fresh { all_taken inlet ≡ [] }
     requires ready { IsReady (inlet_posters inlet) expected mirror }
     ensures same { SameInlet inlet result.inlet }
-    ensures taken { (p : ℕ) → taken_of result.inlet p ≡ mails_of p result.mirror.mails.items }
+    ensures taken { all_taken result.inlet ≡ result.mirror.mails.items }
     ensures count { length result.mirror.mails.items ≡ expected }
     ensures posters { AllBelow (inlet_posters inlet) result.mirror.mails.items }
     ensures fold { IsPlainFold mirror.repo.patches result.mirror.mails.items policy result.mirror.verdicts.items result.mirror.repo.patches }

@@ -1,13 +1,13 @@
 //! The threads of a run: one for each poster and one for each mirror.
-ghost use Rattle.std.specs.Prelude.{◌≡◌, ◌≤◌, ℕ, [], length, map, IfOk, IfSome};
+ghost use Rattle.std.specs.Prelude.{◌≡◌, ◌≤◌, ℕ, [], length, map, IfOk, IfErr};
 ghost use Rattle.std.specs.VecDeque.{deque_capacity};
 ghost use Rattle.dm_mail.specs.Limits.{most_posters};
-ghost use Rattle.dm_mail.specs.Ends.{taken_of, inlet_posters};
+ghost use Rattle.dm_mail.specs.Ends.{all_taken, inlet_posters};
 ghost use Rattle.dm_mirror.specs.Jobs.{DoesPost, DoesTake, EndsNew, TakesInto};
 ghost use Rattle.dm_mirror.specs.Lists.{EachWith};
 ghost use Rattle.dm_mirror.specs.Mirrors.{IsReady};
 ghost use Rattle.dm_mirror.specs.Limits.{most_mirrors};
-ghost use Rattle.dm_mirror.specs.declared.threads.RunFault.TheVariants.{NoMemory};
+ghost use Rattle.dm_mirror.specs.declared.threads.RunFault.TheVariants.{NoThread, NoMemory};
 
 use crate::gate::Gate;
 use crate::jobs::{Kept, Line, PostJob, TakeJob};
@@ -29,7 +29,7 @@ use std::thread::{Promise, PromisedHandle, Scope, Threads};
 pub enum RunFault {
     /// A thread could not be started.
     NoThread,
-    /// Memory was refused: for the mail, or for a mirror's arena.
+    /// Memory was refused: for the jobs, for the mail, to a poster, or for a mirror's arena.
     NoMemory,
 }
 
@@ -45,42 +45,41 @@ impl From<AllocError> for RunFault {
 #[derive(Drop)]
 pub(crate) struct WillPost(pub(crate) Snapshot<PostJob>);
 
-impl Promise<Option<VecDeque<Sent>>> for WillPost {
-    ghost kept_by = { λ promise result. IfSome result (λ ends. DoesPost promise.0.value ends.items) };
+impl Promise<Result<VecDeque<Sent>, RunFault>> for WillPost {
+    ghost kept_by = { λ promise result. IfOk result (λ ends. DoesPost promise.0.value ends.items) };
 }
 
 // What a mirror's thread promises of its job.
 #[derive(Drop)]
 pub(crate) struct WillTake(pub(crate) Snapshot<TakeJob>);
 
-impl Promise<Option<(Inlet, Mirror)>> for WillTake {
-    ghost kept_by = { λ promise result. IfSome result (TakesInto promise.0.value.policy promise.0.value.inlet promise.0.value.mirror promise.0.value.expected) };
+impl Promise<Result<(Inlet, Mirror), RunFault>> for WillTake {
+    ghost kept_by = { λ promise result. IfOk result (TakesInto promise.0.value.policy promise.0.value.inlet promise.0.value.mirror promise.0.value.expected) };
 }
 
-type PosterThread = PromisedHandle<Option<VecDeque<Sent>>, WillPost>;
+type PosterThread = PromisedHandle<Result<VecDeque<Sent>, RunFault>, WillPost>;
 
-type MirrorThread = PromisedHandle<Option<(Inlet, Mirror)>, WillTake>;
+type MirrorThread = PromisedHandle<Result<(Inlet, Mirror), RunFault>, WillTake>;
 
-/// A poster's thread, from the start line on. `None` where the run was called off.
+/// A poster's thread, from the start line on. An error is why the run was called off.
 fn post_once_open<R: Wait>(
     rt: &R,
     alloc: Global,
     line: &StartLine,
     job: PostJob,
-) -> Option<VecDeque<Sent>>
-    ensures { IfSome result (λ ends. DoesPost job ends.items) }
+) -> Result<VecDeque<Sent>, RunFault>
+    ensures { IfOk result (λ ends. DoesPost job ends.items) }
 {
     let (room_for_lines, room, room_for_ends) = match rooms_of(alloc, job.lines.len()) {
         Ok(rooms) => rooms,
         Err(error) => {
-            line.arrive(rt, Err(error));
-            return None;
+            let fault = RunFault::from(error);
+            line.call_off(rt, fault);
+            return Err(fault);
         }
     };
-    if !line.arrive(rt, Ok(())) {
-        return None;
-    }
-    Some(post(rt, job, room_for_lines, room, room_for_ends))
+    line.arrive(rt)?;
+    Ok(post(rt, job, room_for_lines, room, room_for_ends))
 }
 
 /// Room for so many lines, twice, and for what they end as.
@@ -97,24 +96,23 @@ fn rooms_of(
     Ok((room_for_lines, room, room_for_ends))
 }
 
-/// A mirror's thread, from the start line on, with an arena of its own. `None` where the run was called off.
+/// A mirror's thread, from the start line on, with an arena of its own. An error is why the run was called off.
 fn take_once_open<R: Wait, G: Gate>(
     rt: &R,
     alloc: Global,
     line: &StartLine,
     gate: &G,
     job: TakeJob,
-) -> Option<(Inlet, Mirror)>
-    ensures { IfSome result (TakesInto job.policy job.inlet job.mirror job.expected) }
+) -> Result<(Inlet, Mirror), RunFault>
+    ensures { IfOk result (TakesInto job.policy job.inlet job.mirror job.expected) }
 {
     let mut arena = Bump::new(alloc);
-    let memory = match arena.try_alloc_slice_copy(&[0u8]) {
-        Ok(_) => Ok(()),
-        Err(error) => Err(error),
-    };
-    if !line.arrive(rt, memory) {
-        return None;
+    if let Err(error) = arena.try_alloc_slice_copy(&[0u8]) {
+        let fault = RunFault::from(error);
+        line.call_off(rt, fault);
+        return Err(fault);
     }
+    line.arrive(rt)?;
     let TakeJob {
         number,
         inlet,
@@ -125,7 +123,7 @@ fn take_once_open<R: Wait, G: Gate>(
     let Kept { inlet, mirror } = take_mails(
         rt, &mut arena, gate, number, policy, inlet, mirror, expected,
     );
-    Some((inlet, mirror))
+    Ok((inlet, mirror))
 }
 
 /// Starts a poster's thread.
@@ -136,7 +134,8 @@ fn start_poster<'s, 'e, R: Threads + Wait + Sync>(
     line: &'e StartLine,
     job: PostJob,
 ) -> Result<PosterThread, RunFault>
-    ensures { IfOk result (λ handle. handle.promise.0.value ≡ job) }
+    ensures handle { IfOk result (λ handle. handle.promise.0.value ≡ job) }
+    ensures fault { IfErr result (λ fault. fault ≡ NoThread) }
 {
     let promise = WillPost(Snapshot::of(&job));
     let PostJob { lines, rounds } = job;
@@ -144,8 +143,8 @@ fn start_poster<'s, 'e, R: Threads + Wait + Sync>(
         scope,
         promise,
         lines,
-        move |lines| -> Option<VecDeque<Sent>>
-            ensures { IfSome result (λ ends. EachWith EndsNew lines.items ends.items) }
+        move |lines| -> Result<VecDeque<Sent>, RunFault>
+            ensures { IfOk result (λ ends. EachWith EndsNew lines.items ends.items) }
         { post_once_open(rt, alloc, line, PostJob { lines, rounds }) },
     )
 }
@@ -156,19 +155,20 @@ fn start_one<
     'e,
     J: Send + Drop + 'e,
     D: Send + Drop + 'e,
-    P: Promise<Option<D>> + Drop,
-    F: FnOnce(J) -> Option<D> + Send + 'e,
+    P: Promise<Result<D, RunFault>> + Drop,
+    F: FnOnce(J) -> Result<D, RunFault> + Send + 'e,
 >(
     scope: &'s Scope<'s, &'e ()>,
     promise: P,
     job: J,
     body: F,
-) -> Result<PromisedHandle<Option<D>, P>, RunFault>
+) -> Result<PromisedHandle<Result<D, RunFault>, P>, RunFault>
     requires runs { F.pre body job }
     requires keeps { (r : _) → F.post body job r → P.kept_by promise r }
-    ensures { IfOk result (λ handle. handle.promise ≡ promise) }
+    ensures handle { IfOk result (λ handle. handle.promise ≡ promise) }
+    ensures fault { IfErr result (λ fault. fault ≡ NoThread) }
 {
-    let work = move || -> Option<D>
+    let work = move || -> Result<D, RunFault>
         requires { F.pre body job }
         ensures { F.post body job result }
     { body(job) };
@@ -185,20 +185,21 @@ fn start_with<
     'e,
     I: Send + Drop + 'e,
     M: Send + Drop + 'e,
-    P: Promise<Option<(I, M)>> + Drop,
-    F: FnOnce(I, M) -> Option<(I, M)> + Send + 'e,
+    P: Promise<Result<(I, M), RunFault>> + Drop,
+    F: FnOnce(I, M) -> Result<(I, M), RunFault> + Send + 'e,
 >(
     scope: &'s Scope<'s, &'e ()>,
     promise: P,
     inlet: I,
     mirror: M,
     body: F,
-) -> Result<PromisedHandle<Option<(I, M)>, P>, RunFault>
+) -> Result<PromisedHandle<Result<(I, M), RunFault>, P>, RunFault>
     requires runs { F.pre body inlet mirror }
     requires keeps { (r : _) → F.post body inlet mirror r → P.kept_by promise r }
-    ensures { IfOk result (λ handle. handle.promise ≡ promise) }
+    ensures handle { IfOk result (λ handle. handle.promise ≡ promise) }
+    ensures fault { IfErr result (λ fault. fault ≡ NoThread) }
 {
-    let work = move || -> Option<(I, M)>
+    let work = move || -> Result<(I, M), RunFault>
         requires { F.pre body inlet mirror }
         ensures { F.post body inlet mirror result }
     { body(inlet, mirror) };
@@ -217,7 +218,8 @@ fn start_mirror<'s, 'e, R: Threads + Wait + Sync, G: Gate + Sync>(
     gate: &'e G,
     job: TakeJob,
 ) -> Result<MirrorThread, RunFault>
-    ensures { IfOk result (λ handle. handle.promise.0.value ≡ job) }
+    ensures handle { IfOk result (λ handle. handle.promise.0.value ≡ job) }
+    ensures fault { IfErr result (λ fault. fault ≡ NoThread) }
 {
     let promise = WillTake(Snapshot::of(&job));
     let TakeJob {
@@ -232,10 +234,10 @@ fn start_mirror<'s, 'e, R: Threads + Wait + Sync, G: Gate + Sync>(
         promise,
         inlet,
         mirror,
-        move |inlet, mirror| -> Option<(Inlet, Mirror)>
-            requires fresh { (p : ℕ) → taken_of inlet p ≡ [] }
+        move |inlet, mirror| -> Result<(Inlet, Mirror), RunFault>
+            requires fresh { all_taken inlet ≡ [] }
             requires ready { IsReady (inlet_posters inlet) expected mirror }
-            ensures { IfSome result (TakesInto policy inlet mirror expected) }
+            ensures { IfOk result (TakesInto policy inlet mirror expected) }
         {
             let job = TakeJob {
                 number,
@@ -261,6 +263,7 @@ fn start_posters<'s, 'e, R: Threads + Wait + Sync>(
     requires { (room.items ≡ []) × (length jobs.items ≤ deque_capacity room) }
     ensures jobs { IfOk result (λ threads. map (λ thread. thread.promise.0.value) threads.items ≡ jobs.items) }
     ensures count { IfOk result (λ threads. length threads.items ≡ length jobs.items) }
+    ensures fault { IfErr result (λ fault. fault ≡ NoThread) }
 {
     let mut jobs = jobs;
     let mut threads = room;
@@ -284,6 +287,7 @@ fn start_mirrors<'s, 'e, R: Threads + Wait + Sync, G: Gate + Sync>(
     requires { (room.items ≡ []) × (length jobs.items ≤ deque_capacity room) }
     ensures jobs { IfOk result (λ threads. map (λ thread. thread.promise.0.value) threads.items ≡ jobs.items) }
     ensures count { IfOk result (λ threads. length threads.items ≡ length jobs.items) }
+    ensures fault { IfErr result (λ fault. fault ≡ NoThread) }
 {
     let mut jobs = jobs;
     let mut threads = room;
@@ -294,15 +298,15 @@ fn start_mirrors<'s, 'e, R: Threads + Wait + Sync, G: Gate + Sync>(
     Ok(threads)
 }
 
-/// Joins the threads of the posters, in order. There is room for what they hand back. `None` where one was called off.
+/// Joins the threads of the posters, in order. There is room for what they hand back. An error is why one was called off.
 fn join_posters<R: Threads + Wait>(
     rt: &R,
     threads: VecDeque<PosterThread>,
     room: VecDeque<VecDeque<Sent>>,
-) -> Option<VecDeque<VecDeque<Sent>>>
+) -> Result<VecDeque<VecDeque<Sent>>, RunFault>
     requires { (room.items ≡ []) × (length threads.items ≤ deque_capacity room) }
-    ensures done { IfSome result (λ rows. EachWith (λ thread row. DoesPost thread.promise.0.value row.items) threads.items rows.items) }
-    ensures fits { IfSome result (λ rows. length rows.items ≤ deque_capacity rows) }
+    ensures done { IfOk result (λ rows. EachWith (λ thread row. DoesPost thread.promise.0.value row.items) threads.items rows.items) }
+    ensures fits { IfOk result (λ rows. length rows.items ≤ deque_capacity rows) }
 {
     let mut threads = threads;
     let mut rows = room;
@@ -310,17 +314,17 @@ fn join_posters<R: Threads + Wait>(
         let row = thread.join(rt)?;
         rows.push_back_reserved(row);
     }
-    Some(rows)
+    Ok(rows)
 }
 
-/// Joins the threads of the mirrors, in order. There is room for what they hand back. `None` where one was called off.
+/// Joins the threads of the mirrors, in order. There is room for what they hand back. An error is why one was called off.
 fn join_mirrors<R: Threads + Wait>(
     rt: &R,
     threads: VecDeque<MirrorThread>,
     room: VecDeque<Kept>,
-) -> Option<VecDeque<Kept>>
+) -> Result<VecDeque<Kept>, RunFault>
     requires { (room.items ≡ []) × (length threads.items ≤ deque_capacity room) }
-    ensures { IfSome result (λ kept. EachWith (λ thread one. DoesTake thread.promise.0.value one) threads.items kept.items) }
+    ensures { IfOk result (λ kept. EachWith (λ thread one. DoesTake thread.promise.0.value one) threads.items kept.items) }
 {
     let mut threads = threads;
     let mut kept = room;
@@ -328,7 +332,7 @@ fn join_mirrors<R: Threads + Wait>(
         let (inlet, mirror) = thread.join(rt)?;
         kept.push_back_reserved(Kept { inlet, mirror });
     }
-    Some(kept)
+    Ok(kept)
 }
 
 /// What the threads of a run hand back, poster by poster and mirror by mirror.
@@ -369,21 +373,17 @@ pub(crate) fn in_threads<R: Threads + Wait + Sync, G: Gate + Sync>(
                 (length r.rows.items ≤ deque_capacity r.rows)) }
         {
             let Ok(posting) = start_posters(scope, rt, alloc, line, posters, poster_threads) else {
-                line.call_off(rt);
+                line.call_off(rt, RunFault::NoThread);
                 return Err(RunFault::NoThread);
             };
             let Ok(taking) = start_mirrors(scope, rt, alloc, line, gate, mirrors, mirror_threads)
             else {
-                line.call_off(rt);
+                line.call_off(rt, RunFault::NoThread);
                 return Err(RunFault::NoThread);
             };
             line.open(rt, count)?;
-            let Some(rows) = join_posters(rt, posting, rows) else {
-                return Err(RunFault::NoThread);
-            };
-            let Some(kept) = join_mirrors(rt, taking, kept) else {
-                return Err(RunFault::NoThread);
-            };
+            let rows = join_posters(rt, posting, rows)?;
+            let kept = join_mirrors(rt, taking, kept)?;
             Ok(Ended { rows, kept })
         },
     )

@@ -1,12 +1,12 @@
 use Rattle.std.proofs.Common.{arith, length, map, ap, sym, subst, ◌≡◌, ◌∙◌}
 use Rattle.std.proofs.lemmas.List.{length-map}
-use Rattle.std.specs.List.{All}
+use Rattle.std.specs.List.{All, AllByRecursion}
 use Rattle.dm_mail.specs.Ends.{AreNewOutlets}
 use Rattle.dm_mirror.specs.Lists.{EachWith}
-use Rattle.dm_mirror.specs.Jobs.{DoesTake}
-use Rattle.dm_mirror.specs.Plans.{plan_texts}
+use Rattle.dm_mirror.specs.Jobs.{DoesTake, IsKept}
+use Rattle.dm_mirror.specs.Plans.{plan_texts, plan_bound}
 use Rattle.dm_mirror.proofs.ListLemmas.{each_length, each_from_length}
-use Rattle.dm_mirror.proofs.RunLemmas.{all_complete, run_of}
+use Rattle.dm_mirror.proofs.RunLemmas.{all_complete, fed_within, run_of}
 use Rattle.dm_mirror.proofs.SettleLemmas.{run_rows, run_kept, run_done}
 use Rattle.dm_mirror.proofs.running.run.Goals as goal
 
@@ -63,7 +63,11 @@ invariant_of-result g c =
 pub returns : goal.returns
 returns g c =
     let many : c.len-count.result ≡ length c.args.plan.posters.items = omega (arith, c.len-count.ensures) in
+    let kept = run_kept c.args.plan c.of-whole_plan.result.value c.len-count.result c.in_ok-opened.opened.mirrors.items c.in_ok-posters.mirrors.items c.in_ok-ended.ended.kept.items
+    c.of-whole_plan.ensures (ap (λ q. q.items) c.in_ok-posters.ensures.mirrors) many c.in_ok-opened.ensures.mirrors c.in_ok-ended.ensures.mirrors in
     run_of c.len-count.result c.args.plan.expected c.args.plan.bound (plan_texts c.args.plan) c.args.plan.mirrors.items c.args.plan.policies.items c.in_ok-opened.opened.mirrors.items _ (many ∙ sym (length-map c.args.plan.posters.items (λ poster. poster.texts.value.items)))
     c.in_ok-opened.ensures.mirrors (c.in_ok-opened.ensures.policies ∙ c.deref.ensures.value)
     (run_done c.args.plan c.of-whole_plan.result.value c.len-count.result c.in_ok-opened.opened.mirrors.items c.in_ok-posters.mirrors.items c.in_ok-ended.ended.kept.items c.settle_each-mirrors.result.items
     c.of-whole_plan.ensures (ap (λ q. q.items) c.in_ok-posters.ensures.mirrors) many c.in_ok-opened.ensures.mirrors c.in_ok-ended.ensures.mirrors c.settle_each-mirrors.ensures)
+    (fed_within (plan_texts c.of-whole_plan.result.value) c.args.plan.bound c.in_ok-ended.ended.kept.items _ (ap (λ q. q.items) c.of-kept.ensures)
+    (subst (λ b. AllByRecursion (IsKept (plan_texts c.of-whole_plan.result.value) b) c.in_ok-ended.ended.kept.items) (ap plan_bound c.of-whole_plan.ensures) kept) c.settle_each-mirrors.ensures)

@@ -41,7 +41,7 @@ loop-end-preserved g c =
     let texts = plan_texts c.args.plan.now.value in
     let ms = c.args.kept.mirror.mails.items in
     let after = c.settle.ensures in
-    let prefix = subst (λ (l : List Mail). IsPrefix l (sent_mails end)) (after.taken p ∙ (inv.taken p ∙ c.requires.kept.taken p)) after.prefix in
+    let prefix = subst (λ (l : List Mail). IsPrefix l (sent_mails end)) (after.taken p ∙ (inv.taken p ∙ ap (mails_of p) c.requires.kept.taken)) after.prefix in
     record {
       same = (after.same.0 ∙ inv.same.0, after.same.1 ∙ inv.same.1, after.same.2 ∙ inv.same.2);
       taken = λ q. after.taken q ∙ inv.taken q;

@@ -9,7 +9,7 @@ loop-preserved-in-Ok g c =
     let mails = c.push_reserved-in-Ok.ensures.items in
     record {
       same = search rules;
-      taken = λ p. taken_more p _ _ _ _ c.in-Ok.mail mails (inv.taken p) (c.in-Ok.ensures.taken.1 p);
+      taken = taken_more _ _ _ _ c.in-Ok.mail mails inv.taken c.in-Ok.ensures.order;
       room = search rules;
       room_for_verdicts = search rules;
       most = search rules;

@@ -6,7 +6,7 @@ pub loop-job-preserved : goal.loop-job-preserved
 loop-job-preserved g c =
     let inv = c.loop-job.invariant in
     record {
-      jobs = map_step (λ thread. thread.promise.0.value) c.loop-job.threads.items _ c.in_ok-thread.thread c.loop-job.jobs.items _ _ c.in-Some.job c.in-Some.ensures.items c.push_back_reserved.ensures.items c.in_ok-thread.ensures inv.jobs;
+      jobs = map_step (λ thread. thread.promise.0.value) c.loop-job.threads.items _ c.in_ok-thread.thread c.loop-job.jobs.items _ _ c.in-Some.job c.in-Some.ensures.items c.push_back_reserved.ensures.items c.in_ok-thread.ensures.handle inv.jobs;
       count = count_more c.loop-job.jobs.items _ _ c.loop-job.threads.items _ _ _ c.in-Some.ensures.items c.push_back_reserved.ensures.items inv.count;
       fits = room_more c.loop-job.jobs.items _ _ c.loop-job.threads.items _ _ _ _ c.in-Some.ensures.items c.push_back_reserved.ensures.items c.push_back_reserved.ensures.capacity inv.fits;
     }

@@ -1,7 +1,7 @@
 use Rattle.std.proofs.Common.{arith}
 use Rattle.std.proofs.lemmas.List.{length-map}
 use Rattle.dm_mirror.proofs.PlanLemmas.{as_many_starts, positive}
-use Rattle.dm_mirror.proofs.plan.Plan.build.Goals as goal
+use Rattle.dm_mirror.proofs.plan.Plan.build_within.Goals as goal
 
 pub of_repos-requires-clause-repos : goal.of_repos-requires-clause-repos
 of_repos-requires-clause-repos c =
