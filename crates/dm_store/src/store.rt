@@ -6,6 +6,7 @@ ghost use Rattle.dm_journal.specs.declared.fault.OpenError.TheVariants.{Device a
 ghost use Rattle.dm_journal.specs.declared.fault.WriteError.TheVariants.{Device as WritingDevice, TooLong, Full};
 ghost use Rattle.dm_journal.specs.Device.{IsDurable, LeavesOnly};
 ghost use Rattle.dm_journal.specs.Faults.{HasFault};
+ghost use Rattle.dm_journal.specs.Hidden.{TellsHidden};
 ghost use Rattle.dm_journal.specs.Ready.{HasTexts, IsUntouched, IsBeside, IsFailure};
 ghost use Rattle.dm_scratch.specs.Taking.{Takes};
 ghost use Rattle.dm_store.specs.declared.fault.StoreError.TheVariants.{Journal as OpeningJournal, BadEntry};
@@ -47,6 +48,7 @@ impl<D: Device> Store<D> {
         ensures fault { IfErr result (λ e. (fault : FileFault) → e.0 ≡ OpeningJournal (OpeningFile fault) → HasFault (D.seen device) fault) }
         ensures bad_entry { IfErr result (λ e. (number : ℕ) → e.0 ≡ BadEntry number → HasBadEntry (D.seen device) number) }
         ensures failed { IfErr result (λ e. e.0 ≡ OpeningJournal (OpeningDevice Failed) → D.faults device < D.faults e.1) }
+        ensures hidden { IfOk result (λ store. TellsHidden (D.seen device) store.journal.hidden) }
     {
         let (journal, entries) = match Journal::open(alloc, device) {
             Ok(opened) => opened,
@@ -111,6 +113,14 @@ impl<D: Device> Store<D> {
         ensures { result.now ≡ self.now.repo }
     {
         &self.repo
+    }
+
+    /// The place of the closed gate behind the last entry, if it hid more of them when the file was opened: none is lost, but the
+    /// byte there was changed. No crash leaves such a file.
+    pub fn hidden(&self) -> Option<usize>
+        ensures { result ≡ self.now.journal.hidden }
+    {
+        self.journal.hidden()
     }
 
     /// Takes a text into the repository, and where something was taken appends it to the journal before it answers: from then
