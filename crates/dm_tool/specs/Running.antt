@@ -48,16 +48,16 @@ pub record RunsTo (names : List (List ℕ)) (texts : List (List (List ℕ))) (ba
   pub starts : List (List Patch)
   pub are_starts : AreStarts limits bases starts
   pub outcome : Outcome
-  pub is_run : IsRunOf texts starts policies outcome
+  pub is_run : IsRunOf texts starts policies bound outcome
   pub report : List ℕ
   pub is_report : IsReport outcome report
   pub bytes : out ≡ posters_text 0 names ++ report
   pub exit : IsStatusOf outcome status
 
--- what is told of it: a run of posters that send these texts, to mirrors of these bases, read within these limits, and of these policies, left this
--- outcome
-pub record IsRan (texts : List (List (List ℕ))) (bases : List (List ℕ)) (limits : Limits) (policies : List Policy) (ran : Ran) : Type 0 where
+-- what is told of it: a run of posters that send these texts, to mirrors of these bases, read within these limits, and of these policies, at each of
+-- which so many mails may wait, left this outcome
+pub record IsRan (texts : List (List (List ℕ))) (bases : List (List ℕ)) (limits : Limits) (policies : List Policy) (bound : ℕ) (ran : Ran) : Type 0 where
   pub starts : List (List Patch)
   pub are_starts : AreStarts limits bases starts
-  pub is_run : IsRunOf texts starts policies ran.outcome
+  pub is_run : IsRunOf texts starts policies bound ran.outcome
   pub exit : IsStatusOf ran.outcome ran.status

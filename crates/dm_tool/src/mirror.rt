@@ -1,7 +1,8 @@
 //! The file of a mirror: how it is opened, and what is told where it isn't.
-ghost use Rattle.std.specs.Prelude.{IfOk, IfSome};
+ghost use Rattle.std.specs.Prelude.{ℕ, IfOk, IfSome, OnOk};
 ghost use Rattle.dm_disk.specs.States.{seen, may_leave, file_may_leave};
 ghost use Rattle.dm_journal.specs.Device.{IsDurable};
+ghost use Rattle.dm_journal.specs.Hidden.{Hides};
 ghost use Rattle.dm_store.specs.Keeping.{IsStored, KeepsRepo};
 
 use crate::word_fault::WordFault;
@@ -54,7 +55,7 @@ pub fn open_file<'a>(
     }
 }
 
-/// The mirror that a file keeps.
+/// The mirror that a file keeps. One in which a changed byte hides bundles isn't opened.
 pub fn open_store<'a, D: Device + Drop>(
     rt: &HostRuntime,
     path: &'a str,
@@ -63,9 +64,13 @@ pub fn open_store<'a, D: Device + Drop>(
     requires { IsDurable D.seen D.may_leave D.file_may_leave device }
     ensures stored { IfOk result (IsStored D.seen D.may_leave D.file_may_leave) }
     ensures keeps { IfOk result (λ store. KeepsRepo (D.seen device) store.repo.patches) }
+    ensures hides_none { OnOk result ((at : ℕ) → ¬ Hides (D.seen device) at) }
 {
     match Store::open(rt.alloc(), device) {
-        Ok(store) => Ok(store),
+        Ok(store) => match store.hidden() {
+            None => Ok(store),
+            Some(at) => Err(WordFault::Hidden(path, at)),
+        },
         Err((fault, _)) => Err(WordFault::BadMirror(path, fault)),
     }
 }

@@ -100,13 +100,13 @@ fn answer_of<R: Threads + Wait + Sync>(
     bound: usize,
 ) -> Result<(Vec<u8>, Ran), ToolFault>
     ensures ok { IfOk result (λ x. RunsTo (names_in posters.now) (texts_in posters.now) (bytes_of bases.entry.texts.now) bases.entry.limits policies.now bound x.0.items x.1.status) }
-    ensures told { IfOk result (λ x. IsRan (texts_in posters.now) (bytes_of bases.entry.texts.now) bases.entry.limits policies.now x.1) }
+    ensures told { IfOk result (λ x. IsRan (texts_in posters.now) (bytes_of bases.entry.texts.now) bases.entry.limits policies.now bound x.1) }
     ensures bad_plan { IfErr result (λ e. (fault : PlanFault) → (e ≡ ToolFault.BadPlan fault) →
         IsFirstFault bases.entry.limits (texts_in posters.now) (bytes_of bases.entry.texts.now) policies.now bound fault) }
     ensures fault { IfErr result (λ e. ((fault : PlanFault) × (e ≡ ToolFault.BadPlan fault)) ⊎ ((e ≡ ToolFault.NoThread) ⊎ (e ≡ ToolFault.NoMemory))) }
 {
     let texts = texts_of(alloc, posters)?;
-    let plan = Plan::build(alloc, &texts, bases.texts, bases.limits, policies, bound)?;
+    let plan = Plan::build_within(alloc, &texts, bases.texts, policies, bound, bases.limits)?;
     let outcome = run(rt, alloc, plan, &Open)?;
     let text = run_text(alloc, posters, &outcome)?;
     let status = status_of_run(&outcome);
@@ -130,7 +130,7 @@ pub fn run_over<R: Threads + Wait + Sync, W: Write>(
 ) -> Result<Ran, ToolFault>
     ensures ok { IfOk result (λ ran. Writes (RunsTo (names_in posters.now) (texts_in posters.now) (bytes_of bases.entry.texts.now) bases.entry.limits policies.now bound)
         (W.contents writer.old) (W.contents writer.new) ran.status) }
-    ensures told { IfOk result (IsRan (texts_in posters.now) (bytes_of bases.entry.texts.now) bases.entry.limits policies.now) }
+    ensures told { IfOk result (IsRan (texts_in posters.now) (bytes_of bases.entry.texts.now) bases.entry.limits policies.now bound) }
     ensures bad_plan { IfErr result (λ e. (fault : PlanFault) → (e ≡ ToolFault.BadPlan fault) →
         IsFirstFault bases.entry.limits (texts_in posters.now) (bytes_of bases.entry.texts.now) policies.now bound fault) }
     ensures silent { IfErr result (λ e. (e ≢ ToolFault.Write) → Keeps (W.contents writer.old) (W.contents writer.new)) }
