@@ -1,6 +1,6 @@
 use Rattle.std.proofs.Common.{map, subst, ◌∙◌}
 use Rattle.std.proofs.lemmas.Result.{err_from_is_err_and}
-use Rattle.dm_mirror.specs.Plans.{plan_starts, plan_policies, IsPlannable}
+use Rattle.dm_mirror.specs.Plans.{plan_starts, plan_policies, plan_bound, IsPlannable}
 use Rattle.dm_mirror.specs.Runs.{IsRunOf}
 use Rattle.dm_tool.proofs.RunLemmas.{bad_plan, same_lists}
 use Rattle.dm_tool.proofs.running.answer_of.Goals as goal
@@ -21,7 +21,7 @@ returns-clause-ok g c =
       starts = plan_starts plan;
       are_starts = c.in_ok-plan.ensures.starts;
       outcome = c.in_ok-outcome.outcome;
-      is_run = rw c.in_ok-plan.ensures.policies at (subst (λ ts. IsRunOf ts (plan_starts plan) (plan_policies plan) c.in_ok-outcome.outcome) texts c.in_ok-outcome.ensures);
+      is_run = rw c.in_ok-plan.ensures.bound at (rw c.in_ok-plan.ensures.policies at (subst (λ ts. IsRunOf ts (plan_starts plan) (plan_policies plan) (plan_bound plan) c.in_ok-outcome.outcome) texts c.in_ok-outcome.ensures));
       report = c.in_ok-text.ensures.0;
       is_report = c.in_ok-text.ensures.1;
       bytes = c.in_ok-text.ensures.2;
@@ -35,6 +35,6 @@ returns-clause-told g c =
     record {
       starts = plan_starts plan;
       are_starts = c.in_ok-plan.ensures.starts;
-      is_run = rw c.in_ok-plan.ensures.policies at (subst (λ ts. IsRunOf ts (plan_starts plan) (plan_policies plan) c.in_ok-outcome.outcome) texts c.in_ok-outcome.ensures);
+      is_run = rw c.in_ok-plan.ensures.bound at (rw c.in_ok-plan.ensures.policies at (subst (λ ts. IsRunOf ts (plan_starts plan) (plan_policies plan) (plan_bound plan) c.in_ok-outcome.outcome) texts c.in_ok-outcome.ensures));
       exit = c.status_of_run-status.ensures;
     }
