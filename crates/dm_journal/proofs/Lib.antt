@@ -6,3 +6,4 @@ mod Made
 mod Moments
 mod Once
 mod OneAnswer
+mod Units
