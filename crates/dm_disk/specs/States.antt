@@ -1,5 +1,5 @@
 -- What the events of a file say of it. The newest event comes first.
-use Rattle.std.specs.Prelude.{◌≡◌, ◌⊎◌, ◌≤◌, ℕ, ◌+◌, Bool, true, false, not, if◌then◌else◌, List, [], ◌∷◌, ◌++◌, length, take, drop}
+use Rattle.std.specs.Prelude.{◌≡◌, ◌⊎◌, ◌≤◌, ℕ, ◌+◌, Bool, true, false, not, if◌then◌else◌, List, [], ◌∷◌, ◌++◌, length, take, drop, refl}
 use mathlib.Core.Logic.{inl, inr}
 use Rattle.std.proofs.Math.Nat.{not-suc-le_self}
 use Rattle.dm_journal.specs.Device.{Torn}
@@ -96,3 +96,32 @@ pub left_only_now : (history : List Event) (c : List ℕ) → left_since history
 left_only_now [] c left = left
 left_only_now (e ∷ earlier) c (inl left) = left
 left_only_now (e ∷ earlier) c (inr before) = absurd (not-suc-le_self (length earlier) before.0)
+
+-- a crash at any moment leaves something
+beside_leaves_some : (history : List Event) → (c : List ℕ) × beside_may_leave history c
+beside_leaves_some [] = ([], tt)
+beside_leaves_some (opened size bytes ∷ earlier) = beside_leaves_some earlier
+beside_leaves_some (wrote at bytes done ∷ earlier) = beside_leaves_some earlier
+beside_leaves_some (synced done ∷ earlier) = beside_leaves_some earlier
+beside_leaves_some (wrote_beside mode bytes done ∷ earlier) = ([], tt)
+beside_leaves_some (synced_beside true ∷ earlier) = (beside earlier, refl)
+beside_leaves_some (synced_beside false ∷ earlier) = beside_leaves_some earlier
+beside_leaves_some (renamed old new done ∷ earlier) = ([], tt)
+beside_leaves_some (synced_folder done ∷ earlier) = beside_leaves_some earlier
+beside_leaves_some (refused ∷ earlier) = beside_leaves_some earlier
+
+file_leaves_some : (history : List Event) → (c : List ℕ) × file_may_leave history c
+file_leaves_some [] = ([], refl)
+file_leaves_some (opened size bytes ∷ earlier) = (bytes, refl)
+file_leaves_some (wrote at bytes done ∷ earlier) = (overwritten at bytes (seen earlier), inl refl)
+file_leaves_some (synced true ∷ earlier) = (seen earlier, refl)
+file_leaves_some (synced false ∷ earlier) = file_leaves_some earlier
+file_leaves_some (wrote_beside mode bytes done ∷ earlier) = file_leaves_some earlier
+file_leaves_some (synced_beside done ∷ earlier) = file_leaves_some earlier
+file_leaves_some (renamed old new true ∷ earlier) = beside_leaves_some earlier
+file_leaves_some (renamed old new false ∷ earlier) = file_leaves_some earlier
+file_leaves_some (synced_folder done ∷ earlier) = file_leaves_some earlier
+file_leaves_some (refused ∷ earlier) = file_leaves_some earlier
+
+pub leaves_some : (history : List Event) → (c : List ℕ) × may_leave history c
+leaves_some history = let some = file_leaves_some history in (some.0, inl some.1)

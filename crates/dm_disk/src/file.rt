@@ -1,7 +1,7 @@
 //! A file on a disk. Each method makes the call that it notes, and notes it with its outcome.
 ghost use Rattle.std.specs.Prelude.{◌≡◌, ℕ, List, [], length, IfOk, Ok, IfSome, IsTrue};
 ghost use Rattle.dm_journal.specs.Device.{IsDurable};
-ghost use Rattle.dm_disk.specs.States.{seen, may_leave, file_may_leave, beside, beside_may_leave, other_may_leave, left_since, faults, IsFresh, KeepsRights, left_now, left_only_now};
+ghost use Rattle.dm_disk.specs.States.{seen, may_leave, file_may_leave, beside, beside_may_leave, other_may_leave, left_since, faults, IsFresh, KeepsRights, left_now, leaves_some, left_only_now};
 
 use crate::beside::{NEW_MODE, NO_RIGHTS, NewFile, take_name, write_new};
 use crate::fault::OpenFault;
@@ -87,6 +87,8 @@ impl Device for DiskFile {
     ghost faults = { λ history. faults history };
 
     ghost counts_now = { λ history t c le left. left_now history t c le left };
+
+    ghost leaves_some = { λ history. leaves_some history };
 
     ghost only_now = { λ history c left. left_only_now history c left };
 

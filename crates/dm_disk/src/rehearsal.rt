@@ -1,7 +1,7 @@
 //! A file that is only read: what would be written to it is noted, and not written.
 ghost use Rattle.std.specs.Prelude.{◌≡◌, ℕ, List, length, IfSome};
 ghost use Rattle.dm_journal.specs.Device.{IsDurable};
-ghost use Rattle.dm_disk.specs.States.{seen, may_leave, file_may_leave, beside, beside_may_leave, left_since, faults, left_now, left_only_now};
+ghost use Rattle.dm_disk.specs.States.{seen, may_leave, file_may_leave, beside, beside_may_leave, left_since, faults, left_now, leaves_some, left_only_now};
 
 use crate::beside::{NEW_MODE, NO_RIGHTS};
 use crate::record::Record;
@@ -60,6 +60,8 @@ impl Device for Rehearsal {
     ghost faults = { λ history. faults history };
 
     ghost counts_now = { λ history t c le left. left_now history t c le left };
+
+    ghost leaves_some = { λ history. leaves_some history };
 
     ghost only_now = { λ history c left. left_only_now history c left };
 

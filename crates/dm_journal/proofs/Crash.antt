@@ -1,11 +1,11 @@
 -- What a crash leaves in each of the two writes of an append.
 use Rattle.std.proofs.Common.{◌≡◌, ◌≢◌, inl, inr, ℕ, ◌+◌, ◌-◌, ◌<◌, ◌≤◌, ◌^◌, List, [], ◌∷◌, ◌++◌, length, get_or, take, drop, refl, sym, ◌∙◌, ap, subst, arith, append_assoc, length-append, take-append-drop}
-use Rattle.std.proofs.lemmas.List.{append-nil, take_at, drop_at, drop_more, drop_all}
+use Rattle.std.proofs.lemmas.List.{append-nil, take_at, take-take, drop_at, drop_more, drop_all, length-take-le}
 use Rattle.std.proofs.lemmas.Bool.{cases_eq}
 use Rattle.dm_journal.specs.declared.format.Format.{Format}
 use Rattle.dm_journal.specs.Format.{unit, filled}
-use Rattle.dm_journal.specs.Device.{Holds, Torn, IsDurable}
-use Rattle.dm_journal.specs.Journal.{checksum_of, next_link, link_after, link_bytes, IsGate, IsNext, Begins, StandsFor}
+use Rattle.dm_journal.specs.Device.{Holds, Torn, IsDurable, IsSameBefore}
+use Rattle.dm_journal.specs.Journal.{checksum_of, next_link, link_after, link_bytes, IsGate, IsNext, Begins, StandsFor, IsZeros}
 use Rattle.dm_journal.specs.Reading.{EndsSo, staged}
 use Rattle.dm_journal.specs.Ready.{HasTexts, StandsWithOrWithout}
 use Rattle.dm_journal.specs.declared.journal.Journal.{Journal}
@@ -23,6 +23,16 @@ module _ (head rest : List ℕ) (at : ℕ) (size : length head ≡ at) where
   written_behind bytes c covers holds =
       let none : drop (at + length bytes) (head ++ rest) ≡ [] = drop_all (at + length bytes) (head ++ rest) (omega (arith, covers, size, length-append head rest)) in
       holds ∙ ap (λ (l : List ℕ). take at (head ++ rest) ++ bytes ++ l) none ∙ append-nil (take at (head ++ rest) ++ bytes) ∙ ap (λ (l : List ℕ). l ++ bytes) (take_at head rest at size)
+
+-- no write changes a byte in front of where it begins
+pub torn_front : (gate at n : ℕ) (old c : List ℕ) → gate ≤ at → Torn at n old c → IsSameBefore gate old c
+torn_front gate at n old c le torn = sym (take-take gate at c le) ∙ ap (take gate) torn.before ∙ take-take gate at old le
+
+pub held_front : (gate at : ℕ) (bytes old c : List ℕ) → gate ≤ at → at ≤ length old → Holds old at bytes c → IsSameBefore gate old c
+held_front gate at bytes old c le within holds =
+    let whole = holds ∙ append_assoc (take at old) bytes (drop (at + length bytes) old) in
+    let front : take at c ≡ take at old = ap (take at) whole ∙ take_at (take at old) (bytes ++ drop (at + length bytes) old) at (length-take-le at old within) in
+    sym (take-take gate at c le) ∙ ap (take gate) front ∙ take-take gate at old le
 
 -- bytes in front of a gate, the gate, and what stands behind it
 module _ (front rest : List ℕ) (gate : ℕ) (size : length front ≡ gate) where
@@ -85,6 +95,16 @@ module _ {D : Type 0} (seen : D → List ℕ) (may_leave file_may_leave : D → 
         is = f.1 ∙ ap (λ (l : List ℕ). f.0 ++ l) gate.is ∙ sym (append_assoc f.0 (0 ∷ gate.fill) has.rest);
         far = omega (arith, at, has.end.place, gate.filled, ap length f.1, length-append f.0 rest, length-append f.0 (0 ∷ gate.fill));
       }
+
+  -- what stands in front of the gate is the same in each outcome
+  pub first_front : (n : ℕ) (c : List ℕ) → Torn b n (seen journal.device) c → IsSameBefore journal.end.gate (seen journal.device) c
+  first_front n c = torn_front journal.end.gate b n (seen journal.device) c (omega (arith, at))
+
+  pub second_front : (bytes mid c : List ℕ) → Holds (seen journal.device) b bytes mid → Torn journal.end.gate 1 mid c → IsSameBefore journal.end.gate (seen journal.device) c
+  second_front bytes mid c holds torn =
+      let f = fronts in
+      let within : b ≤ length (seen journal.device) = omega (arith, f.far, ap length f.is, length-append (f.front ++ 0 ∷ f.fill) has.rest) in
+      torn_front journal.end.gate journal.end.gate 1 mid c (omega arith) torn ∙ held_front journal.end.gate b bytes (seen journal.device) mid (omega (arith, at)) within holds
 
   -- the texts as they were
   without : (f : Fronts) (r c : List ℕ) → c ≡ (f.front ++ 0 ∷ f.fill) ++ r → StandsFor c texts
@@ -166,6 +186,14 @@ module _ (format : Format) (texts : List (List ℕ)) (text : List ℕ) (gate : �
         };
         durable = only;
       }
+
+  -- with zeros from the closed gate on
+  pub cleared : (new : List ℕ) (place : ℕ) → Holds file gate (255 ∷ []) new → place ≡ gate + unit format + filled format (40 + length text) → IsZeros (drop place new)
+  cleared new place holds moved =
+      let is = written_gate s.front (s.fill ++ bytes) gate s.size new (subst (λ l. Holds l gate (255 ∷ []) new) s.is holds) in
+      let f = file_front format new (texts ++ text ∷ []) s.stage.closing (with_text new 255 (omega arith) is) in
+      let far : length f.0 ≡ place = omega (arith, moved, s.size, s.filled, s.stage.long, ap length is, length-append s.front (255 ∷ (s.fill ++ bytes)), length-append s.fill bytes, ap length f.1, length-append f.0 s.stage.closing) in
+      (s.stage.zeros, ap (drop place) f.1 ∙ drop_at f.0 s.stage.closing place far ∙ s.stage.are)
 
 -- a journal of a file that ends so
 pub has_texts : {D : Type 0} (seen : D → List ℕ) (may_leave file_may_leave : D → List ℕ → Type 0) (journal : Journal D) (file : List ℕ) (texts : List (List ℕ)) → EndsSo file texts journal.end → seen journal.device ≡ file → IsDurable seen may_leave file_may_leave journal.device → HasTexts seen may_leave file_may_leave journal texts

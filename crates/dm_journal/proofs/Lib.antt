@@ -6,4 +6,5 @@ mod Made
 mod Moments
 mod Once
 mod OneAnswer
-pub mod Untouched
+mod Untouched
+mod Units

@@ -55,8 +55,8 @@ is_stage format checksum text room whole some fits =
     let z = k - a - unit format in
     let zeros = 1 + (u + z) in
     let enough : a + zeros ≡ k = omega arith in
-    let parts : replicate a 0 ++ replicate zeros 0 ≡ replicate k 0 = replicate-append-replicate a zeros 0 ∙ ap (λ (i : ℕ). replicate i 0) enough in
-    let gate : replicate zeros 0 ≡ 0 ∷ (replicate u 0 ++ replicate z 0) =
+    let parts : replicate {A = ℕ} a 0 ++ replicate zeros 0 ≡ replicate k 0 = replicate-append-replicate a zeros 0 ∙ ap (λ (i : ℕ). replicate i 0) enough in
+    let gate : replicate {A = ℕ} zeros 0 ≡ 0 ∷ (replicate u 0 ++ replicate z 0) =
     sym (replicate-append-replicate 1 (u + z) 0) ∙ ap (λ (l : List ℕ). 0 ∷ l) (sym (replicate-append-replicate u z 0)) in
     let long = length-block checksum text (replicate k 0) whole in
     let lk : length (replicate {A = ℕ} k 0) ≡ k = length-replicate k 0 in

@@ -14,6 +14,10 @@ pub record Torn (at n : ℕ) (old new : List ℕ) : Type 0 where
   pub no_shorter : length old ≤ length new
   pub no_longer : length new ≤ max (length old) (at + n)
 
+-- the bytes before this place are the same
+abbrev pub IsSameBefore : ℕ → List ℕ → List ℕ → Type 0
+IsSameBefore at old new = take at new ≡ take at old
+
 -- whatever is left here may be left there
 abbrev pub Within : (List ℕ → Type 0) → (List ℕ → Type 0) → Type 0
 Within here there = (c : List ℕ) → here c → there c

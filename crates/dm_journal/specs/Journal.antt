@@ -1,5 +1,6 @@
 -- What a journal's file stands for.
 use Rattle.std.specs.Prelude.{◌≡◌, ◌≢◌, ℕ, ◌+◌, ◌<◌, ◌^◌, List, [], ◌∷◌, ◌++◌, length, Option, Some, None}
+use Rattle.std.proofs.Math.ListN.{replicate}
 use Rattle.std.specs.Int.{w64, to_le_bytes}
 use Rattle.sha2.specs.Sha256.{sha256}
 use Rattle.dm_journal.specs.declared.format.Format.{Format}
@@ -75,3 +76,7 @@ Closes file texts behind = (format : Format) × (rest : List ℕ) × Begins form
 -- the file stands for the texts
 abbrev pub StandsFor : List ℕ → List (List ℕ) → Type 0
 StandsFor file texts = (behind : List ℕ) × Closes file texts behind
+
+-- the bytes are zeros
+abbrev pub IsZeros : List ℕ → Type 0
+IsZeros bytes = (n : ℕ) × (bytes ≡ replicate n 0)

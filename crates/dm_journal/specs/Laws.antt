@@ -1,6 +1,8 @@
--- That a file has one answer.
-use Rattle.std.specs.Prelude.{◌≡◌, ℕ, List}
-use Rattle.dm_journal.specs.Journal.{StandsFor}
+-- That a file has one answer, and its parts begin units.
+use Rattle.std.specs.Prelude.{◌≡◌, ◌<◌, ℕ, ◌+◌, ◌*◌, List, length}
+use Rattle.dm_journal.specs.declared.format.Format.{Format}
+use Rattle.dm_journal.specs.Format.{unit, filling, filled}
+use Rattle.dm_journal.specs.Journal.{Begins, StandsFor}
 use Rattle.dm_journal.specs.Faults.{HasFault}
 use Rattle.dm_journal.specs.declared.fault.Fault.{Fault}
 
@@ -15,3 +17,11 @@ JournalsHaveNoFault = (file : List ℕ) (texts : List (List ℕ)) (fault : Fault
 -- a file has at most one fault
 abbrev pub FilesHaveOneFault : Type 0
 FilesHaveOneFault = (file : List ℕ) (a b : Fault) → HasFault file a → HasFault file b → a ≡ b
+
+-- a gate that is due, or closed, begins a unit: as many whole units are in front of it as it takes for the header and the blocks
+abbrev pub GatesBeginUnits : Type 0
+GatesBeginUnits = (format : Format) (file : List ℕ) (texts : List (List ℕ)) (rest : List ℕ) → Begins format file texts rest → (k : ℕ) × (length file ≡ k * unit format + length rest)
+
+-- what fills bytes up to whole units is less than a unit, and fills them up
+abbrev pub UnitsAreFilled : Type 0
+UnitsAreFilled = (format : Format) (n : ℕ) → (filling format n < unit format) × ((k : ℕ) × (filled format n ≡ k * unit format))

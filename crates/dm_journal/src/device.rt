@@ -126,6 +126,9 @@ pub trait Device {
     /// This moment is one of those since an earlier one.
     ghost counts_now: { (file : Self) (t : ℕ) (c : List ℕ) → t ≤ moment file → may_leave file c → left_since file t c };
 
+    /// A crash at any moment leaves something.
+    ghost leaves_some: { (file : Self) → (c : List ℕ) × may_leave file c };
+
     /// Since this moment there is no other.
     ghost only_now: { (file : Self) (c : List ℕ) → left_since file (moment file) c → may_leave file c };
 }

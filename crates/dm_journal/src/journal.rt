@@ -1,13 +1,14 @@
 //! A journal on a device: opened, appended to, made, and put in another's place.
-ghost use Rattle.std.specs.Prelude.{◌≡◌, ◌+◌, ◌<◌, ◌≤◌, ◌^◌, ◌++◌, [], ◌∷◌, ◌⊎◌, List, ℕ, length, map, Any, IfOk, IfErr, OnOk, IsErrOf};
+ghost use Rattle.std.specs.Prelude.{◌≡◌, ◌+◌, ◌<◌, ◌≤◌, ◌^◌, ◌++◌, [], ◌∷◌, ◌⊎◌, List, ℕ, length, drop, map, Any, IfOk, IfErr, OnOk, IsErrOf};
 ghost use Rattle.dm_journal.specs.declared.device.DeviceError.TheVariants.{Failed};
 ghost use Rattle.dm_journal.specs.declared.fault.OpenError.TheVariants.{Device as OpeningDevice, File as OpeningFile};
 ghost use Rattle.dm_journal.specs.declared.fault.WriteError.TheVariants.{Device as WritingDevice, TooLong, Full};
 ghost use Rattle.dm_journal.specs.declared.fault.Fault.{Fault as FileFault};
-ghost use Rattle.dm_journal.specs.Device.{IsDurable, LeavesOnly};
+ghost use Rattle.dm_journal.specs.declared.format.Format.TheVariants.{Second};
+ghost use Rattle.dm_journal.specs.Device.{IsDurable, LeavesOnly, IsSameBefore};
 ghost use Rattle.dm_journal.specs.Faults.{HasFault};
 ghost use Rattle.dm_journal.specs.Hidden.{TellsHidden};
-ghost use Rattle.dm_journal.specs.Journal.{StandsFor};
+ghost use Rattle.dm_journal.specs.Journal.{StandsFor, IsZeros};
 ghost use Rattle.dm_journal.specs.Reading.{EndsSo};
 ghost use Rattle.dm_journal.specs.Ready.{HasTexts, IsTooLong, IsBeside, IsFailure, StandsWithOrWithout, StandsForEither, IsUntouched};
 
@@ -87,6 +88,15 @@ impl<D: Device> Journal<D> {
         ensures any_moment { (texts : List (List ℕ)) → HasTexts D.seen D.may_leave D.file_may_leave self.old texts
             → LeavesOnly D.moment D.left_since self.old.device self.new.device (StandsWithOrWithout texts text.now) }
 
+        // Nor does it change a byte in front of the gate, which begins a unit: no write touches a unit with a block in it.
+        ensures front { (texts : List (List ℕ)) → HasTexts D.seen D.may_leave D.file_may_leave self.old texts
+            → LeavesOnly D.moment D.left_since self.old.device self.new.device (IsSameBefore self.old.end.gate (D.seen self.old.device)) }
+
+        // Nothing of what a failed call has left behind the gate is there any more.
+        ensures cleared { (texts : List (List ℕ)) → HasTexts D.seen D.may_leave D.file_may_leave self.old texts
+            → OnOk result (IsZeros (drop self.new.end.gate (D.seen self.new.device))) }
+        ensures format { self.new.end.format ≡ self.old.end.format }
+
         // It doesn't give up by itself.
         ensures failed { IsErrOf result (WritingDevice Failed) → D.faults self.old.device < D.faults self.new.device }
         ensures too_long { IsErrOf result TooLong → IsTooLong text.now }
@@ -133,6 +143,7 @@ impl<D: Device> Journal<D> {
     ) -> Result<Journal<D>, (WriteError, D)>
         requires { IsDurable D.seen D.may_leave D.file_may_leave device }
         ensures ok { IfOk result (λ journal. HasTexts D.seen D.may_leave D.file_may_leave journal (map (λ text. text.now) texts.now)) }
+        ensures format { IfOk result (λ journal. journal.end.format ≡ Second) }
 
         // A crash at any moment of the call leaves the file from before it, or a journal of the texts.
         ensures any_moment { IfOk result (λ journal. LeavesOnly D.moment D.left_since device journal.device
@@ -158,6 +169,7 @@ impl<D: Device> Journal<D> {
     pub fn replace(&mut self, alloc: Global, texts: &[&[u8]]) -> Result<(), WriteError>
         requires { IsDurable D.seen D.may_leave D.file_may_leave self.old.device }
         ensures acknowledged { OnOk result (HasTexts D.seen D.may_leave D.file_may_leave self.new (map (λ text. text.now) texts.now)) }
+        ensures format { OnOk result (self.new.end.format ≡ Second) }
 
         // A crash at any moment of the call leaves the old texts or the new ones.
         ensures any_moment { (old : List (List ℕ)) → StandsFor (D.seen self.old.device) old
@@ -178,6 +190,7 @@ impl<D: Device> Journal<D> {
 fn put_journal<D: Device>(alloc: Global, device: &mut D, texts: &[&[u8]]) -> Result<End, WriteError>
     requires { IsDurable D.seen D.may_leave D.file_may_leave device.old }
     ensures texts { IfOk result (λ end. EndsSo (D.seen device.new) (map (λ text. text.now) texts.now) end) }
+    ensures format { IfOk result (λ end. end.format ≡ Second) }
     ensures durable { OnOk result (IsDurable D.seen D.may_leave D.file_may_leave device.new) }
     ensures any_moment { LeavesOnly D.moment D.left_since device.old device.new
         (λ c. (c ≡ D.seen device.old) ⊎ StandsFor c (map (λ text. text.now) texts.now)) }

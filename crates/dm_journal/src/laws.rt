@@ -1,9 +1,15 @@
 //! Laws of the definitions alone. A call of them does nothing.
-ghost use Rattle.dm_journal.specs.Laws.{StandsForOneList, JournalsHaveNoFault, FilesHaveOneFault};
+ghost use Rattle.dm_journal.specs.Laws.{StandsForOneList, JournalsHaveNoFault, FilesHaveOneFault, GatesBeginUnits, UnitsAreFilled};
 
 /// A file has at most one answer: the texts that it stands for, or one fault.
 pub fn a_file_has_one_answer()
     ensures texts { StandsForOneList }
     ensures texts_or_fault { JournalsHaveNoFault }
     ensures fault { FilesHaveOneFault }
+{}
+
+/// Each part of a file begins a unit, so a gate shares its unit with no block.
+pub fn parts_begin_units()
+    ensures gates { GatesBeginUnits }
+    ensures filled { UnitsAreFilled }
 {}

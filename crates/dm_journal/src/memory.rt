@@ -1,5 +1,5 @@
 //! A device in memory.
-ghost use Rattle.std.specs.Prelude.{◌≡◌, ◌⊎◌, [], ◌∷◌, ◌++◌, length, drop, OnOk, OnErr};
+ghost use Rattle.std.specs.Prelude.{◌≡◌, ◌⊎◌, [], ◌∷◌, ◌++◌, length, drop, refl, OnOk, OnErr};
 ghost use Rattle.std.proofs.Common.{inl};
 ghost use Rattle.dm_journal.specs.Past.{HadBeen, only_bytes};
 
@@ -74,6 +74,8 @@ impl Device for Memory {
     ghost faults = { λ m. 0 };
 
     ghost counts_now = { λ m t c le now. inl now };
+
+    ghost leaves_some = { λ m. (m.bytes.items, refl) };
 
     ghost only_now = { λ m c left. only_bytes m.past.items m.bytes.items c left };
 

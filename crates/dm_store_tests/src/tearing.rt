@@ -73,6 +73,8 @@ impl<D: Device> Device for Tearing<D> {
 
     ghost counts_now = { λ t. D.counts_now t.device };
 
+    ghost leaves_some = { λ t. D.leaves_some t.device };
+
     ghost only_now = { λ t. D.only_now t.device };
 
     fn read(&mut self, alloc: Global) -> Result<Vec<u8>, DeviceError> {

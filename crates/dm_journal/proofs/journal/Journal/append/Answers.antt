@@ -2,7 +2,7 @@ use Rattle.std.proofs.Common.{◌≤◌, ◌<◌, ◌+◌, ◌^◌, ℕ, List, l
 use Rattle.dm_journal.specs.Format.{unit}
 use Rattle.dm_journal.specs.Journal.{checksum_of, next_link}
 use Rattle.dm_journal.proofs.Moments.{weakened, followed}
-use Rattle.dm_journal.proofs.Crash.{first_leaves, staged_by, second_leaves, acknowledged}
+use Rattle.dm_journal.proofs.Crash.{first_leaves, staged_by, second_leaves, acknowledged, first_front, second_front, cleared}
 use Rattle.dm_journal.proofs.journal.Journal.append.Goals as goal
 
 pub returns-in_err-write_synced-clause-any_moment :
@@ -46,3 +46,30 @@ returns-clause-any_moment g c texts has =
     let s = staged_by d.seen d.may_leave d.file_may_leave c.args.self.now texts has _ at c.args.text.now c.checksum-checksum.result _ _ _ c.checksum-checksum.ensures c.saturating_sub-room.ensures (c.deref.ensures.value ∙ c.in_ok-staged.ensures.bytes) fits some c.in_ok-write_synced.ensures.written in
     let second = weakened d.moment d.left_since _ _ _ _ (second_leaves c.args.self.now.end.format texts c.args.text.now _ _ _ s) c.write_synced-2.ensures.any_moment in
     followed d.moment d.left_since _ _ _ _ first second
+
+pub returns-in_err-write_synced-2-clause-front : goal.returns-in_err-write_synced-2-clause-front
+returns-in_err-write_synced-2-clause-front g c texts has =
+    let d = g.D.Device in
+    let at = ap (λ (n : ℕ). c.args.self.now.end.gate + n) c.unit.ensures.is in
+    let first = weakened d.moment d.left_since _ _ _ _ (first_front d.seen d.may_leave d.file_may_leave c.args.self.now texts has _ at _) c.write_synced.ensures.any_moment in
+    let second = weakened d.moment d.left_since _ _ _ _ (λ file. second_front d.seen d.may_leave d.file_may_leave c.args.self.now texts has _ at _ _ file c.in_ok-write_synced.ensures.written) c.write_synced-2.ensures.any_moment in
+    followed d.moment d.left_since _ _ _ _ first second
+
+pub returns-clause-front : goal.returns-clause-front
+returns-clause-front g c texts has =
+    let d = g.D.Device in
+    let at = ap (λ (n : ℕ). c.args.self.now.end.gate + n) c.unit.ensures.is in
+    let first = weakened d.moment d.left_since _ _ _ _ (first_front d.seen d.may_leave d.file_may_leave c.args.self.now texts has _ at _) c.write_synced.ensures.any_moment in
+    let second = weakened d.moment d.left_since _ _ _ _ (λ file. second_front d.seen d.may_leave d.file_may_leave c.args.self.now texts has _ at _ _ file c.in_ok-write_synced.ensures.written) c.write_synced-2.ensures.any_moment in
+    followed d.moment d.left_since _ _ _ _ first second
+
+pub returns-clause-cleared : goal.returns-clause-cleared
+returns-clause-cleared g c texts has =
+    let d = g.D.Device in
+    let format = c.args.self.now.end.format in
+    let text = c.args.text.now in
+    let at = ap (λ (n : ℕ). c.args.self.now.end.gate + n) c.unit.ensures.is in
+    let fits : length text < 2 ^ 64 = omega (arith, c.if-text-gt-MOST_BYTES.false) in
+    let some : 1 ≤ unit format = omega (arith, c.unit.ensures.is, c.unit.ensures.some) in
+    let s = staged_by d.seen d.may_leave d.file_may_leave c.args.self.now texts has _ at text c.checksum-checksum.result _ _ _ c.checksum-checksum.ensures c.saturating_sub-room.ensures (c.deref.ensures.value ∙ c.in_ok-staged.ensures.bytes) fits some c.in_ok-write_synced.ensures.written in
+    cleared format texts text _ _ _ s _ _ c.in_ok-write_synced-2.ensures.written (omega (arith, c.unit.ensures.is, c.filled.ensures.is))
