@@ -1,4 +1,4 @@
-//! The bytes of journals, and what is told of other files.
+//! The bytes of journals of the first format, and what is told of other files.
 
 use crate::asking::fault_of;
 use dm_journal::{Fault, Journal, Memory};
@@ -28,16 +28,6 @@ fn takes_abc(alloc: Global) -> bool {
         && journal.device.bytes() == ABC.as_slice()
 }
 
-/// Whether a new journal of the texts "abc" has the same bytes, and one of no text is empty.
-fn is_made(alloc: Global) -> bool {
-    let Ok(mut journal) = Journal::create(alloc, Memory::new(alloc, Vec::new(alloc)), &[b"abc"])
-    else {
-        return false;
-    };
-    let is_abc = journal.device.bytes() == ABC.as_slice();
-    is_abc && journal.replace(alloc, &[]).is_ok() && journal.device.bytes() == EMPTY.as_slice()
-}
-
 /// Whether the text comes back.
 fn is_read(alloc: Global) -> bool {
     let Ok(bytes) = ABC.to_vec(alloc) else {
@@ -50,12 +40,8 @@ fn is_read(alloc: Global) -> bool {
 }
 
 #[test]
-fn a_journal_has_these_bytes(rt: HostRuntime) {
+fn a_first_journal_has_these_bytes(rt: HostRuntime) {
     assert!(rt; takes_abc(rt.alloc()), "an empty journal takes a text");
-    assert!(rt;
-        is_made(rt.alloc()),
-        "a journal is made, and another in its place"
-    );
     assert!(rt; is_read(rt.alloc()), "the text is read");
 }
 
@@ -72,7 +58,11 @@ fn fault_at(alloc: Global, place: usize) -> Option<Fault> {
 fn a_turned_bit_is_found(rt: HostRuntime) {
     assert!(rt;
         fault_at(rt.alloc(), 0) == Some(Fault::NotAJournal),
-        "in the header"
+        "in front of the version"
+    );
+    assert!(rt;
+        fault_at(rt.alloc(), 11) == Some(Fault::Unknown),
+        "in the version"
     );
     assert!(rt;
         fault_at(rt.alloc(), 14) == Some(Fault::Damaged(13)),
@@ -95,8 +85,12 @@ fn a_turned_bit_is_found(rt: HostRuntime) {
 #[test]
 fn a_missing_byte_is_found(rt: HostRuntime) {
     assert!(rt;
-        fault_of(rt.alloc(), &ABC[..12]) == Some(Fault::NotAJournal),
-        "in the header"
+        fault_of(rt.alloc(), &ABC[..10]) == Some(Fault::NotAJournal),
+        "in front of the version"
+    );
+    assert!(rt;
+        fault_of(rt.alloc(), &ABC[..12]) == Some(Fault::Unknown),
+        "in the version"
     );
     assert!(rt;
         fault_of(rt.alloc(), &ABC[..13]) == Some(Fault::Cut(13)),

@@ -6,4 +6,6 @@
 
 mod asking;
 #[cfg(test)]
+mod chains;
+#[cfg(test)]
 mod files;

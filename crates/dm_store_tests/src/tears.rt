@@ -8,7 +8,7 @@ use dm_repo::Policy;
 use dm_store::Store;
 use std::alloc::Global;
 
-/// The file of a store without patches.
+/// The file of a store without patches, in the first format. A checkpoint makes one of the second.
 const EMPTY: &[u8] = b"dm journal 1\n\0";
 
 /// A patch (a) that adds a file, and a patch (m) that adds a line.
@@ -93,9 +93,15 @@ fn cut_short(alloc: Global, steps: usize, tear: Tear) -> Option<usize> {
     Some(answered)
 }
 
-/// Whether all is well after each number of steps, up to one at which the session is answered whole.
+/// Whether all is well after each number of steps up to 1,000, in which the file has the first format, and after each 61st
+/// from there on, up to one at which the session is answered whole.
 fn lasts(alloc: Global, tear: Tear) -> bool {
-    for steps in 0..10_000 {
+    for count in 0..10_000 {
+        let steps = if count < 1_000 {
+            count
+        } else {
+            1_000 + (count - 1_000) * 61
+        };
         match cut_short(alloc, steps, tear) {
             None => return false,
             Some(6) => return true,
