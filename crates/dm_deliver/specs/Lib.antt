@@ -1,4 +1,3 @@
-pub mod Sources
 pub mod Framing
 pub mod FrameReading
 pub mod Calls

@@ -1,11 +1,10 @@
 //! Bundles that are delivered to a mirror that lasts: each text of a source is taken into a store, and answered by a line once
 //! it stands on the disk: that of its verdict, or, where a rule refuses the hash with which the bundle ends, that of this fault.
-//! A source has its texts in memory ([`Batch`]), or takes them from a reader, each after a line with its length ([`Framed`]).
+//! A [`Source`] gives the texts. [`Framed`] takes them from a reader, each after a line with its length.
 //! An [`Observer`] sees each text before it is taken and after it is answered.
 #![tactic(auto)]
 
 mod answers;
-mod batch;
 mod call_log;
 mod delivery;
 mod fault;
@@ -20,7 +19,6 @@ mod source;
 mod watched;
 
 pub use answers::{Answer, push_answer};
-pub use batch::Batch;
 pub use delivery::{answer, deliver};
 pub use fault::{AnswerError, DeliverError};
 pub use frame_fault::{FrameFault, FrameFaultKind};

@@ -1,7 +1,7 @@
 //! Where texts come from.
 ghost use Rattle.std.specs.Prelude.{◌≡◌, ◌<◌, [], ◌∷◌, ◌++◌, List, ℕ, IfOk, IfSome, IfNone, OnErr};
 
-/// Texts that come one after the other: files by their names, a stream, or texts in memory.
+/// Texts that come one after the other: files by their names, or a stream.
 pub trait Source {
     /// Why the next text could not be read.
     type Error;
