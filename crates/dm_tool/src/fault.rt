@@ -1,5 +1,7 @@
 //! Why a command gives no answer.
 ghost use Rattle.std.specs.Prelude.{◌≡◌, ◌≢◌, ◌⊎◌};
+ghost use Rattle.dm_mirror.specs.declared.plan.PlanFault.TheVariants.{NoMemory as NoPlanMemory};
+ghost use Rattle.dm_mirror.specs.declared.threads.RunFault.TheVariants.{NoMemory as NoRunMemory, NoThread as NoRunThread};
 ghost use Rattle.dm_tool.specs.declared.fault.ToolFault.TheVariants.{NoMemory, NoThread, BadPlan};
 
 use dm_mirror::{PlanFault, RunFault};
@@ -64,7 +66,7 @@ impl ToolFault {
 }
 
 impl From<PlanFault> for ToolFault {
-    ghost from_gives = { λ fault e. ((fault ≡ PlanFault.NoMemory) × (e ≡ NoMemory)) ⊎ ((fault ≢ PlanFault.NoMemory) × (e ≡ BadPlan fault)) };
+    ghost from_gives = { λ fault e. ((fault ≡ NoPlanMemory) × (e ≡ NoMemory)) ⊎ ((fault ≢ NoPlanMemory) × (e ≡ BadPlan fault)) };
 
     fn from(fault: PlanFault) -> ToolFault {
         match fault {
@@ -75,7 +77,7 @@ impl From<PlanFault> for ToolFault {
 }
 
 impl From<RunFault> for ToolFault {
-    ghost from_gives = { λ fault e. ((fault ≡ RunFault.NoMemory) × (e ≡ NoMemory)) ⊎ ((fault ≡ RunFault.NoThread) × (e ≡ NoThread)) };
+    ghost from_gives = { λ fault e. ((fault ≡ NoRunMemory) × (e ≡ NoMemory)) ⊎ ((fault ≡ NoRunThread) × (e ≡ NoThread)) };
 
     fn from(fault: RunFault) -> ToolFault {
         match fault {

@@ -34,6 +34,12 @@ returns-in_err-reply-in-Ok-Some-clause-delivers_until g c =
     (output g.W.Write.contents c.args.writer.now) (output g.W.Write.contents c.loop-text.writer) (output g.W.Write.contents c.answer.new.writer)
     done text came failed.unanswered c.answer.ensures.any_moment failed.failed failed.not_too_long failed.full)
 
+pub returns-in_err-reply-in-Ok-Some-clause-stored_err :
+    goal.returns-in_err-reply-in-Ok-Some-clause-stored_err
+returns-in_err-reply-in-Ok-Some-clause-stored_err g c =
+    let q = err_from_is_err_and c.from_residual.result c.from_residual.ensures.1 in
+    rw (q.1, q.2) c.in_err-reply-in-Ok-Some.ensures.stored_err
+
 pub returns-in_err-reply-in-Ok-Some-clause-kept_err :
     goal.returns-in_err-reply-in-Ok-Some-clause-kept_err
 returns-in_err-reply-in-Ok-Some-clause-kept_err g c =
@@ -101,6 +107,12 @@ returns-in_err-may_settle-in-Ok-Some-clause-delivers_until g c =
     rw (q.1, q.2) (checkpoint_failed d.moment d.left_since d.faults (λ (texts : List (List ℕ)). g.S.Source.gave source texts c.next_text.new.self) c.args.policy c.args.rule
     c.in_err-may_settle-in-Ok-Some.field-0.0 c.args.store.now c.answer.new.store c.settle.new.store (output g.W.Write.contents c.args.writer.now) (output g.W.Write.contents c.answer.new.writer)
     more.0 c.settle.ensures.same c.settle.ensures.any_moment c.in_err-may_settle-in-Ok-Some.ensures.failed c.in_err-may_settle-in-Ok-Some.ensures.kind.1)
+
+pub returns-in_err-may_settle-in-Ok-Some-clause-stored_err :
+    goal.returns-in_err-may_settle-in-Ok-Some-clause-stored_err
+returns-in_err-may_settle-in-Ok-Some-clause-stored_err g c =
+    let q = err_from_is_err_and c.from_residual-in_err-may_settle-in-Ok-Some.result c.from_residual-in_err-may_settle-in-Ok-Some.ensures.1 in
+    rw (q.1, q.2) (λ going_on. absurd (going_on tt))
 
 pub returns-in_err-may_settle-in-Ok-Some-clause-kept_err :
     goal.returns-in_err-may_settle-in-Ok-Some-clause-kept_err
