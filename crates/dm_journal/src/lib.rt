@@ -5,6 +5,8 @@
 //! or the new ones, and [`Journal::open`] writes nothing. The [`laws`] say that a file has one answer: the texts that it
 //! stands for, or one fault.
 //!
+//! A file has one of two formats ([`Format`]): both are read and appended to, and new files have the second.
+//!
 //! The crate knows the disk as a [`Device`], and [`Memory`] is one. No contract can say that a real file is such a device.
 #![tactic(auto)]
 

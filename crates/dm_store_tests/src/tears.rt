@@ -93,14 +93,14 @@ fn cut_short(alloc: Global, steps: usize, tear: Tear) -> Option<usize> {
     Some(answered)
 }
 
-/// Whether all is well after each number of steps up to 1,000, in which the file has the first format, and after each 61st
+/// Whether all is well after each number of steps up to 400, in which the file has the first format, and after each 509th
 /// from there on, up to one at which the session is answered whole.
 fn lasts(alloc: Global, tear: Tear) -> bool {
     for count in 0..10_000 {
-        let steps = if count < 1_000 {
+        let steps = if count < 400 {
             count
         } else {
-            1_000 + (count - 1_000) * 61
+            400 + (count - 400) * 509
         };
         match cut_short(alloc, steps, tear) {
             None => return false,
@@ -117,8 +117,12 @@ fn a_crash_leaves_all_of_a_text_or_none(rt: HostRuntime) {
         lasts(rt.alloc(), Tear::First),
         "the first bytes of a write"
     );
+}
+
+#[test]
+fn so_does_one_that_leaves_other_bytes(rt: HostRuntime) {
     assert!(rt;
         lasts(rt.alloc(), Tear::Last(7)),
-        "its last bytes, and others before them"
+        "the last bytes of a write, and others before them"
     );
 }
