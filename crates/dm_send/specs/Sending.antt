@@ -93,10 +93,10 @@ pub record Sends (repo : List Patch) (theirs : List PatchInfo) (most : ℕ) (b :
   pub divided : IsDivided repo theirs most shared new
   -- it rests on all that is shared
   pub is_sent : b ≡ behind shared new
-  -- a repository of exactly that takes it as it is
+  -- the repository of just these, in this order, takes it as it is
   pub is_taken : TakesAs shared b new
 
--- a bundle for the same, that rests on no more than it needs
+-- a bundle for the same, that names of the shared patches only those that can't pass what is behind them
 pub record SendsMinimal (repo : List Patch) (theirs : List PatchInfo) (most : ℕ) (b : Contents) : Type 0 where
   pub shared : List Patch
   pub new : List Patch
@@ -108,7 +108,7 @@ pub record SendsMinimal (repo : List Patch) (theirs : List PatchInfo) (most : �
   pub is_sent : b ≡ behind needed sent
   -- what is needed is shared
   pub is_context : (i : PatchInfo) → Contains b.context i → Contains (infos_of shared) i
-  -- a repository of exactly what is shared takes it, and has then the same patches behind that
+  -- the repository of all that is shared, in this order, takes it, and has then the same patches behind that
   pub is_taken : TakesAs shared b new
 
 -- it can't be divided: a shared patch depends on one that isn't, or an empty repository refuses the shared ones; memory may run out at any time

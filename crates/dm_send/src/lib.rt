@@ -4,8 +4,9 @@
 //! the other patches, as they stand behind it, are the new patches of the bundle. Its context names what both hold.
 //! [`send_minimal`] names only those of them that the new patches need. [`read_names`] reads which patches somebody holds.
 //!
-//! The crate stands on dm_repo for splitting and weighing. Its theorem is the contract of [`send`]: a repository of exactly
-//! the patches that both hold takes the bundle whole, and has then the tree of the repository that it was sent from.
+//! The crate stands on dm_repo for splitting and weighing. Its theorem is the contract of [`send`]: the repository of just the shared
+//! patches, as they stand in front here, takes the bundle whole. If none of the others is left out, it then has the tree of the
+//! repository that it was sent from.
 #![tactic(auto)]
 
 mod minimizing;
