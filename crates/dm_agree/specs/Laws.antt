@@ -1,52 +1,42 @@
 -- What holds of the mirrors of every run.
-use Rattle.std.specs.Prelude.{◌≡◌, ◌↔◌, ℕ, List, ◌++◌, slice_get, Some}
-use Rattle.std.specs.List.{flat_map, Contains, AllByRecursion}
-use Rattle.dm_prim.specs.Primitives.{LawfulMap}
+use Rattle.std.specs.Prelude.{◌≡◌, ◌↔◌, ◌<◌, ℕ, List, slice_get, Some}
+use Rattle.std.specs.List.{flat_map, Contains}
+use Rattle.dm_named.specs.declared.limits.Limits.{Limits}
 use Rattle.dm_named.specs.Patches.{Patch}
+use Rattle.dm_bundle.specs.Patches.{infos_of, SameMembers}
 use Rattle.dm_repo.specs.declared.policy.Policy.{Policy}
-use Rattle.dm_repo.specs.Repositories.{IsRepo}
-use Rattle.dm_repo.specs.Folds.{Fold}
-use Rattle.dm_scratch.specs.Taking.{IsAccepted}
-use Rattle.dm_converge.specs.Pools.{NamesStandForOne, NamesDecideTree}
-use Rattle.dm_mirror.specs.declared.mirror.Mirror.{Mirror}
+use Rattle.dm_repo.specs.Repositories.{Repository}
+use Rattle.dm_repo.specs.Orders.{AreAlike}
+use Rattle.dm_converge.specs.Pools.{NamesStandForOne}
 use Rattle.dm_mirror.specs.declared.outcome.Outcome.{Outcome}
-use Rattle.dm_mirror.specs.PlainFolds.{bundle_texts, verdicts_given}
-use Rattle.dm_mirror.specs.Runs.{IsRunOf, IsAt}
-
--- the texts of the bundles that a mirror took
-abbrev pub texts_of : Mirror → List (List ℕ)
-texts_of mirror = bundle_texts mirror.mails.items
+use Rattle.dm_mirror.specs.PlainFolds.{bundle_texts}
+use Rattle.dm_mirror.specs.Plans.{IsStart}
+use Rattle.dm_mirror.specs.Runs.{AllAccepted, HasRepo, IsRunOf, mails_at, mirror_count}
 
 -- the texts that all posters send
 abbrev pub sent_texts : List (List (List ℕ)) → List (List ℕ)
 sent_texts texts = flat_map (λ sent. sent) texts
 
--- each text that the mirror took was taken into its repository, or brought nothing new
-abbrev pub AcceptedAll : Mirror → Type 0
-AcceptedAll mirror = AllByRecursion IsAccepted (verdicts_given mirror.verdicts.items)
-
--- this is a mirror of the run, begun from this repository under some policy
-pub record IsMirrorOver (starts : List (List Patch)) (policies : List Policy) (o : Outcome) (base : List Patch) (mirror : Mirror) : Type 0 where
+-- a mirror of the run began with the repository that the base's text makes within these limits, and ended with this one
+pub record IsMirrorOver (limits : Limits) (text : List ℕ) (base : List Patch) (starts : List (List Patch)) (o : Outcome) (repo : Repository) : Type 0 where
   pub number : ℕ
-  pub policy : Policy
-  pub starts_from : slice_get starts number ≡ Some base
-  pub has_policy : slice_get policies number ≡ Some policy
-  pub is_at : IsAt o number mirror
+  pub is_start : IsStart limits text base
+  pub begins : slice_get starts number ≡ Some base
+  pub ends : HasRepo o number repo
 
--- the names of two mirrors of a run over one base decide the tree, if a name stands for one patch in what they took
+-- two mirrors of a run over one base whose repositories hold the same names have one tree, if a name stands for one patch in what the posters send
 abbrev pub MirrorsAgree : Type 0
-MirrorsAgree = (texts : List (List (List ℕ))) (starts : List (List Patch)) (policies : List Policy) (o : Outcome) → IsRunOf texts starts policies o →
-    (base : List Patch) → IsRepo base → (one other : Mirror) → IsMirrorOver starts policies o base one → IsMirrorOver starts policies o base other →
-    NamesStandForOne (texts_of one ++ texts_of other) base → NamesDecideTree one.repo.patches other.repo.patches
+MirrorsAgree = (texts : List (List (List ℕ))) (starts : List (List Patch)) (policies : List Policy) (bound : ℕ) (o : Outcome) → IsRunOf texts starts policies bound o →
+    (limits : Limits) (text : List ℕ) (base : List Patch) (one other : Repository) → IsMirrorOver limits text base starts o one → IsMirrorOver limits text base starts o other →
+    NamesStandForOne (sent_texts texts) base → SameMembers (infos_of one.patches) (infos_of other.patches) → AreAlike one.patches other.patches
 
 -- a mirror of a run took just the texts that the posters send
 abbrev pub MirrorsTakeWhatIsSent : Type 0
-MirrorsTakeWhatIsSent = (texts : List (List (List ℕ))) (starts : List (List Patch)) (policies : List Policy) (o : Outcome) → IsRunOf texts starts policies o →
-    (m : ℕ) (mirror : Mirror) → IsAt o m mirror → (text : List ℕ) → Contains (texts_of mirror) text ↔ Contains (sent_texts texts) text
+MirrorsTakeWhatIsSent = (texts : List (List (List ℕ))) (starts : List (List Patch)) (policies : List Policy) (bound : ℕ) (o : Outcome) → IsRunOf texts starts policies bound o →
+    (m : ℕ) → m < mirror_count o → (text : List ℕ) → Contains (bundle_texts (mails_at o m)) text ↔ Contains (sent_texts texts) text
 
--- two mirrors of a run over one base that accepted all have the same tree, if a name stands for one patch in what the posters send
+-- two mirrors over one base, of a run in which all was accepted, have the same names and one tree, if a name stands for one patch in what the posters send
 abbrev pub AcceptingMirrorsAgree : Type 0
-AcceptingMirrorsAgree = (texts : List (List (List ℕ))) (starts : List (List Patch)) (policies : List Policy) (o : Outcome) → IsRunOf texts starts policies o →
-    (base : List Patch) → IsRepo base → (one other : Mirror) → IsMirrorOver starts policies o base one → IsMirrorOver starts policies o base other →
-    NamesStandForOne (sent_texts texts) base → AcceptedAll one → AcceptedAll other →
-    (s t : LawfulMap) → Fold one.repo.patches s → Fold other.repo.patches t → s ≡ t
+AcceptingMirrorsAgree = (texts : List (List (List ℕ))) (starts : List (List Patch)) (policies : List Policy) (bound : ℕ) (o : Outcome) → IsRunOf texts starts policies bound o → AllAccepted o →
+    (limits : Limits) (text : List ℕ) (base : List Patch) (one other : Repository) → IsMirrorOver limits text base starts o one → IsMirrorOver limits text base starts o other →
+    NamesStandForOne (sent_texts texts) base → AreAlike one.patches other.patches

@@ -1,4 +1,5 @@
-//! Mirrors of one run agree: those that hold the same names, or accepted all that they took, hold the same tree.
+//! Mirrors of one run agree: those whose repositories hold the same names hold the same tree, and where the run accepted all, all of
+//! one base do. The laws speak of what `dm_mirror::Outcome` and `dm_repo::Repo` tell.
 #![tactic(auto)]
 
 pub mod laws;

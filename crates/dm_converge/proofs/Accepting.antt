@@ -94,7 +94,7 @@ each_all repo (x ∷ xs) policy (v ∷ vs) after a (next, t, r) i (b, h, k) =
     ]
 
 -- of the same texts come the same names
-same_way : (base : List Patch) (texts others : List (List ℕ)) (policy other_policy : Policy) (vs ws : List Verdict) (one other : List Patch) → ((text : List ℕ) → Contains texts text → Contains others text) →
+pub same_way : (base : List Patch) (texts others : List (List ℕ)) (policy other_policy : Policy) (vs ws : List Verdict) (one other : List Patch) → ((text : List ℕ) → Contains texts text → Contains others text) →
     TakesEach base texts policy vs one → TakesEach base others other_policy ws other → AllByRecursion IsAccepted vs → AllByRecursion IsAccepted ws → (i : PatchInfo) → Holds one i → Holds other i
 same_way base texts others policy other_policy vs ws one other f h k a b i c = elim (each_only base texts policy vs one a h i c) [
   | inl d ↦ each_kept base others other_policy ws other b k i d

@@ -1,6 +1,9 @@
 -- What comes of one base has one tree where the names are the same.
 use Rattle.std.proofs.Common.{◌≡◌, ℕ, List, [], ◌∷◌, ◌++◌, sym, ap, ◌∙◌}
+use Rattle.std.specs.FinMap as map
 use Rattle.dm_tree.specs.Paths.{Path}
+use Rattle.dm_tree.specs.Trees as trees
+use Rattle.dm_tree.proofs.Trees.{path_total, path_same}
 use Rattle.dm_prim.specs.InTurn.{done, step}
 use Rattle.dm_prim.specs.Primitives.{Prim, Applies, LawfulMap, LeadsAll}
 use Rattle.dm_prim.proofs.Single.{applies_one, same_map}
@@ -8,11 +11,11 @@ use Rattle.dm_named.specs.Patches.{Patch}
 use Rattle.dm_bundle.specs.Bundles.{Contents}
 use Rattle.dm_repo.specs.declared.policy.Policy.{Policy}
 use Rattle.dm_repo.specs.Folds.{PatchLeads, IsRoot, Fold}
-use Rattle.dm_repo.specs.Repositories.{IsRepo}
+use Rattle.dm_repo.specs.Repositories.{IsRepo, IsTreeOf}
 use Rattle.dm_repo.specs.Weighing.{IsMergeOf}
 use Rattle.dm_prim.specs.InTurn.{InTurn}
 use Rattle.dm_repo.proofs.Keeps.{merge_is_repo}
-use Rattle.dm_repo.proofs.Trees.{tree_same}
+use Rattle.dm_repo.proofs.Trees.{tree_same, grows_fold}
 use Rattle.dm_scratch.specs.declared.verdict.Verdict.{Verdict}
 use Rattle.dm_scratch.specs.declared.verdict.Verdict.TheVariants.{Taken, TakenSome, NothingNew, Malformed, Refused}
 use Rattle.dm_scratch.specs.Taking.{TakesBundle, bundle, malformed, no_memory}
@@ -88,3 +91,7 @@ module _ (I : Type 0) where
   pub meanings_converge : laws.MeaningsConverge I
   meanings_converge m once pool base tree ok builds all one other h k =
       names_decide_tree m once one other (comes_meant m once pool base tree ok builds all h) (comes_meant m once pool base tree ok builds all k)
+
+-- patches whose folds are one make one tree
+pub same_trees : (xs ys : List Patch) → ((s t : LawfulMap) → Fold xs s → Fold ys t → s ≡ t) → (s t : trees.Tree) → IsTreeOf xs s → IsTreeOf ys t → s ≡ t
+same_trees xs ys f s t (u, e, g) (v, d, h) = let same : u ≡ v = f u v (grows_fold xs u g) (grows_fold ys v h) in map.same_map path_total path_same s t (λ p. ap (λ m. m p) (sym e ∙ ap (λ (z : LawfulMap). z.map) same ∙ d))

@@ -1,13 +1,14 @@
 //! What tests ask. A yes is proved to be one, so that no test passes for want of asking.
-ghost use Rattle.std.specs.Prelude.{◌≡◌, ◌<◌, ◌++◌, [], ◌∷◌, IsTrue};
+ghost use Rattle.std.specs.Prelude.{◌≡◌, ◌++◌, [], ◌∷◌, IsTrue, IfSome};
 ghost use Rattle.dm_mail.specs.Ends.{outlet_mails};
 ghost use Rattle.dm_mail.specs.declared.mail.Mail.{Mail};
-ghost use Rattle.dm_mirror.specs.Plans.{plan_policies, plan_starts, plan_texts};
-ghost use Rattle.dm_mirror.specs.Runs.{IsRunOf, mirror_count};
+ghost use Rattle.dm_mirror.specs.Plans.{plan_bound, plan_policies, plan_starts, plan_texts};
+ghost use Rattle.dm_mirror.specs.Report.{IsReport};
+ghost use Rattle.dm_mirror.specs.Runs.{IsRunOf};
 ghost use Rattle.dm_mirror.specs.declared.outcome.Outcome.{Outcome};
 
 use dm_mail::{Outlet, Text, Why};
-use dm_mirror::{Gate, Plan, run};
+use dm_mirror::{Gate, Plan, report_text, run};
 use std::alloc::{AllocError, Global};
 use std::sync::Wait;
 use std::thread::Threads;
@@ -40,17 +41,20 @@ pub(crate) fn is_sent_back<R: Wait>(rt: &R, alloc: Global, outlet: &mut Outlet) 
     }
 }
 
-/// How many mirrors took, in a run whose gate this is.
-pub(crate) fn took<R: Threads + Wait + Sync, G: Gate + Sync>(
+/// The report of a run whose gate this is. `None` where it wasn't run, or memory ran out.
+pub(crate) fn report_of<R: Threads + Wait + Sync, G: Gate + Sync>(
     rt: &R,
     alloc: Global,
     plan: Plan,
     gate: &G,
-) -> usize
-    ensures { 0 < result → (o : Outcome) × IsRunOf (plan_texts plan) (plan_starts plan) (plan_policies plan) o × (result ≡ mirror_count o) }
+) -> Option<Vec<u8>>
+    ensures { IfSome result (λ text. (o : Outcome) × IsRunOf (plan_texts plan) (plan_starts plan) (plan_policies plan) (plan_bound plan) o × IsReport o text.items) }
 {
     match run(rt, alloc, plan, gate) {
-        Ok(outcome) => outcome.mirrors(),
-        Err(_) => 0,
+        Ok(outcome) => match report_text(alloc, &outcome) {
+            Ok(text) => Some(text),
+            Err(_) => None,
+        },
+        Err(_) => None,
     }
 }

@@ -2,9 +2,32 @@
 //! isn't sent, is in contracts.
 
 use crate::asking::{is_sent_back, sends};
-use dm_mail::{Inlet, MOST_BUNDLES, MailFault, Outlet, open};
+use dm_mail::{Body, Inlet, MOST_BUNDLES, MailFault, Outlet, open};
 use std::alloc::Global;
 use std::sync::Wait;
+
+/// Why there is no mail of so many posters, of which so many may wait.
+fn fault_of<R: Wait>(rt: &R, alloc: Global, posters: usize, bound: usize) -> Option<MailFault> {
+    open(rt, alloc, posters, bound).err()
+}
+
+#[test]
+fn mail_of_one_to_eight_posters_is_opened(rt: HostRuntime) {
+    let posters = Some(MailFault::BadPosters);
+    let bound = Some(MailFault::BadBound);
+    assert!(rt; fault_of(&rt, rt.alloc(), 0, 1) == posters, "no poster");
+    assert!(rt; fault_of(&rt, rt.alloc(), 1, 1).is_none(), "one poster");
+    assert!(rt; fault_of(&rt, rt.alloc(), 8, 64).is_none(), "eight posters");
+    assert!(rt; fault_of(&rt, rt.alloc(), 9, 1) == posters, "nine posters");
+    assert!(rt;
+        fault_of(&rt, rt.alloc(), 2, 0) == bound,
+        "no mail may wait"
+    );
+    assert!(rt;
+        fault_of(&rt, rt.alloc(), 2, 65) == bound,
+        "65 mails may wait"
+    );
+}
 
 /// Opens the mail of one poster.
 fn open_one<R: Wait>(
@@ -93,4 +116,58 @@ fn outlets_that_are_all_gone_cut_the_mail(rt: HostRuntime) {
         None => false,
     };
     assert!(rt; is_cut, "what the second sends, and then no mail");
+}
+
+/// Whether the next mail is of this poster and has this number, and whether it is a mark.
+fn takes<R: Wait>(rt: &R, inlet: &mut Inlet, poster: usize, number: usize, is_mark: bool) -> bool {
+    match inlet.take(rt) {
+        Ok(mail) => {
+            mail.poster == poster
+                && mail.number == number
+                && matches!(mail.body, Body::Close) == is_mark
+        }
+        Err(_) => false,
+    }
+}
+
+/// Whether a bundle of each of two posters comes, then their marks, and then no mail.
+fn come_in_turn<R: Wait>(rt: &R, inlet: &mut Inlet) -> bool {
+    takes(rt, inlet, 0, 0, false)
+        && takes(rt, inlet, 1, 0, false)
+        && takes(rt, inlet, 0, 1, true)
+        && takes(rt, inlet, 1, 1, true)
+        && inlet.take(rt).is_err()
+}
+
+/// Whether what two posters send in turn, a bundle each and then their marks, comes so.
+fn come_as_sent<R: Wait>(
+    rt: &R,
+    alloc: Global,
+    first: Outlet,
+    second: Outlet,
+    inlet: &mut Inlet,
+) -> bool {
+    let mut first = first;
+    let mut second = second;
+    if !sends(rt, alloc, &mut first) || !sends(rt, alloc, &mut second) {
+        return false;
+    }
+    match (first.close(rt), second.close(rt)) {
+        (Ok(_one), Ok(_other)) => come_in_turn(rt, inlet),
+        _ => false,
+    }
+}
+
+#[test]
+fn two_posters_send_in_turn(rt: HostRuntime) {
+    let Ok((mut outlets, mut inlet)) = open(&rt, rt.alloc(), 2, 4) else {
+        return assert!(rt; false, "two outlets and an inlet");
+    };
+    let second = outlets.pop();
+    let first = outlets.pop();
+    let came = match (first, second) {
+        (Some(first), Some(second)) => come_as_sent(&rt, rt.alloc(), first, second, &mut inlet),
+        _ => false,
+    };
+    assert!(rt; came, "two bundles, two marks, and then no mail");
 }

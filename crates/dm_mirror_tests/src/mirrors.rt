@@ -1,15 +1,25 @@
-//! What no command shows: that two mirrors run at once, and a flush that fails. What a run prints is in the repository's `tests`.
+//! Runs of plans, by their reports: that two mirrors run at once, each under its own policy; and eight posters with eight mirrors,
+//! whose bundles come in any order.
 
-use crate::asking::took;
-use dm_mirror::{Gate, Plan, WriteFault, write_report};
-use dm_named::Limits;
+use crate::asking::report_of;
+use dm_mirror::{Gate, Open, Plan};
 use dm_repo::Policy;
-use std::io::{ErrorKind, Write};
+use std::alloc::Global;
+use std::sync::Wait;
 use std::sync::atomic::{AtomicUsize, Ordering};
-use std::{io, thread};
+use std::thread;
+use std::thread::Threads;
 
 /// Adds the directory `./d`.
 const ADDS_D: &[u8] = b"New patches:\n\n[a\np**20240101000000] adddir ./d\n\nContext:\n\n";
+
+/// Adds a file in it.
+const ADDS_F: &[u8] =
+    b"New patches:\n\n[b\np**20240101000000] addfile ./d/f\n\nContext:\n\n[a\np**20240101000000] \n";
+
+/// What two mirrors report that took the first, the second, and the first again.
+pub(crate) const REPORT: &[u8] =
+    b"mirror 0\nbundle 0 0 taken 1\nbundle 0 1 taken 1\nbundle 0 2 nothing new\nclosed 0 yes\nclosed 1 yes\npatches 2\ndir ./d\nfile ./d/f 0\nmirror 1\nbundle 0 0 taken 1\nbundle 0 1 taken 1\nbundle 0 2 nothing new\nclosed 0 yes\nclosed 1 yes\npatches 2\ndir ./d\nfile ./d/f 0\nsent 0 0 3 yes\nsent 0 1 3 yes\nsent 1 0 0 yes\nsent 1 1 0 yes\n";
 
 /// How often a gate looks before it gives up.
 const MOST_TURNS: usize = 10_000_000;
@@ -52,54 +62,66 @@ impl Gate for Meeting {
     }
 }
 
+/// Whether this is the report of a run of these posters, with one mirror for each base and policy, where one mail waits.
+fn reports<R: Threads + Wait + Sync, G: Gate + Sync>(
+    rt: &R,
+    alloc: Global,
+    posters: &[&[&[u8]]],
+    bases: &[&[u8]],
+    policies: &[Policy],
+    gate: &G,
+    report: &[u8],
+) -> bool {
+    match Plan::build(alloc, posters, bases, policies, 1) {
+        Ok(plan) => match report_of(rt, alloc, plan, gate) {
+            Some(text) => text.as_slice() == report,
+            None => false,
+        },
+        Err(_) => false,
+    }
+}
+
 #[test]
 fn mirrors_take_side_by_side(rt: HostRuntime) {
     let gate = Meeting {
         raised: [AtomicUsize::new(0), AtomicUsize::new(0)],
         missed: AtomicUsize::new(0),
     };
-    let texts = [ADDS_D];
-    let lists: [&[&[u8]]; 2] = [&texts, &[]];
+    let texts = [ADDS_D, ADDS_F, ADDS_D];
+    let posters: [&[&[u8]]; 2] = [&texts, &[]];
     let bases: [&[u8]; 2] = [b"", b""];
-    let count = match Plan::build(
-        rt.alloc(),
-        &lists,
-        &bases,
-        Limits::STANDARD,
-        &[Policy::Refuse; 2],
-        1,
-    ) {
-        Ok(plan) => took(&rt, rt.alloc(), plan, &gate),
-        Err(_) => 0,
-    };
-    assert!(rt; count == 2, "both took");
+    let policies = [Policy::Refuse; 2];
+    let is_right = reports(&rt, rt.alloc(), &posters, &bases, &policies, &gate, REPORT);
+    assert!(rt; is_right, "both took three bundles");
     assert!(rt; gate.missed.load(Ordering::SeqCst) == 0, "both mirrors met");
 }
 
-/// Takes one byte at a time, and its flush fails.
-#[derive(Drop)]
-struct Unflushed {
-    taken: usize,
-}
+/// A file of five lines, and one more above the second.
+const BASE: &[u8] =
+    b"New patches:\n\n[a\np**20240101000000] {\naddfile ./f\nhunk ./f 1\n+1\n+2\n+3\n+4\n+5\n}\n[m\np**20240101000000] hunk ./f 2\n+z\n\nContext:\n\n";
 
-impl Write for Unflushed {
-    fn write(&mut self, buf: &[u8]) -> io::Result<usize> {
-        if buf.is_empty() {
-            return Ok(0);
-        }
-        self.taken = self.taken.saturating_add(1);
-        Ok(1)
-    }
+/// A patch that conflicts with it, and one that adds a directory.
+const CONFLICTS_IN_PART: &[u8] =
+    b"New patches:\n\n[n\np**20240101000000] hunk ./f 2\n-2\n+two\n[o\np**20240101000000] adddir ./d\n\nContext:\n\n[a\np**20240101000000] \n";
 
-    fn flush(&mut self) -> io::Result<()> {
-        Err(io::Error::from(ErrorKind::Interrupted))
-    }
-}
+/// What the two mirrors report, of which the second skips.
+const SKIPPED_AT_ONE: &[u8] =
+    b"mirror 0\nbundle 0 0 refused conflicts 0 1\nclosed 0 yes\nclosed 1 yes\npatches 2\nfile ./f 12\nmirror 1\nbundle 0 0 taken 1 skipped 1\nclosed 0 yes\nclosed 1 yes\npatches 3\ndir ./d\nfile ./f 12\nsent 0 0 1 yes\nsent 0 1 1 yes\nsent 1 0 0 yes\nsent 1 1 0 yes\n";
 
 #[test]
-fn a_flush_that_fails(rt: HostRuntime) {
-    let mut writer = Unflushed { taken: 0 };
-    let answer = write_report(b"mirror 0\n", &mut writer);
-    assert!(rt; answer == Err(WriteFault::Device), "it fails");
-    assert!(rt; writer.taken == 9, "all was written");
+fn each_mirror_has_its_own_policy(rt: HostRuntime) {
+    let texts = [CONFLICTS_IN_PART];
+    let posters: [&[&[u8]]; 2] = [&texts, &[]];
+    let bases: [&[u8]; 2] = [BASE, BASE];
+    let policies = [Policy::Refuse, Policy::Skip];
+    let is_right = reports(
+        &rt,
+        rt.alloc(),
+        &posters,
+        &bases,
+        &policies,
+        &Open,
+        SKIPPED_AT_ONE,
+    );
+    assert!(rt; is_right, "the first refuses, the second skips");
 }
