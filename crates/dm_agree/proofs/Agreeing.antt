@@ -1,5 +1,5 @@
 -- A mirror of a run has taken its texts in turn, and they are those that the posters sent.
-use Rattle.std.proofs.Common.{◌≡◌, ◌↔◌, ◌<◌, ℕ, zero, suc, List, [], ◌∷◌, Option, Some, None, slice_get, length, inl, inr, ◌++◌, ap, sym, ◌∙◌, subst, arith}
+use Rattle.std.proofs.Common.{◌≡◌, ◌↔◌, ℕ, zero, suc, List, [], ◌∷◌, Option, Some, None, slice_get, length, inl, inr, ◌++◌, ap, sym, subst, arith}
 use Rattle.std.specs.List.{All, Contains, AllByRecursion}
 use Rattle.std.proofs.lemmas.List.Elements.{Contains-append_cases}
 use Rattle.std.proofs.lemmas.Option.{slice_get_within, slice_get-get_or}
@@ -11,7 +11,7 @@ use Rattle.dm_repo.specs.Repositories.{Repository, IsRepo}
 use Rattle.dm_repo.proofs.Keeps.{merge_is_repo}
 use Rattle.dm_repo.proofs.Trees.{empty_repo}
 use Rattle.dm_scratch.specs.declared.verdict.Verdict.{Verdict}
-use Rattle.dm_scratch.specs.Taking.{TakesEach, TakesWithin, IsAccepted, bundle, malformed, no_memory}
+use Rattle.dm_scratch.specs.Taking.{TakesWithin, IsAccepted, bundle, malformed, no_memory}
 use Rattle.dm_mirror.specs.declared.mirror.Mirror.{Mirror}
 use Rattle.dm_mirror.specs.declared.outcome.Outcome.{Outcome}
 use Rattle.dm_mirror.specs.PlainFolds.{bundle_texts, verdicts_given}

@@ -1,6 +1,5 @@
 -- Repositories of the same names with different trees.
-use Rattle.std.proofs.Common.{◌≡◌, ◌+◌, ◌<◌, ◌≢◌, ◌⊎◌, inl, inr, rules, ℕ, zero, suc, List, [], ◌∷◌, Some, slice_get, length, map, refl, ap, ap₂, subst, sym, ◌∙◌, arith}
-use Rattle.dm_info.specs.PatchInfo.{PatchInfo}
+use Rattle.std.proofs.Common.{◌≡◌, ◌+◌, ◌<◌, ◌≢◌, ◌⊎◌, inl, inr, rules, ℕ, zero, suc, List, [], ◌∷◌, Some, slice_get, length, refl, ap, ap₂, sym, ◌∙◌, arith}
 use Rattle.dm_tree.specs.Trees as trees
 use Rattle.dm_named.specs.Patches.{Patch}
 use Rattle.dm_bundle.specs.Patches.{SameMembers, infos_of}

@@ -1,4 +1,4 @@
-use Rattle.std.proofs.Common.{refl, map, List, ℕ, [], ◌++◌}
+use Rattle.std.proofs.Common.{refl, map, [], ◌++◌}
 use Rattle.std.proofs.lemmas.List.Elements.{Contains-append_left, Contains-append_right}
 use Rattle.dm_repo.specs.declared.policy.Policy.TheVariants.{Refuse}
 use Rattle.dm_converge.specs.Pools.{as_it_was}
