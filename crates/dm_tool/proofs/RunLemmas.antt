@@ -2,9 +2,12 @@
 use Rattle.std.proofs.Common.{◌≡◌, ℕ, suc, ◌+◌, List, [], ◌∷◌, ◌++◌, length, map, take, slice_index_or, length-take-le, ◌<◌, sym, ap, ◌∙◌, arith, subst, ◌⊎◌, inl, inr, append_assoc, append-nil}
 use Rattle.std.proofs.lemmas.List.{length-map, map_more}
 use Rattle.dm_named.specs.declared.limits.Limits.{Limits}
+use Rattle.dm_named.specs.Patches.{Patch}
 use Rattle.dm_repo.specs.declared.policy.Policy.{Policy}
+use Rattle.dm_mirror.specs.declared.outcome.Outcome.{Outcome}
 use Rattle.dm_mirror.specs.declared.plan.PlanFault.{PlanFault}
 use Rattle.dm_mirror.specs.Plans.{IsFirstFault}
+use Rattle.dm_mirror.specs.Runs.{IsRunOf}
 use Rattle.dm_tool.specs.declared.fault.ToolFault.{ToolFault}
 use Rattle.dm_tool.specs.declared.fault.ToolFault.TheVariants.{NoMemory, BadPlan}
 use Rattle.dm_tool.specs.Running.{poster_line, posters_text}
@@ -47,3 +50,10 @@ posters_step name out before new xs i d l so_far is =
 pub bad_plan : (limits : Limits) (ts us : List (List (List ℕ))) (bases : List (List ℕ)) (policies : List Policy) (bound : ℕ) (f : PlanFault) (e : ToolFault) → ts ≡ us → IsFirstFault limits ts bases policies bound f → (e ≡ NoMemory) ⊎ (e ≡ BadPlan f) →
     (fault : PlanFault) → e ≡ BadPlan fault → IsFirstFault limits us bases policies bound fault
 bad_plan limits ts us bases policies bound f e same is from = of_plan (IsFirstFault limits us bases policies bound) f e (subst (λ t. IsFirstFault limits t bases policies bound f) same is) from
+
+-- the same run, told by other names for what it is of
+pub run_of : (texts texts' : List (List (List ℕ))) (starts : List (List Patch)) (policies policies' : List Policy) (bound bound' : ℕ) (o : Outcome) →
+    texts ≡ texts' → policies ≡ policies' → bound ≡ bound' → IsRunOf texts starts policies bound o → IsRunOf texts' starts policies' bound' o
+run_of texts texts' starts policies policies' bound bound' o t p b run =
+    subst (λ (x : ℕ). IsRunOf texts' starts policies' x o) b
+    (subst (λ (x : List Policy). IsRunOf texts' starts x bound o) p (subst (λ (x : List (List (List ℕ))). IsRunOf x starts policies bound o) t run))
