@@ -46,32 +46,42 @@ pub record IsStage (format : Format) (checksum text bytes : List ℕ) : Type 0 w
   pub stands : IsBlock format checksum text closing bytes
   pub long : length bytes ≡ filled format (40 + length text) + length closing
 
+abbrev zeros : ℕ → List ℕ
+zeros n = replicate n 0
+
+join : (a b : ℕ) → zeros a ++ zeros b ≡ zeros (a + b)
+join a b = let nil : ℕ = 0 in replicate-append-replicate a b nil
+
+-- zeros in three parts: some, a gate in its unit, and the rest
+gate_and_rest : (u z : ℕ) → 0 ∷ (zeros u ++ zeros z) ≡ zeros (1 + (u + z))
+gate_and_rest u z = ap (λ (l : List ℕ). 0 ∷ l) (join u z) ∙ join 1 (u + z)
+
+stage_of : (format : Format) (checksum text bytes : List ℕ) (k u z : ℕ) → length checksum ≡ 32 → length text < 2 ^ 64 → 1 + u ≡ unit format → k ≡ filling format (40 + length text) + (1 + (u + z)) → bytes ≡ block checksum text ++ replicate k 0 → IsStage format checksum text bytes
+stage_of format checksum text bytes k u z whole fits one enough is =
+    let a : ℕ = filling format (40 + length text) in
+    let closing : List ℕ = 0 ∷ (zeros u ++ zeros z) in
+    let all : zeros k ≡ zeros a ++ closing = ap zeros enough ∙ sym (join a (1 + (u + z))) ∙ ap (λ (l : List ℕ). zeros a ++ l) (sym (gate_and_rest u z)) in
+    let la : length (zeros a) ≡ a = length-replicate a 0 in
+    let lk : length (zeros k) ≡ k = length-replicate k 0 in
+    let lu : length (zeros u) ≡ u = length-replicate u 0 in
+    record {
+      zeros = 1 + (u + z);
+      closing = closing;
+      are = gate_and_rest u z;
+      behind = zeros z;
+      closed = record { fill = zeros u; filled = omega (arith, one, lu); is = refl };
+      stands = record { fits = fits; fill = zeros a; filled = la; is = is ∙ ap (λ (l : List ℕ). block checksum text ++ l) all };
+      long = omega (arith, la, lk, ap length all, length-append (zeros a) closing, ap length is, length-block checksum text (zeros k) whole);
+    }
+
 pub is_stage : (format : Format) (checksum text : List ℕ) (room : ℕ) → length checksum ≡ 32 → 1 ≤ unit format → length text < 2 ^ 64 → IsStage format checksum text (staged format checksum text room) × (room ≤ length (staged format checksum text room))
 is_stage format checksum text room whole some fits =
-    let n = 40 + length text in
-    let a = filling format n in
-    let u = unit format - 1 in
-    let k = max (filled format n + unit format) room - n in
-    let z = k - a - unit format in
-    let zeros = 1 + (u + z) in
-    let enough : a + zeros ≡ k = omega arith in
-    let parts : replicate {A = ℕ} a 0 ++ replicate zeros 0 ≡ replicate k 0 = replicate-append-replicate a zeros 0 ∙ ap (λ (i : ℕ). replicate i 0) enough in
-    let gate : replicate {A = ℕ} zeros 0 ≡ 0 ∷ (replicate u 0 ++ replicate z 0) =
-    sym (replicate-append-replicate 1 (u + z) 0) ∙ ap (λ (l : List ℕ). 0 ∷ l) (sym (replicate-append-replicate u z 0)) in
-    let long = length-block checksum text (replicate k 0) whole in
-    let lk : length (replicate {A = ℕ} k 0) ≡ k = length-replicate k 0 in
-    let lz : length (replicate {A = ℕ} zeros 0) ≡ zeros = length-replicate zeros 0 in
-    let lu : length (replicate {A = ℕ} u 0) ≡ u = length-replicate u 0 in (
-      record {
-        zeros = zeros;
-        closing = replicate zeros 0;
-        are = refl;
-        behind = replicate z 0;
-        closed = record { fill = replicate u 0; filled = omega (arith, some, lu); is = gate };
-        stands = record { fits = fits; fill = replicate a 0; filled = length-replicate a 0; is = ap (λ (l : List ℕ). block checksum text ++ l) (sym parts) };
-        long = omega (arith, enough, long, lk, lz);
-      },
-      omega (arith, long, lk),
+    let n : ℕ = 40 + length text in
+    let k : ℕ = max (filled format n + unit format) room - n in
+    let u : ℕ = unit format - 1 in
+    let lk : length (zeros k) ≡ k = length-replicate k 0 in (
+      stage_of format checksum text (staged format checksum text room) k u (k - filling format n - unit format) whole fits (omega arith) (omega arith) refl,
+      omega (arith, length-block checksum text (zeros k) whole, lk),
     )
 
 begins_long : (format : Format) (file : List ℕ) (texts : List (List ℕ)) (rest : List ℕ) → Begins format file texts rest → length rest ≤ length file
