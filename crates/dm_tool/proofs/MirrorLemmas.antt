@@ -1,5 +1,5 @@
 -- What was delivered, told with less of the texts that came.
-use Rattle.std.proofs.Common.{◌≡◌, ◌+◌, ◌↔◌, ℕ, List, length, Option, Bool, All, IsTrue, arith}
+use Rattle.std.proofs.Common.{◌≡◌, ◌+◌, ◌↔◌, ℕ, List, Bool, All, IsTrue, arith}
 use Rattle.dm_repo.specs.declared.policy.Policy.{Policy}
 use Rattle.dm_store.specs.declared.store.Store.{Store}
 use Rattle.dm_deliver.specs.declared.hash_rule.HashRule.{HashRule}

@@ -2,7 +2,6 @@
 use Rattle.std.specs.Prelude.{◌≡◌, ◌⊎◌, ℕ, List, All}
 use Rattle.dm_named.specs.Patches.{Patch}
 use Rattle.dm_repo.specs.declared.policy.Policy.{Policy}
-use Rattle.dm_store.specs.declared.store.Store.{Store}
 use Rattle.dm_deliver.specs.declared.answers.Answer.{Answer}
 use Rattle.dm_deliver.specs.declared.hash_rule.HashRule.{HashRule}
 use Rattle.dm_deliver.specs.Answering.{AnswersEach, IsAcceptedAnswer}

@@ -1,5 +1,4 @@
-use Rattle.std.proofs.Common.{◌≡◌, ◌⊎◌, All, ℕ, inl, inr, refl, sym, subst, true≢false, ◌∙◌}
-use Rattle.dm_deliver.specs.Answering.{IsAcceptedAnswer}
+use Rattle.std.proofs.Common.{inl, inr, sym, true≢false, ◌∙◌}
 use Rattle.dm_tool.proofs.delivering.take_and_show.Goals as goal
 use Rattle.dm_tool.proofs.delivering.take_and_show.Goals.{then-all_accepted, else-all_accepted}
 
