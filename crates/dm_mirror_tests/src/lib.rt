@@ -14,4 +14,6 @@ mod mirrors;
 #[cfg(test)]
 mod plans;
 #[cfg(test)]
+mod races;
+#[cfg(test)]
 mod reports;
