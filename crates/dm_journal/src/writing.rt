@@ -54,7 +54,11 @@ pub fn whole(alloc: Global, format: Format, texts: &[&[u8]]) -> Result<(Vec<u8>,
     }
 }
 
-fn write_whole(alloc: Global, format: Format, texts: &[&[u8]]) -> Result<(Vec<u8>, Link), WriteError>
+fn write_whole(
+    alloc: Global,
+    format: Format,
+    texts: &[&[u8]],
+) -> Result<(Vec<u8>, Link), WriteError>
     ensures texts { IfOk result (λ r. IsWholeFile format r.0.items (map (λ text. text.now) texts.now) (link_bytes r.1)) }
     ensures err { IfErr result (λ e. (e ≡ WritingDevice Memory) ⊎ (e ≡ TooLong)) }
     ensures too_long { IsErrOf result TooLong → Any IsTooLong (map (λ text. text.now) texts.now) }

@@ -74,8 +74,8 @@ loop-text-preserved g c =
       | else-all_accepted w ↦ inr (w.if-all_accepted.false, w.all_accepted-is)
     ] in
     let more = one_more d.moment d.left_since (λ (texts : List (List ℕ)). g.S.Source.gave source texts c.loop-text.source) (λ (texts : List (List ℕ)). g.S.Source.gave source texts c.next_text.new.self)
-          c.args.policy c.args.rule c.args.store.now c.loop-text.store c.answer.new.store (output g.W.Write.contents c.args.writer.now) (output g.W.Write.contents c.loop-text.writer) (output g.W.Write.contents c.answer.new.writer)
-          c.loop-text.all_accepted c.if-all_accepted.all_accepted so_far text v came answered.answers answered.line answered.either both in
+    c.args.policy c.args.rule c.args.store.now c.loop-text.store c.answer.new.store (output g.W.Write.contents c.args.writer.now) (output g.W.Write.contents c.loop-text.writer) (output g.W.Write.contents c.answer.new.writer)
+    c.loop-text.all_accepted c.if-all_accepted.all_accepted so_far text v came answered.answers answered.line answered.either both in
     let stored = c.in_ok-may_settle-in-Ok-Some.ensures.stored in (
       settled d.moment d.left_since (λ (texts : List (List ℕ)). g.S.Source.gave source texts c.next_text.new.self)
           c.args.policy c.args.rule c.args.store.now c.answer.new.store c.settle.new.store (output g.W.Write.contents c.args.writer.now) (output g.W.Write.contents c.answer.new.writer)
@@ -101,8 +101,8 @@ returns-in_err-may_settle-in-Ok-Some-clause-delivers_until g c =
       | else-all_accepted w ↦ inr (w.if-all_accepted.false, w.all_accepted-is)
     ] in
     let more = one_more d.moment d.left_since (λ (texts : List (List ℕ)). g.S.Source.gave source texts c.loop-text.source) (λ (texts : List (List ℕ)). g.S.Source.gave source texts c.next_text.new.self)
-          c.args.policy c.args.rule c.args.store.now c.loop-text.store c.answer.new.store (output g.W.Write.contents c.args.writer.now) (output g.W.Write.contents c.loop-text.writer) (output g.W.Write.contents c.answer.new.writer)
-          c.loop-text.all_accepted c.if-all_accepted.all_accepted so_far text v came answered.answers answered.line answered.either both in
+    c.args.policy c.args.rule c.args.store.now c.loop-text.store c.answer.new.store (output g.W.Write.contents c.args.writer.now) (output g.W.Write.contents c.loop-text.writer) (output g.W.Write.contents c.answer.new.writer)
+    c.loop-text.all_accepted c.if-all_accepted.all_accepted so_far text v came answered.answers answered.line answered.either both in
     let q = err_from_is_err_and c.from_residual-in_err-may_settle-in-Ok-Some.result c.from_residual-in_err-may_settle-in-Ok-Some.ensures.1 in
     rw (q.1, q.2) (checkpoint_failed d.moment d.left_since d.faults (λ (texts : List (List ℕ)). g.S.Source.gave source texts c.next_text.new.self) c.args.policy c.args.rule
     c.in_err-may_settle-in-Ok-Some.field-0.0 c.args.store.now c.answer.new.store c.settle.new.store (output g.W.Write.contents c.args.writer.now) (output g.W.Write.contents c.answer.new.writer)
@@ -137,13 +137,13 @@ returns-in_err-may_settle-in-Ok-Some-clause-any_moment g c =
       | else-all_accepted w ↦ inr (w.if-all_accepted.false, w.all_accepted-is)
     ] in
     let more = one_more d.moment d.left_since (λ (texts : List (List ℕ)). g.S.Source.gave source texts c.loop-text.source) (λ (texts : List (List ℕ)). g.S.Source.gave source texts c.next_text.new.self)
-          c.args.policy c.args.rule c.args.store.now c.loop-text.store c.answer.new.store (output g.W.Write.contents c.args.writer.now) (output g.W.Write.contents c.loop-text.writer) (output g.W.Write.contents c.answer.new.writer)
-          c.loop-text.all_accepted c.if-all_accepted.all_accepted so_far text v came answered.answers answered.line answered.either both in
+    c.args.policy c.args.rule c.args.store.now c.loop-text.store c.answer.new.store (output g.W.Write.contents c.args.writer.now) (output g.W.Write.contents c.loop-text.writer) (output g.W.Write.contents c.answer.new.writer)
+    c.loop-text.all_accepted c.if-all_accepted.all_accepted so_far text v came answered.answers answered.line answered.either both in
     keeps_some d.moment d.left_since (λ (texts : List (List ℕ)). g.S.Source.gave source texts c.next_text.new.self)
     c.args.policy c.args.rule c.args.store.now c.settle.new.store (output g.W.Write.contents c.args.writer.now) (output g.W.Write.contents c.answer.new.writer)
     (settled d.moment d.left_since (λ (texts : List (List ℕ)). g.S.Source.gave source texts c.next_text.new.self)
-          c.args.policy c.args.rule c.args.store.now c.answer.new.store c.settle.new.store (output g.W.Write.contents c.args.writer.now) (output g.W.Write.contents c.answer.new.writer)
-          c.if-all_accepted.all_accepted more c.settle.ensures.same c.settle.ensures.any_moment).0
+    c.args.policy c.args.rule c.args.store.now c.answer.new.store c.settle.new.store (output g.W.Write.contents c.args.writer.now) (output g.W.Write.contents c.answer.new.writer)
+    c.if-all_accepted.all_accepted more c.settle.ensures.same c.settle.ensures.any_moment).0
 
 pub returns-in-Ok-None-clause-delivers : goal.returns-in-Ok-None-clause-delivers
 returns-in-Ok-None-clause-delivers g c =
