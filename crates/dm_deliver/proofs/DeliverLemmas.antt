@@ -23,7 +23,7 @@ use Rattle.dm_deliver.specs.declared.fault.AnswerError.{AnswerError}
 use Rattle.dm_deliver.specs.declared.fault.AnswerError.TheVariants.{Store as OfStore}
 use Rattle.dm_deliver.specs.declared.hash_rule.HashRule.{HashRule}
 use Rattle.dm_deliver.specs.Answering.{answer_line, Answers, AnswersEach, IsAcceptedAnswer, KeepsEither, KeepsAnswered, LeavesUnanswered}
-use Rattle.dm_deliver.specs.Delivering.{lines_of, KeepsFirst, KeepsSome, Delivers, DeliversAll, DeliversButLast}
+use Rattle.dm_deliver.specs.Delivering.{lines_of, KeepsFirst, KeepsSome, Delivers, DeliversAllBut, DeliversButLast}
 use Rattle.dm_deliver.specs.Outputs.{Output, Puts, PutsEach}
 use Rattle.dm_deliver.proofs.AnswerLemmas.{takes_of_entry}
 
@@ -236,17 +236,27 @@ module _ {D : Type 0} (moment : D → ℕ) (left_since : D → ℕ → List ℕ 
     full = full;
   }
 
-  -- all are answered, and a checkpoint failed
-  pub checkpoint_failed : (faults : D → ℕ) (Gave : List (List ℕ) → Type 0) (policy : Policy) (rule : HashRule) (error : WriteError) (old mid new : Store D) (before now : Output)
-      (d : Delivers moment left_since Gave policy rule old mid before now) → new.repo ≡ mid.repo →
+  -- all but the last are answered, and a checkpoint failed
+  pub checkpoint_failed : (faults : D → ℕ) (Gave Gives : List (List ℕ) → Type 0) (policy : Policy) (rule : HashRule) (error : WriteError) (old mid new : Store D) (before now : Output)
+      (d : Delivers moment left_since Gave policy rule old mid before now) (text : List ℕ) → Gives (d.texts ++ text ∷ []) → new.repo ≡ mid.repo →
       LeavesOnly moment left_since mid.journal.device new.journal.device (λ file. KeepsRepo file mid.repo.patches) →
       (IsFailure error → faults mid.journal.device < faults new.journal.device) → (error ≢ TooLong) × (error ≢ Full) →
-      DeliversAll moment left_since faults Gave policy rule error old new before now
-  checkpoint_failed faults Gave policy rule error old mid new before now d same run failed kind = record {
+      DeliversAllBut moment left_since faults Gives policy rule error old new before now
+  checkpoint_failed faults Gave Gives policy rule error old mid new before now d text came same run failed kind = record {
+    last = text;
     mid = mid;
-    delivered = d;
+    delivered = record { texts = d.texts; answers = d.answers; came = came; takes = d.takes; lines = d.lines; flushed = d.flushed; any_moment = d.any_moment };
     same = same;
     any_moment = run;
     failed = failed;
     kind = kind;
   }
+
+  -- a crash by then leaves what some of them leave
+  pub checkpoint_keeps_some : (Gave Gives : List (List ℕ) → Type 0) (policy : Policy) (rule : HashRule) (old mid new : Store D) (before now : Output)
+      (d : Delivers moment left_since Gave policy rule old mid before now) (text : List ℕ) → Gives (d.texts ++ text ∷ []) →
+      LeavesOnly moment left_since mid.journal.device new.journal.device (λ file. KeepsRepo file mid.repo.patches) →
+      LeavesOnly moment left_since old.journal.device new.journal.device (KeepsSome Gives old.repo.patches policy rule)
+  checkpoint_keeps_some Gave Gives policy rule old mid new before now d text came run =
+      unanswered_keeps_some Gave Gives policy rule old mid new before now d text came
+      (weakened moment left_since mid.journal.device new.journal.device _ _ (λ c keeps. inl keeps) run)

@@ -60,11 +60,13 @@ pub record DeliversButLast {D : Type 0} (seen : D → List ℕ) (moment : D → 
   pub not_too_long : error ≡ OfStore TooLong → ⊥
   pub full : error ≡ OfStore Full → 2 ^ 62 < length (seen mid.journal.device)
 
--- All texts that came were delivered, and then a checkpoint failed, which leaves the repository as it is: why, by the store as it was before it.
-pub record DeliversAll {D : Type 0} (moment : D → ℕ) (left_since : D → ℕ → List ℕ → Type 0) (faults : D → ℕ) (Gave : List (List ℕ) → Type 0) (policy : Policy)
+-- One text more came after those that were delivered, and isn't taken, since a checkpoint failed before it, which leaves the repository as it is: why, by
+-- the store as it was before that.
+pub record DeliversAllBut {D : Type 0} (moment : D → ℕ) (left_since : D → ℕ → List ℕ → Type 0) (faults : D → ℕ) (Gave : List (List ℕ) → Type 0) (policy : Policy)
     (rule : HashRule) (error : WriteError) (old new : Store D) (before now : Output) : Type 0 where
+  pub last : List ℕ
   pub mid : Store D
-  pub delivered : Delivers moment left_since Gave policy rule old mid before now
+  pub delivered : Delivers moment left_since (λ texts. Gave (texts ++ last ∷ [])) policy rule old mid before now
   pub same : new.repo ≡ mid.repo
   pub any_moment : LeavesOnly moment left_since mid.journal.device new.journal.device (λ file. KeepsRepo file mid.repo.patches)
   pub failed : IsFailure error → faults mid.journal.device < faults new.journal.device
@@ -74,7 +76,7 @@ pub record DeliversAll {D : Type 0} (moment : D → ℕ) (left_since : D → ℕ
 abbrev pub DeliversUntil : {E D : Type 0} → (D → List ℕ) → (D → ℕ) → (D → ℕ → List ℕ → Type 0) → (D → ℕ) → (List (List ℕ) → Type 0) → Policy →
     HashRule → DeliverError E → Store D → Store D → Output → Output → Type 0
 DeliversUntil seen moment left_since faults Gave policy rule (Source why) old new before now = Delivers moment left_since Gave policy rule old new before now
-DeliversUntil seen moment left_since faults Gave policy rule (Checkpoint why) old new before now = DeliversAll moment left_since faults Gave policy rule why old new before now
+DeliversUntil seen moment left_since faults Gave policy rule (Checkpoint why) old new before now = DeliversAllBut moment left_since faults Gave policy rule why old new before now
 DeliversUntil seen moment left_since faults Gave policy rule (Answer why) old new before now = DeliversButLast seen moment left_since faults Gave policy rule why old new before now
 
 -- the error is the store's own

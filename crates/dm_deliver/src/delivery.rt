@@ -130,7 +130,8 @@ fn settle<D: Device>(alloc: Global, store: &mut Store<D>, may: bool) -> Result<b
 /// Takes the texts of a source into a store, in turn, and answers each by its line once it stands on the disk. A bundle that is
 /// refused is answered, and the next is taken all the same. An observer looks on. Returns whether all were accepted.
 ///
-/// Where a checkpoint is worth its while, it makes one after the answer. Where its new file can't be made, it goes on without.
+/// Where a checkpoint is worth its while, it makes one before the next text is taken. Where its new file can't be made, it goes on
+/// without.
 ///
 /// It stops at the first error. What was answered until then stands; after [`AnswerError::Store`] and
 /// [`DeliverError::Checkpoint`] open the file again.
@@ -169,12 +170,12 @@ pub fn deliver<D: Device, S: Source, O: Observer, W: Write>(
     loop {
         match source.next_text() {
             Ok(Some(text)) => {
+                may_settle = settle(alloc, store, may_settle)?;
                 let bytes = text.as_slice();
                 observer.before(store.repo(), bytes, policy);
                 let reply = answer(alloc, store, bytes, policy, rule, writer)?;
                 observer.after(store.repo(), bytes, policy, reply);
                 all_accepted = all_accepted && reply.is_accepted();
-                may_settle = settle(alloc, store, may_settle)?;
             }
             Ok(None) => return Ok(all_accepted),
             Err(error) => return Err(DeliverError::Source(error)),

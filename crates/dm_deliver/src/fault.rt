@@ -29,8 +29,8 @@ pub enum DeliverError<E> {
     Source(E),
     /// The last text isn't answered. All before it are.
     Answer(AnswerError),
-    /// All texts that came are answered and stand. The new file of a checkpoint could not take the place of the old one, or nobody
-    /// knows: open the file again.
+    /// The last text isn't taken. All before it are answered and stand. The new file of a checkpoint could not take the place of the
+    /// old one, or nobody knows: open the file again.
     Checkpoint(WriteError),
 }
 
