@@ -61,7 +61,7 @@ returns-in_err-reply-in-Ok-Some-clause-delivers_until g c =
     let source = c.args.source.now in
     let so_far = c.loop-text.invariant.0 in
     let ready = settled d.moment d.left_since (λ (texts : List (List ℕ)). g.S.Source.gave source texts c.loop-text.source) c.args.policy c.args.rule c.args.store.now c.loop-text.store c.settle.new.store (output g.W.Write.contents c.args.writer.now) (output g.W.Write.contents c.loop-text.writer)
-        c.loop-text.all_accepted so_far c.settle.ensures.same c.settle.ensures.any_moment in
+    c.loop-text.all_accepted so_far c.settle.ensures.same c.settle.ensures.any_moment in
     let failed = c.in_err-reply-in-Ok-Some.ensures in
     let text = c.as_slice-bytes.result.now in
     let gives = subst (λ (t : List ℕ). g.S.Source.gave c.loop-text.source (t ∷ []) c.next_text.new.self) (sym c.as_slice-bytes.ensures.value) (rw c.in-Ok-Some.field-0-is at c.in-Ok-Some.ensures.some) in
@@ -91,7 +91,7 @@ returns-in_err-reply-in-Ok-Some-clause-any_moment g c =
     let source = c.args.source.now in
     let so_far = c.loop-text.invariant.0 in
     let ready = settled d.moment d.left_since (λ (texts : List (List ℕ)). g.S.Source.gave source texts c.loop-text.source) c.args.policy c.args.rule c.args.store.now c.loop-text.store c.settle.new.store (output g.W.Write.contents c.args.writer.now) (output g.W.Write.contents c.loop-text.writer)
-        c.loop-text.all_accepted so_far c.settle.ensures.same c.settle.ensures.any_moment in
+    c.loop-text.all_accepted so_far c.settle.ensures.same c.settle.ensures.any_moment in
     let text = c.as_slice-bytes.result.now in
     let gives = subst (λ (t : List ℕ). g.S.Source.gave c.loop-text.source (t ∷ []) c.next_text.new.self) (sym c.as_slice-bytes.ensures.value) (rw c.in-Ok-Some.field-0-is at c.in-Ok-Some.ensures.some) in
     let came = g.met.S.Source.gave_more source c.loop-text.source c.next_text.new.self ready.0.texts (text ∷ []) ready.0.came gives in
@@ -104,7 +104,7 @@ loop-text-preserved g c =
     let source = c.args.source.now in
     let so_far = c.loop-text.invariant.0 in
     let ready = settled d.moment d.left_since (λ (texts : List (List ℕ)). g.S.Source.gave source texts c.loop-text.source) c.args.policy c.args.rule c.args.store.now c.loop-text.store c.settle.new.store (output g.W.Write.contents c.args.writer.now) (output g.W.Write.contents c.loop-text.writer)
-        c.loop-text.all_accepted so_far c.settle.ensures.same c.settle.ensures.any_moment in
+    c.loop-text.all_accepted so_far c.settle.ensures.same c.settle.ensures.any_moment in
     let answered = c.in_ok-reply-in-Ok-Some.ensures in
     let text = c.as_slice-bytes.result.now in
     let gives = subst (λ (t : List ℕ). g.S.Source.gave c.loop-text.source (t ∷ []) c.next_text.new.self) (sym c.as_slice-bytes.ensures.value) (rw c.in-Ok-Some.field-0-is at c.in-Ok-Some.ensures.some) in
