@@ -1,5 +1,5 @@
 -- A journal whose device is untouched.
-use Rattle.std.proofs.Common.{◌≡◌, ℕ, List, sym, subst}
+use Rattle.std.proofs.Common.{ℕ, List, sym, subst}
 use Rattle.dm_journal.specs.Journal.{Closes}
 use Rattle.dm_journal.specs.Reading.{IsEnd}
 use Rattle.dm_journal.specs.Ready.{HasTexts, IsUntouched}
