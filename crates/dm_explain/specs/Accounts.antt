@@ -1,7 +1,13 @@
 -- Which patches a verdict is about: those that stand at its places.
-use Rattle.std.specs.Prelude.{◌≡◌, ◌⊎◌, ◌↔◌, ℕ, ◌-◌, ◌<◌, List, length, slice_get, Option, Some, None, IsTrue, IfSome}
+use Rattle.std.specs.Prelude.{◌≡◌, ◌≢◌, ◌⊎◌, ◌↔◌, ℕ, ◌-◌, ◌<◌, ◌≤◌, List, length, slice_get, Option, Some, None, Err, IsTrue, MatchOption}
+use Rattle.std.specs.declared.cmp.Ordering.TheVariants.{Less}
+use Rattle.std.specs.FinMap as map
 use Rattle.dm_info.specs.PatchInfo.{PatchInfo}
+use Rattle.dm_tree.specs.Changes.{RenameAnswers}
+use Rattle.dm_tree.specs.declared.fault.TreeFault.TheVariants.{TooDeep}
+use Rattle.dm_tree.specs.Limits.{most_names}
 use Rattle.dm_tree.specs.Paths.{Path, forward}
+use Rattle.dm_tree.specs.Trees.{path_cmp}
 use Rattle.dm_prim.specs.Prims.{prim_of}
 use Rattle.dm_prim.specs.Primitives.{Move}
 use Rattle.dm_named.specs.Patches.{Patch}
@@ -17,7 +23,8 @@ use Rattle.dm_repo.specs.declared.overflow.Overflow.{Overflow}
 use Rattle.dm_repo.specs.declared.overflow.Overflow.TheVariants.{Front, Merged}
 use Rattle.dm_repo.specs.declared.policy.Policy.{Policy}
 use Rattle.dm_repo.specs.Misfits.{IsMisfit}
-use Rattle.dm_repo.specs.Overflows.{IsOverflow}
+use Rattle.dm_repo.specs.Overflows.{IsOverflow, MergesTooMany}
+use Rattle.dm_repo.specs.Weighing.{RefusesBundle}
 use Rattle.dm_scratch.specs.declared.verdict.Verdict.{Verdict}
 use Rattle.dm_scratch.specs.declared.verdict.Verdict.TheVariants as verdicts
 use Rattle.dm_explain.specs.declared.account.Clashing.{Clashing}
@@ -71,25 +78,33 @@ abbrev pub overflowing : {Z : Type 0} → List Patch → Contents → Overflow Z
 overflowing repo b (Front m) = held_at repo m.place
 overflowing repo b (Merged m) = new_at b m.place
 
--- the primitive that is told is a move, by which this path gets more than 32 names
+-- the patch that makes a path too deep, its primitive, and the tree that this was applied to
+abbrev pub misfit_of : {Z : Type 0} → Overflow Z → Misfit Z
+misfit_of (Front m) = m
+misfit_of (Merged m) = m
+
+-- the primitive that is told is a move, which the tree refuses since a path would get too many names
+abbrev pub IsMoveTooDeep : {Z : Type 0} → Misfit Z → Type 0
+IsMoveTooDeep m = (from : Path) × (to : Path) × (slice_get m.patch.prims m.prim ≡ Some (Move from to)) × RenameAnswers {T = Unit {0}} (map.get m.tree) from to (Err TooDeep)
+
+-- the primitive that is told is a move, and this is the first path of the tree that gets too many names by it
 pub record IsMovedTooDeep {Z : Type 0} (m : Misfit Z) (path : Path) : Type 0 where
   pub from : Path
   pub to : Path
   pub is_move : slice_get m.patch.prims m.prim ≡ Some (Move from to)
-  pub is_too_deep : 32 < length (forward from to path)
+  pub is_there : map.get m.tree path ≢ None
+  pub is_too_deep : most_names < length (forward from to path)
+  pub is_first : (q : Path) → map.get m.tree q ≢ None → path_cmp q path ≡ Less → length (forward from to q) ≤ most_names
 
--- so it is of the patch that makes a path too deep
-abbrev pub IsTooDeepIn : {Z : Type 0} → Overflow Z → Path → Type 0
-IsTooDeepIn (Front m) path = IsMovedTooDeep m path
-IsTooDeepIn (Merged m) path = IsMovedTooDeep m path
-
--- where a path would get more than 32 names: the patch, its name, and the path
+-- where a path would get too many names: the patch, its name, and the path
 pub record IsDepth (repo : List Patch) (b : Contents) (policy : Policy) (depth : Depth) : Type 0 where
   pub told : IsOverflow repo b policy depth.overflow
   pub named : overflowing repo b depth.overflow ≡ Some depth.name.now
-  pub moved : IfSome depth.path (IsTooDeepIn depth.overflow)
+  pub moved : IsMovedTooDeep (misfit_of depth.overflow) depth.path
 
--- whom a refusal of a bundle is about; nobody is only where no patch stands at a place of it, or it has no place
+-- whom a refusal of a bundle is about; nobody is only where no patch stands at a place of it, or it has no place. A misfit, or the
+-- primitives of a clash, are missing only where weighing the bundle doesn't refuse it so; where a path gets too deep, only where it doesn't, or
+-- too many patches would be merged
 abbrev pub IsAccountOfRefusal : List Patch → Contents → Policy → Refusal → Account → Type 0
 IsAccountOfRefusal repo b policy (refusals.MissingContext c) (MissingContext missing) = AreChosen (λ i. Holds repo i → ⊥) b.context (lent missing.items)
 IsAccountOfRefusal repo b policy (refusals.MissingDependency n d) (MissingDependency name dependency held) =
@@ -99,12 +114,16 @@ IsAccountOfRefusal repo b policy (refusals.ContextDepends h r) (ContextDepends n
 IsAccountOfRefusal repo b policy (refusals.ContextDepends h r) Nobody = (held_at repo h ≡ None) ⊎ (held_at repo r ≡ None)
 IsAccountOfRefusal repo b policy (refusals.HeldDepends h n) (HeldDepends name needed) = (new_at b h ≡ Some name.now) × (new_at b n ≡ Some needed.now)
 IsAccountOfRefusal repo b policy (refusals.HeldDepends h n) Nobody = (new_at b h ≡ None) ⊎ (new_at b n ≡ None)
-IsAccountOfRefusal repo b policy (refusals.DoesNotFit n) (DoesNotFit name misfit) = (new_at b n ≡ Some name.now) × IfSome misfit (IsMisfitAt repo b n)
+IsAccountOfRefusal repo b policy (refusals.DoesNotFit n) (DoesNotFit name misfit) =
+    (new_at b n ≡ Some name.now) × MatchOption misfit (RefusesBundle repo b policy (refusals.DoesNotFit n) → ⊥) (IsMisfitAt repo b n)
 IsAccountOfRefusal repo b policy (refusals.DoesNotFit n) Nobody = new_at b n ≡ None
 IsAccountOfRefusal repo b policy (refusals.Conflicts n h) (Conflicts name held pair) =
-    (new_at b n ≡ Some name.now) × (held_at repo h ≡ Some held.now) × IfSome pair (AreClashing repo b n h)
+    (new_at b n ≡ Some name.now) × (held_at repo h ≡ Some held.now) ×
+    MatchOption pair (RefusesBundle repo b policy (refusals.Conflicts n h) → ⊥) (AreClashing repo b n h)
 IsAccountOfRefusal repo b policy (refusals.Conflicts n h) Nobody = (new_at b n ≡ None) ⊎ (held_at repo h ≡ None)
-IsAccountOfRefusal repo b policy refusals.Full (Full held more depth) = (held ≡ length repo) × AreMissing repo b more × IfSome depth (IsDepth repo b policy)
+IsAccountOfRefusal repo b policy refusals.Full (Full held more depth) =
+    (held ≡ length repo) × AreMissing repo b more ×
+    MatchOption depth (RefusesBundle repo b policy refusals.Full → MergesTooMany repo b policy) (IsDepth repo b policy)
 IsAccountOfRefusal repo b policy refusals.NoMemory Nobody = Unit {0}
 IsAccountOfRefusal repo b policy refusal account = ⊥
 

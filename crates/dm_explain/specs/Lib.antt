@@ -1,4 +1,5 @@
 pub mod Fates
 pub mod Accounts
+pub mod Rows
 pub mod Skips
 pub mod Places

@@ -1,10 +1,12 @@
 //! Which patches a verdict is about.
-ghost use Rattle.std.specs.Prelude.{◌≡◌, ◌↔◌, IsTrue, List, None, Some, slice_get, IfOk, IfSome, MatchOption};
+ghost use Rattle.std.specs.Prelude.{◌≡◌, ◌≢◌, ◌↔◌, ◌<◌, IsTrue, List, None, Some, length, slice_get, IfOk, MatchOption, OnOk};
 ghost use Rattle.dm_named.specs.Patches.{Patch};
 ghost use Rattle.dm_prim.specs.Prims.{prim_of};
 ghost use Rattle.dm_bundle.specs.Bundles.{Contents};
 ghost use Rattle.dm_bundle.specs.Patches.{infos_of};
+ghost use Rattle.dm_repo.specs.Clashes.{IsClash};
 ghost use Rattle.dm_repo.specs.Repositories.{Holds};
+ghost use Rattle.dm_repo.specs.Weighing.{RefusesBundle};
 ghost use Rattle.dm_explain.specs.Fates.{AreChosen, lent};
 ghost use Rattle.dm_explain.specs.Accounts.{AreClashing, IsAccount, IsAccountOfRefusal, IsMisfitAt, IsSorted};
 
@@ -14,7 +16,7 @@ use dm_bundle::Bundle;
 use dm_info::Info;
 use dm_named::Named;
 use dm_prim::Prim;
-use dm_repo::{Misfit, Policy, Refusal, Repo, find_clash, find_misfit};
+use dm_repo::{Clash, Misfit, Policy, Refusal, Repo, find_clash, find_misfit};
 use dm_scratch::Verdict;
 use std::alloc::{AllocError, Global};
 
@@ -30,13 +32,13 @@ pub struct Clashing<'a> {
     pub held: &'a Prim<Global>,
 }
 
-/// Which patches a verdict is about, by name. It prints itself in lines for people.
+/// Which patches a verdict is about, by name, and where they don't go together. It prints itself in lines for people.
 #[derive(Drop)]
 pub enum Account<'a> {
     /// No patch, or a place where none stands.
     Nobody,
     /// How many patches the repository has, and how many of the bundle it hasn't: they are too many together, or a path would have
-    /// too many names. Where that is, unless memory ran out.
+    /// too many names, and where that is.
     Full(usize, usize, Option<Depth<'a>>),
     /// The patches of the context that aren't held, in its order.
     MissingContext(Vec<Name<'a>>),
@@ -46,9 +48,9 @@ pub enum Account<'a> {
     ContextDepends(Name<'a>, Name<'a>),
     /// A new patch that is held, and the new patch that it can't do without.
     HeldDepends(Name<'a>, Name<'a>),
-    /// The new patch that doesn't apply, and where it doesn't, unless memory ran out.
+    /// The new patch that doesn't apply, and where it doesn't.
     DoesNotFit(Name<'a>, Option<Misfit<Global>>),
-    /// A new patch, the held patch that it conflicts with, and their primitives that do, unless memory ran out.
+    /// A new patch, the held patch that it conflicts with, and their primitives that do.
     Conflicts(Name<'a>, Name<'a>, Option<Clashing<'a>>),
     /// What became of each new patch.
     Sorted(Fates<'a>),
@@ -99,21 +101,12 @@ fn new_patch(bundle: &Bundle<Global>, n: usize) -> Option<&Named<Global>>
     bundle.new_patches().get(n)
 }
 
-/// The held patch at a place.
-fn held_patch(repo: &Repo<Global>, h: usize) -> Option<&Named<Global>>
-    ensures { MatchOption result (slice_get repo.now.patches h ≡ None) (λ patch. slice_get repo.now.patches h ≡ Some patch.now) }
-{
-    if h < repo.len() {
-        return Some(repo.patch(h));
-    }
-    None
-}
-
 /// The primitive at a place of a patch.
-fn prim_at(patch: &Named<Global>, place: usize) -> Option<&Prim<Global>>
-    ensures { MatchOption result (slice_get patch.now.prims place ≡ None) (λ prim. slice_get patch.now.prims place ≡ Some (prim_of prim.now)) }
+fn prim_at(patch: &Named<Global>, place: usize) -> &Prim<Global>
+    requires { place < length patch.now.prims }
+    ensures { slice_get patch.now.prims place ≡ Some (prim_of result.now) }
 {
-    patch.prims().get(place)
+    &patch.prims()[place]
 }
 
 /// The dependency that a patch names at a place of its list.
@@ -172,6 +165,36 @@ fn held_depends<'a>(bundle: &'a Bundle<Global>, h: usize, n: usize) -> Account<'
     Account::HeldDepends(patch, needed)
 }
 
+/// A bundle that is refused for one reason isn't refused for another. Where memory ran out nothing is known, and so where the two
+/// are the same; a reason that is found before the step of the other never is.
+pub(crate) fn is_other(why: Refusal, than: Refusal) -> Result<(), AllocError>
+    ensures { OnOk result ((why ≢ Refusal.NoMemory) × (why ≢ than)) }
+{
+    if why == Refusal::NoMemory || why == than {
+        return Err(AllocError);
+    }
+    Ok(())
+}
+
+/// The primitives at the places of a clash.
+fn clashing_prims<'a>(
+    repo: &'a Repo<Global>,
+    bundle: &'a Bundle<Global>,
+    clash: Clash,
+) -> Clashing<'a>
+    requires { IsClash repo.now.patches bundle.now clash }
+    ensures { AreClashing repo.now.patches bundle.now clash.place clash.held result }
+{
+    let Some(new) = new_patch(bundle, clash.place) else {
+        unreachable!();
+    };
+    let held = repo.patch(clash.held);
+    Clashing {
+        new: prim_at(new, clash.prim),
+        held: prim_at(held, clash.held_prim),
+    }
+}
+
 /// The primitives of the new patch of one place and of the held patch of another that can't pass each other.
 fn clash_at<'a>(
     alloc: Global,
@@ -179,21 +202,27 @@ fn clash_at<'a>(
     bundle: &'a Bundle<Global>,
     n: usize,
     h: usize,
-) -> Option<Clashing<'a>>
-    ensures { IfSome result (AreClashing repo.now.patches bundle.now n h) }
+) -> Result<Option<Clashing<'a>>, AllocError>
+    ensures { (policy : Policy) → IfOk result (λ pair. MatchOption pair
+        (RefusesBundle repo.now.patches bundle.now policy (Refusal.Conflicts n h) → ⊥)
+        (AreClashing repo.now.patches bundle.now n h)) }
 {
-    let Ok(Some(clash)) = find_clash(alloc, repo, bundle) else {
-        return None;
-    };
-    if clash.place != n {
-        return None;
+    match find_clash(alloc, repo, bundle) {
+        Ok(Some(clash)) => {
+            if clash.place != n {
+                return Ok(None);
+            }
+            if clash.held != h {
+                return Ok(None);
+            }
+            Ok(Some(clashing_prims(repo, bundle, clash)))
+        }
+        Ok(None) => Ok(None),
+        Err(why) => {
+            is_other(why, Refusal::Conflicts(n, h))?;
+            Ok(None)
+        }
     }
-    if clash.held != h {
-        return None;
-    }
-    let new = prim_at(new_patch(bundle, n)?, clash.prim)?;
-    let held = prim_at(held_patch(repo, h)?, clash.held_prim)?;
-    Some(Clashing { new, held })
 }
 
 /// A new patch, and a held one.
@@ -203,16 +232,17 @@ fn conflicts<'a>(
     bundle: &'a Bundle<Global>,
     n: usize,
     h: usize,
-) -> Account<'a>
-    ensures { (policy : Policy) → IsAccountOfRefusal repo.now.patches bundle.now policy (Refusal.Conflicts n h) result }
+) -> Result<Account<'a>, AllocError>
+    ensures { (policy : Policy) → IfOk result (IsAccountOfRefusal repo.now.patches bundle.now policy (Refusal.Conflicts n h)) }
 {
     let Some(new) = new_name(bundle, n) else {
-        return Account::Nobody;
+        return Ok(Account::Nobody);
     };
     let Some(held) = held_name(repo, h) else {
-        return Account::Nobody;
+        return Ok(Account::Nobody);
     };
-    Account::Conflicts(new, held, clash_at(alloc, repo, bundle, n, h))
+    let pair = clash_at(alloc, repo, bundle, n, h)?;
+    Ok(Account::Conflicts(new, held, pair))
 }
 
 /// Where the new patch of this place doesn't apply.
@@ -221,16 +251,24 @@ fn misfit_at(
     repo: &Repo<Global>,
     bundle: &Bundle<Global>,
     n: usize,
-) -> Option<Misfit<Global>>
-    ensures { IfSome result (IsMisfitAt repo.now.patches bundle.now n) }
+) -> Result<Option<Misfit<Global>>, AllocError>
+    ensures { (policy : Policy) → IfOk result (λ misfit. MatchOption misfit
+        (RefusesBundle repo.now.patches bundle.now policy (Refusal.DoesNotFit n) → ⊥)
+        (IsMisfitAt repo.now.patches bundle.now n)) }
 {
-    let Ok(Some(found)) = find_misfit(alloc, repo, bundle) else {
-        return None;
-    };
-    if found.place == n {
-        return Some(found);
+    match find_misfit(alloc, repo, bundle) {
+        Ok(Some(found)) => {
+            if found.place != n {
+                return Ok(None);
+            }
+            Ok(Some(found))
+        }
+        Ok(None) => Ok(None),
+        Err(why) => {
+            is_other(why, Refusal::DoesNotFit(n))?;
+            Ok(None)
+        }
     }
-    None
 }
 
 /// A new patch that doesn't apply.
@@ -239,13 +277,14 @@ fn does_not_fit<'a>(
     repo: &Repo<Global>,
     bundle: &'a Bundle<Global>,
     n: usize,
-) -> Account<'a>
-    ensures { (policy : Policy) → IsAccountOfRefusal repo.now.patches bundle.now policy (Refusal.DoesNotFit n) result }
+) -> Result<Account<'a>, AllocError>
+    ensures { (policy : Policy) → IfOk result (IsAccountOfRefusal repo.now.patches bundle.now policy (Refusal.DoesNotFit n)) }
 {
-    match new_name(bundle, n) {
-        Some(patch) => Account::DoesNotFit(patch, misfit_at(alloc, repo, bundle, n)),
-        None => Account::Nobody,
-    }
+    let Some(patch) = new_name(bundle, n) else {
+        return Ok(Account::Nobody);
+    };
+    let misfit = misfit_at(alloc, repo, bundle, n)?;
+    Ok(Account::DoesNotFit(patch, misfit))
 }
 
 /// How many patches are held, how many new ones aren't, and where a path would have too many names.
@@ -259,7 +298,7 @@ fn full<'a>(
 {
     let held = repo.len();
     let fates = fates_of(alloc, repo, held, bundle)?;
-    let depth = depth_of(alloc, repo, bundle, policy);
+    let depth = depth_of(alloc, repo, bundle, policy)?;
     Ok(Account::Full(held, fates.skipped.len(), depth))
 }
 
@@ -294,8 +333,8 @@ fn refused<'a>(
         Refusal::MissingDependency(n, d) => Ok(lacking(repo, bundle, n, d)),
         Refusal::ContextDepends(h, r) => Ok(context_depends(repo, h, r)),
         Refusal::HeldDepends(h, n) => Ok(held_depends(bundle, h, n)),
-        Refusal::DoesNotFit(n) => Ok(does_not_fit(alloc, repo, bundle, n)),
-        Refusal::Conflicts(n, h) => Ok(conflicts(alloc, repo, bundle, n, h)),
+        Refusal::DoesNotFit(n) => does_not_fit(alloc, repo, bundle, n),
+        Refusal::Conflicts(n, h) => conflicts(alloc, repo, bundle, n, h),
         Refusal::Full => full(alloc, repo, bundle, policy),
         Refusal::NoMemory => Ok(Account::Nobody),
     }
@@ -304,8 +343,7 @@ fn refused<'a>(
 /// Which patches a verdict on a bundle is about, and where they don't go together. The repository is the one that taking the
 /// bundle by the policy left.
 ///
-/// It allocates, and fails where memory runs out; where it runs out only as a place in a patch is looked for, that place is
-/// left out.
+/// It allocates, and fails where memory runs out.
 pub fn account_of<'a>(
     alloc: Global,
     repo: &'a Repo<Global>,

@@ -1,47 +1,66 @@
 //! Which path would get too many names, and by which patch.
-ghost use Rattle.std.specs.Prelude.{◌≡◌, Some, IfSome};
-ghost use Rattle.dm_explain.specs.Accounts.{IsDepth, IsMovedTooDeep, IsTooDeepIn, overflowing};
+ghost use Rattle.std.specs.Prelude.{◌≡◌, ◌<◌, ◌≤◌, ℕ, None, Some, length, slice_get, IfOk, MatchOption};
+ghost use Rattle.dm_tree.specs.Limits.{most_names};
+ghost use Rattle.dm_tree.specs.Paths.{forward};
+ghost use Rattle.dm_repo.specs.Overflows.{MergesTooMany};
+ghost use Rattle.dm_repo.specs.Weighing.{RefusesBundle};
+ghost use Rattle.dm_explain.specs.Accounts.{IsDepth, IsMoveTooDeep, IsMovedTooDeep, misfit_of, overflowing};
+ghost use Rattle.dm_explain.specs.Rows.{AreShallow, FirstDeep};
 
-use crate::account::{held_name, new_name};
+use crate::account::{held_name, is_other, new_name};
 use crate::head::{Head, ShownMoved};
 use crate::shown::Who;
 use dm_bundle::Bundle;
 use dm_info::Info;
 use dm_prim::Prim;
-use dm_repo::{Misfit, Overflow, Policy, Repo, find_overflow};
-use dm_tree::{MOST_NAMES, Path};
-use std::alloc::Global;
+use dm_repo::{Misfit, Overflow, Policy, Refusal, Repo, find_overflow};
+use dm_tree::laws::tree_is_lawful;
+use dm_tree::{Listed, MOST_NAMES, Path};
+use std::alloc::{AllocError, Global};
 use std::fmt::{self, Formatter, Write};
 
-/// Where a path would get more than 32 names.
+/// Where a path would get too many names.
 #[derive(Drop)]
 pub struct Depth<'a> {
     /// The name of the patch that would make it.
     pub name: &'a Info<Global>,
     /// The patch as it was tried, its primitive, and the tree that this was applied to.
     pub overflow: Overflow<Global>,
-    /// The first path of that tree that the primitive would give too many names, unless memory ran out.
-    pub path: Option<Path<Global>>,
+    /// The first path of that tree that the primitive would give too many names.
+    pub path: Path<Global>,
 }
 
-/// The first path of the tree that gets more than 32 names by the move that was applied to it.
-fn moved_too_deep(alloc: Global, misfit: &Misfit<Global>) -> Option<Path<Global>>
-    ensures { IfSome result (IsMovedTooDeep misfit.now) }
+/// The first of these paths that gets too many names by a move.
+fn first_deep(
+    alloc: Global,
+    rows: &[Listed<Global>],
+    from: &Path<Global>,
+    to: &Path<Global>,
+) -> Result<Option<Path<Global>>, AllocError>
+    ensures { IfOk result (λ path. MatchOption path (AreShallow from.now to.now rows.now) (FirstDeep from.now to.now rows.now)) }
 {
-    let Some(Prim::Move(from, to)) = misfit.patch.prims().get(misfit.prim) else {
-        return None;
-    };
-    let Ok(entries) = misfit.tree.listing(alloc) else {
-        return None;
-    };
-    for entry in entries {
-        match entry.path.forward(alloc, from, to) {
-            Ok(Some(_)) => {}
-            Ok(None) => return Some(entry.path),
-            Err(_) => return None,
+    for row in rows {
+        if row.path.forward(alloc, from, to)?.is_none() {
+            return Ok(Some(row.path.copy_into(alloc)?));
         }
     }
-    None
+    Ok(None)
+}
+
+/// The first path of the tree that gets too many names by the move that was applied to it.
+fn moved_too_deep(alloc: Global, misfit: &Misfit<Global>) -> Result<Path<Global>, AllocError>
+    requires { IsMoveTooDeep misfit.now }
+    ensures { IfOk result (IsMovedTooDeep misfit.now) }
+{
+    let Some(Prim::Move(from, to)) = misfit.patch.prims().get(misfit.prim) else {
+        unreachable!();
+    };
+    tree_is_lawful(&misfit.tree);
+    let listing = misfit.tree.listing(alloc)?;
+    let Some(path) = first_deep(alloc, &listing, from, to)? else {
+        unreachable!();
+    };
+    Ok(path)
 }
 
 /// The name of the patch that makes a path too deep.
@@ -50,7 +69,9 @@ fn name_of<'a>(
     bundle: &'a Bundle<Global>,
     overflow: &Overflow<Global>,
 ) -> Option<&'a Info<Global>>
-    ensures { IfSome result (λ name. overflowing repo.now.patches bundle.now overflow.now ≡ Some name.now) }
+    ensures { MatchOption result
+        (overflowing repo.now.patches bundle.now overflow.now ≡ None)
+        (λ name. overflowing repo.now.patches bundle.now overflow.now ≡ Some name.now) }
 {
     match overflow {
         Overflow::Front(misfit) => held_name(repo, misfit.place),
@@ -58,44 +79,52 @@ fn name_of<'a>(
     }
 }
 
-/// The path that the patch makes too deep.
-fn path_of(alloc: Global, overflow: &Overflow<Global>) -> Option<Path<Global>>
-    ensures { IfSome result (IsTooDeepIn overflow.now) }
+/// The patch that makes a path too deep, its primitive, and the tree that this was applied to.
+fn misfit_in(overflow: &Overflow<Global>) -> &Misfit<Global>
+    ensures { result.now ≡ misfit_of overflow.now }
 {
     match overflow {
-        Overflow::Front(misfit) => moved_too_deep(alloc, misfit),
-        Overflow::Merged(misfit) => moved_too_deep(alloc, misfit),
+        Overflow::Front(misfit) => misfit,
+        Overflow::Merged(misfit) => misfit,
     }
 }
 
-/// Where a path would get too many names, unless there would be too many patches, or memory runs out.
+/// Where a path would get too many names, unless there would only be too many patches.
 pub(crate) fn depth_of<'a>(
     alloc: Global,
     repo: &'a Repo<Global>,
     bundle: &'a Bundle<Global>,
     policy: Policy,
-) -> Option<Depth<'a>>
-    ensures { IfSome result (IsDepth repo.now.patches bundle.now policy) }
+) -> Result<Option<Depth<'a>>, AllocError>
+    ensures { IfOk result (λ depth. MatchOption depth
+        (RefusesBundle repo.now.patches bundle.now policy Refusal.Full → MergesTooMany repo.now.patches bundle.now policy)
+        (IsDepth repo.now.patches bundle.now policy)) }
 {
-    let Ok(Some(overflow)) = find_overflow(alloc, repo, bundle, policy) else {
-        return None;
-    };
-    let Some(name) = name_of(repo, bundle, &overflow) else {
-        return None;
-    };
-    let path = path_of(alloc, &overflow);
-    Some(Depth {
-        name,
-        overflow,
-        path,
-    })
+    match find_overflow(alloc, repo, bundle, policy) {
+        Ok(Some(overflow)) => {
+            let Some(name) = name_of(repo, bundle, &overflow) else {
+                unreachable!();
+            };
+            let path = moved_too_deep(alloc, misfit_in(&overflow))?;
+            Ok(Some(Depth {
+                name,
+                overflow,
+                path,
+            }))
+        }
+        Ok(None) => Ok(None),
+        Err(why) => {
+            is_other(why, Refusal::Full)?;
+            Ok(None)
+        }
+    }
 }
 
 /// Writes the primitive that makes a path too deep, and what the path would be.
 fn write_move<W: Write>(
     f: &mut Formatter<W>,
     misfit: &Misfit<Global>,
-    path: Option<&Path<Global>>,
+    path: &Path<Global>,
 ) -> fmt::Result {
     let Some(prim) = misfit.patch.prims().get(misfit.prim) else {
         return Ok(());
@@ -105,9 +134,6 @@ fn write_move<W: Write>(
         "at `{}`: a path would have more than {MOST_NAMES} names",
         Head { prim }
     )?;
-    let Some(path) = path else {
-        return f.write_str(".\n");
-    };
     match prim {
         Prim::Move(from, to) => writeln!(f, ":\n  {}", ShownMoved { path, from, to }),
         _ => f.write_str(".\n"),
@@ -123,14 +149,14 @@ pub(crate) fn write_depth<W: Write>(f: &mut Formatter<W>, depth: &Depth<'_>) -> 
                 f,
                 "This held patch makes a path too deep without the patches that the bundle doesn't build on:\n  {who}"
             )?;
-            write_move(f, misfit, depth.path.as_ref())
+            write_move(f, misfit, &depth.path)
         }
         Overflow::Merged(misfit) => {
             writeln!(
                 f,
                 "This new patch makes a path too deep once it is merged:\n  {who}"
             )?;
-            write_move(f, misfit, depth.path.as_ref())
+            write_move(f, misfit, &depth.path)
         }
     }
 }

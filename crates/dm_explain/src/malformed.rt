@@ -1,5 +1,5 @@
 //! What is wrong with a text that is no bundle, and where.
-ghost use Rattle.std.specs.Prelude.{◌≤◌, length};
+ghost use Rattle.std.specs.Prelude.{◌≡◌, ◌≤◌, length};
 
 use crate::place::{Place, place_of};
 use crate::seeming::seeming_of;
@@ -16,13 +16,18 @@ const BEFORE: usize = 40;
 /// A text that is no bundle, and its fault. It prints itself in lines for people.
 #[derive(Clone, Copy)]
 pub struct Malformed<'a> {
-    text: &'a [u8],
-    fault: ReadFault,
+    /// The text.
+    pub text: &'a [u8],
+    /// Its fault.
+    pub fault: ReadFault,
 }
 
 impl<'a> Malformed<'a> {
     /// The fault of a text.
-    pub fn new(text: &'a [u8], fault: ReadFault) -> Malformed<'a> {
+    pub fn new(text: &'a [u8], fault: ReadFault) -> Malformed<'a>
+        ensures text { result.text.now ≡ text.now }
+        ensures fault { result.fault ≡ fault }
+    {
         Malformed { text, fault }
     }
 }

@@ -8,7 +8,6 @@ use crate::shown::Who;
 use crate::skips::{NamedSkip, Reason, Skips};
 use dm_info::Info;
 use dm_named::Limits;
-use dm_tree::MOST_NAMES;
 use std::alloc::Global;
 use std::fmt::{self, Display, Formatter, Write};
 
@@ -67,7 +66,7 @@ fn write_lacking<W: Write>(
     f.write_str("which is neither held nor in the bundle. Ask the sender for it.\n")
 }
 
-/// Which limit a repository of so many patches would pass with so many more, and where.
+/// Which limit a repository of so many patches would pass with so many more: the depth of a path, and where, or else the patches.
 fn write_full<W: Write>(
     f: &mut Formatter<W>,
     held: usize,
@@ -77,14 +76,11 @@ fn write_full<W: Write>(
     if let Some(depth) = depth {
         return write_depth(f, depth);
     }
-    let most = Limits::OWN.patches;
-    if held.saturating_add(more) > most {
-        return writeln!(
-            f,
-            "The repository has {held} patches, and the bundle {more} more; {most} can be held."
-        );
-    }
-    writeln!(f, "A path would have more than {MOST_NAMES} names.")
+    writeln!(
+        f,
+        "The repository has {held} patches, and the bundle {more} more; {} can be held.",
+        Limits::OWN.patches
+    )
 }
 
 /// What became of each new patch.
