@@ -17,7 +17,7 @@ use crate::fault::{OpenError, WriteError};
 use crate::format::{Format, Link, checksum};
 use crate::reading::{FRONT, read_blocks};
 use crate::texts::Texts;
-use crate::writing::{MOST_BYTES, OPEN, put_in_place, stage, whole, write_synced};
+use crate::writing::{MOST_BYTES, OPEN, replace_file, stage, whole, write_synced};
 use std::alloc::Global;
 
 // The last place of a gate behind which a text is appended.
@@ -201,7 +201,7 @@ fn put_journal<D: Device>(alloc: Global, device: &mut D, texts: &[&[u8]]) -> Res
 {
     let format = Format::Second;
     let (bytes, link) = whole(alloc, format, texts)?;
-    put_in_place(device, &bytes)?;
+    replace_file(device, &bytes)?;
     Ok(End {
         format,
         link,

@@ -26,4 +26,4 @@ pub use format::Format;
 pub use journal::Journal;
 pub use memory::Memory;
 pub use texts::Texts;
-pub use writing::MOST_BYTES;
+pub use writing::{MOST_BYTES, replace_file};

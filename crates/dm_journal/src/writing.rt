@@ -148,8 +148,10 @@ pub fn write_synced<D: Device>(device: &mut D, at: usize, bytes: &[u8]) -> Resul
     device.sync()
 }
 
-// Puts a file of these bytes in the place of the one that is there.
-pub fn put_in_place<D: Device>(device: &mut D, bytes: &[u8]) -> Result<(), WriteError>
+/// Puts a file of these bytes in the place of the device's file, whatever is there, or nothing. At `Ok` they are on the disk,
+/// under the file's name. At [`WriteError::Beside`] the old file is as it was; after another error it is the old one or the
+/// new one: open it again.
+pub fn replace_file<D: Device>(device: &mut D, bytes: &[u8]) -> Result<(), WriteError>
     requires { IsDurable D.seen D.may_leave D.file_may_leave device.old }
     ensures taken { OnOk result (D.seen device.new ≡ bytes.now) }
     ensures durable { OnOk result (IsDurable D.seen D.may_leave D.file_may_leave device.new) }

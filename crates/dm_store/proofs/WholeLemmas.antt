@@ -26,7 +26,7 @@ use Rattle.dm_scratch.specs.Taking.{TakesWithin, bundle}
 use Rattle.dm_journal.specs.Journal.{StandsFor}
 use Rattle.dm_journal.specs.Ready.{StandsForEither}
 use Rattle.dm_store.specs.Entries.{whole_entry, all_of}
-use Rattle.dm_store.specs.Keeping.{HasTaken, TakesEntry, FoldTo, KeepsRepo, IsOrKeeps}
+use Rattle.dm_store.specs.Keeping.{HasTaken, TakesEntry, FoldTo, KeepsRepo, KeepsEither, IsOrKeeps, entry_of_all, entries_of_all}
 use Rattle.dm_store.specs.Opening.{IsBadEntry}
 use Rattle.dm_store.specs.Laws.{RepositoryIsTakenAgain}
 use Rattle.dm_store.proofs.FoldLemmas.{whole_not_taken}
@@ -100,10 +100,20 @@ whole_untaken repo text v after e m n t = whole_not_taken repo text v after m n 
 pub fold_whole : (entry : List ℕ) (repo : List Patch) → TakesEntry [] entry repo → FoldTo (entry ∷ []) repo
 fold_whole entry repo t = (repo, t, refl)
 
--- whichever entries the file has, it keeps the repository
-pub either_keeps : (old new : List (List ℕ)) (repo : List Patch) → FoldTo old repo → FoldTo new repo → (c : List ℕ) → StandsForEither old new c → KeepsRepo c repo
-either_keeps old new repo f g c (inl s) = (old, s, f)
-either_keeps old new repo f g c (inr s) = (new, s, g)
+-- a repository that has patches has one entry
+pub one_of_all : (repo : List Patch) → repo ≢ [] → entries_of_all repo ≡ entry_of_all repo ∷ []
+one_of_all [] some = absurd (some refl)
+one_of_all (x ∷ xs) some = refl
+
+-- whichever entries the file has, it keeps the one repository or the other
+pub either_keeps : (old new : List (List ℕ)) (repo other : List Patch) → FoldTo old repo → FoldTo new other → (c : List ℕ) → StandsForEither old new c → KeepsEither repo other c
+either_keeps old new repo other f g c (inl s) = inl (old, s, f)
+either_keeps old new repo other f g c (inr s) = inr (new, s, g)
+
+-- where they are the same, it keeps this one
+pub same_keeps : (repo : List Patch) (c : List ℕ) → KeepsEither repo repo c → KeepsRepo c repo
+same_keeps repo c (inl k) = k
+same_keeps repo c (inr k) = k
 
 -- the old file, or one with the entry of the repository alone
 pub old_or_whole : (old entry : List ℕ) (repo : List Patch) → TakesEntry [] entry repo → (c : List ℕ) → (c ≡ old) ⊎ StandsFor c (entry ∷ []) → IsOrKeeps old repo c

@@ -1,5 +1,5 @@
 -- Which repository a file keeps.
-use Rattle.std.specs.Prelude.{◌≡◌, ◌≢◌, ◌⊎◌, ℕ, List, []}
+use Rattle.std.specs.Prelude.{◌≡◌, ◌≢◌, ◌⊎◌, ℕ, List, [], ◌∷◌}
 use Rattle.std.specs.List.{FoldsTo}
 use Rattle.dm_named.specs.Limits.{own}
 use Rattle.dm_named.specs.Patches.{Patch}
@@ -60,6 +60,10 @@ abbrev pub KeepsWithOrWithout : List Patch → List ℕ → Policy → List ℕ 
 KeepsWithOrWithout repo text policy file =
     KeepsRepo file repo ⊎ ((after : List Patch) × TakesText repo (entry_of policy text) after × KeepsRepo file after)
 
+-- the file keeps this repository or the other one
+abbrev pub KeepsEither : List Patch → List Patch → List ℕ → Type 0
+KeepsEither repo other file = KeepsRepo file repo ⊎ KeepsRepo file other
+
 -- the file is the old one, or it keeps the repository
 abbrev pub IsOrKeeps : List ℕ → List Patch → List ℕ → Type 0
 IsOrKeeps old repo file = (file ≡ old) ⊎ KeepsRepo file repo
@@ -83,3 +87,8 @@ pub record FitsOneEntry (repo : List Patch) : Type 0 where
 -- the entry of all patches of a repository
 abbrev pub entry_of_all : List Patch → List ℕ
 entry_of_all repo = whole_entry (bundle_text (all_of repo))
+
+-- the entries that leave a repository: none for the empty one, and for any other one of all its patches
+abbrev pub entries_of_all : List Patch → List (List ℕ)
+entries_of_all [] = []
+entries_of_all (p ∷ ps) = entry_of_all (p ∷ ps) ∷ []

@@ -10,22 +10,22 @@ ghost use Rattle.dm_journal.specs.Hidden.{TellsHidden};
 ghost use Rattle.dm_journal.specs.Ready.{HasTexts, IsUntouched, IsBeside, IsFailure};
 ghost use Rattle.dm_scratch.specs.Taking.{Takes};
 ghost use Rattle.dm_store.specs.declared.fault.StoreError.TheVariants.{Journal as OpeningJournal, BadEntry};
-ghost use Rattle.dm_store.specs.Keeping.{HasTaken, KeepsRepo, KeepsWithOrWithout, IsOrKeeps, CrashesKeep, IsStored, FoldTo, FitsOneEntry, entry_of_all};
+ghost use Rattle.dm_store.specs.Keeping.{HasTaken, KeepsRepo, KeepsWithOrWithout, KeepsEither, IsOrKeeps, CrashesKeep, IsStored, FitsOneEntry, entry_of_all, entries_of_all};
 ghost use Rattle.dm_store.specs.Opening.{HasBadEntry};
 
 use crate::entries::make_entry;
 use crate::fault::StoreError;
 use crate::growth::{Growth, growth_of};
+use crate::keeping::{begin, put_repo};
 use crate::opening::{has_taken, take_again};
-use crate::whole::entry_of_repo;
 use bumpalo::Bump;
 use dm_journal::{Device, Journal, WriteError};
 use dm_repo::{Policy, Repo};
 use dm_scratch::{Verdict, take};
 use std::alloc::Global;
 
-/// A repository that lasts. After an error of [`Store::take`] or [`Store::checkpoint`], open the file again: the repository
-/// in memory may have more than the file.
+/// A repository that lasts. After an error of [`Store::take`], [`Store::checkpoint`] or [`Store::replace`], open the file again:
+/// it may keep another repository than the one in memory.
 #[derive(Drop)]
 pub struct Store<D: Device> {
     journal: Journal<D>,
@@ -195,42 +195,49 @@ impl<D: Device> Store<D> {
         ensures not_too_long { IsErrOf result TooLong → ⊥ }
         ensures not_full { IsErrOf result Full → ⊥ }
     {
-        let Some(entry) = entry_of_repo(alloc, &self.repo)? else {
+        if self.repo.is_empty() {
+            return Ok(false);
+        }
+        let Some(growth) = put_repo(alloc, &mut self.journal, &self.repo)? else {
             return Ok(false);
         };
-        self.journal.replace(alloc, &[entry.as_slice()])?;
-        self.growth = Growth::of_whole(entry.len());
+        self.growth = growth;
         Ok(true)
     }
-}
 
-// Puts a journal that keeps this repository in the place of the file.
-fn begin<D: Device>(
-    alloc: Global,
-    device: D,
-    repo: &Repo<Global>,
-) -> Result<(Journal<D>, Growth), (WriteError, D)>
-    requires { IsDurable D.seen D.may_leave D.file_may_leave device }
-    ensures stored { IfOk result (λ r. (entries : List (List ℕ)) × HasTexts D.seen D.may_leave D.file_may_leave r.0 entries × FoldTo entries repo.now.patches) }
-    ensures any_moment { IfOk result (λ r. LeavesOnly D.moment D.left_since device r.0.device (IsOrKeeps (D.seen device) repo.now.patches)) }
-    ensures any_moment_err { IfErr result (λ e. LeavesOnly D.moment D.left_since device e.1 (IsOrKeeps (D.seen device) repo.now.patches)) }
-    ensures failed { IfErr result (λ e. IsFailure e.0 → D.faults device < D.faults e.1) }
-    ensures too_long { IfErr result (λ e. e.0 ≡ TooLong → (repo.now.patches ≢ []) × (FitsOneEntry repo.now.patches → ⊥)) }
-    ensures not_full { IfErr result (λ e. e.0 ≡ Full → ⊥) }
-{
-    if repo.is_empty() {
-        return match Journal::create(alloc, device, &[]) {
-            Ok(journal) => Ok((journal, Growth::of_whole(0))),
-            Err(error) => Err(error),
+    /// Puts another repository in the place of this one: its entry, and nothing of this one, is what the journal has then.
+    ///
+    /// `false` where the other has patches, and they or their text are past [`dm_named::Limits::OWN`]: the store is as it was
+    /// then. So it is after [`WriteError::Beside`], and can go on. After another error open the file again: it keeps the one or
+    /// the other.
+    pub fn replace(&mut self, alloc: Global, repo: Repo<Global>) -> Result<bool, WriteError>
+        requires { IsStored D.seen D.may_leave D.file_may_leave self.old }
+
+        ensures repo { IfOk result (λ done. IsTrue done → self.new.repo ≡ repo) }
+        ensures stored { OnOk result (IsStored D.seen D.may_leave D.file_may_leave self.new) }
+        ensures kept { OnOk result (CrashesKeep D.may_leave self.new.journal.device self.new.repo.patches) }
+        ensures fits { IfOk result (λ done. IsTrue done ↔ ((repo.patches ≡ []) ⊎ FitsOneEntry repo.patches)) }
+        ensures entries { IfOk result (λ done. IsTrue done
+            → HasTexts D.seen D.may_leave D.file_may_leave self.new.journal (entries_of_all repo.patches)) }
+        ensures unwritten { IfOk result (λ done. ¬ IsTrue done → self.new ≡ self.old) }
+
+        // A crash at any moment of the call leaves a file that keeps the repository from before it, or the other one.
+        ensures any_moment { LeavesOnly D.moment D.left_since self.old.journal.device self.new.journal.device
+            (KeepsEither self.old.repo.patches repo.patches) }
+
+        ensures same_err { IfErr result (λ _. self.new.repo ≡ self.old.repo) }
+        ensures stored_beside { IfErr result (λ e. IsBeside e → IsStored D.seen D.may_leave D.file_may_leave self.new) }
+
+        // It doesn't give up by itself.
+        ensures failed { IfErr result (λ e. IsFailure e → D.faults self.old.journal.device < D.faults self.new.journal.device) }
+        ensures not_too_long { IsErrOf result TooLong → ⊥ }
+        ensures not_full { IsErrOf result Full → ⊥ }
+    {
+        let Some(growth) = put_repo(alloc, &mut self.journal, &repo)? else {
+            return Ok(false);
         };
-    }
-    let entry = match entry_of_repo(alloc, repo) {
-        Ok(Some(entry)) => entry,
-        Ok(None) => return Err((WriteError::TooLong, device)),
-        Err(error) => return Err((error, device)),
-    };
-    match Journal::create(alloc, device, &[entry.as_slice()]) {
-        Ok(journal) => Ok((journal, Growth::of_whole(entry.len()))),
-        Err(error) => Err(error),
+        self.repo = repo;
+        self.growth = growth;
+        Ok(true)
     }
 }

@@ -4,6 +4,8 @@
 
 mod asking;
 #[cfg(test)]
+mod repositories;
+#[cfg(test)]
 mod stores;
 mod tearing;
 #[cfg(test)]

@@ -1,6 +1,7 @@
 //! A store in memory, and one that is opened again.
 
 use crate::asking::{bad_entry_in, patches_in};
+use crate::repositories::first_patch;
 use dm_journal::{Journal, Memory};
 use dm_repo::{Policy, Repo};
 use dm_scratch::Verdict;
@@ -79,6 +80,39 @@ fn a_checkpoint_is_opened_again(rt: HostRuntime) {
         lasts_in_one_entry(rt.alloc()),
         "three patches in one entry, and a fourth after it"
     );
+}
+
+/// Whether a store of two patches is replaced by the first alone, takes the second again, and is replaced by no patch.
+fn is_replaced(alloc: Global) -> bool {
+    let file = Memory::new(alloc, Vec::new(alloc));
+    let Ok(mut store) = Store::create(alloc, file, Repo::new(alloc)) else {
+        return false;
+    };
+    let Ok(Verdict::Taken(2)) = store.take(alloc, TWO, Policy::Refuse) else {
+        return false;
+    };
+    let Some(first) = first_patch(alloc) else {
+        return false;
+    };
+    let Ok(true) = store.replace(alloc, first) else {
+        return false;
+    };
+    let Ok(mut opened) = Store::open(alloc, store.into_device()) else {
+        return false;
+    };
+    let Ok(Verdict::Taken(1)) = opened.take(alloc, TWO, Policy::Refuse) else {
+        return false;
+    };
+    let Ok(true) = opened.replace(alloc, Repo::new(alloc)) else {
+        return false;
+    };
+    let device = opened.into_device();
+    patches_in(alloc, device.bytes()) == Some(0)
+}
+
+#[test]
+fn a_store_is_replaced(rt: HostRuntime) {
+    assert!(rt; is_replaced(rt.alloc()), "one patch, two patches, none");
 }
 
 /// Whether a journal of this text isn't opened, for its entry.

@@ -2,6 +2,7 @@
 ghost use Rattle.dm_store.specs.Keeping.{IsStored};
 
 use crate::asking::keeps_either;
+use crate::repositories::first_patch;
 use crate::tearing::{Tear, Tearing};
 use dm_journal::{Device, Memory};
 use dm_repo::Policy;
@@ -27,8 +28,8 @@ const NEXT: &[u8] =
 const LAST: &[u8] =
     b"New patches:\n\n[s\np**d] hunk ./f 1\n+w\n\nContext:\n\n[m\np**d]\n[a\np**d]\n";
 
-/// Takes five texts, makes a checkpoint, and takes one text more. How many patches there were when the last of these was
-/// answered, and how many there are with the next.
+/// Takes five texts, makes a checkpoint, takes one text more, and is replaced by the first patch alone. How many patches there
+/// were when the last of these was answered, and how many there are with the next.
 fn session<D: Device>(alloc: Global, store: &mut Store<D>) -> (usize, usize)
     requires { IsStored D.seen D.may_leave D.file_may_leave store.old }
 {
@@ -53,10 +54,23 @@ fn session<D: Device>(alloc: Global, store: &mut Store<D>) -> (usize, usize)
     if store.take(alloc, LAST, Policy::Refuse).is_err() {
         return (5, 6);
     }
-    (6, 6)
+    if !is_replaced(alloc, store) {
+        return (6, 1);
+    }
+    (1, 1)
 }
 
-/// Whether the same session over a file of these bytes is answered whole, and leaves six patches.
+/// Whether the store is replaced by the first patch alone.
+fn is_replaced<D: Device>(alloc: Global, store: &mut Store<D>) -> bool
+    requires { IsStored D.seen D.may_leave D.file_may_leave store.old }
+{
+    match first_patch(alloc) {
+        Some(first) => store.replace(alloc, first).is_ok(),
+        None => false,
+    }
+}
+
+/// Whether the same session over a file of these bytes is answered whole, and leaves one patch.
 fn goes_on(alloc: Global, bytes: &[u8]) -> bool {
     let Ok(bytes) = bytes.to_vec(alloc) else {
         return false;
@@ -64,11 +78,11 @@ fn goes_on(alloc: Global, bytes: &[u8]) -> bool {
     let Ok(mut store) = Store::open(alloc, Memory::new(alloc, bytes)) else {
         return false;
     };
-    session(alloc, &mut store) == (6, 6) && store.repo().len() == 6
+    session(alloc, &mut store) == (1, 1) && store.repo().len() == 1
 }
 
 /// How many patches a session had that is cut short after so many steps, when it was answered last. `None` if the file keeps
-/// neither these nor those with the text in flight, or if the session can't be had again over it.
+/// neither these nor those with the call in flight, or if the session can't be had again over it.
 fn cut_short(alloc: Global, steps: usize, tear: Tear) -> Option<usize> {
     let Ok(bytes) = EMPTY.to_vec(alloc) else {
         return None;
@@ -104,11 +118,45 @@ fn lasts(alloc: Global, tear: Tear) -> bool {
         };
         match cut_short(alloc, steps, tear) {
             None => return false,
-            Some(6) => return true,
+            Some(1) => return true,
             Some(_) => {}
         }
     }
     false
+}
+
+/// How many steps the session takes. `None` if memory ran out.
+fn steps_in_all(alloc: Global) -> Option<usize> {
+    let Ok(bytes) = EMPTY.to_vec(alloc) else {
+        return None;
+    };
+    let device = Tearing {
+        device: Memory::new(alloc, bytes),
+        alloc,
+        steps: usize::MAX,
+        tear: Tear::First,
+    };
+    let Ok(mut store) = Store::open(alloc, device) else {
+        return None;
+    };
+    if session(alloc, &mut store) != (1, 1) {
+        return None;
+    }
+    Some(usize::MAX - store.into_device().steps)
+}
+
+/// Whether all is well before each of the last eight steps, of which three are calls: the new file is synced, takes the name, and
+/// the folder is synced.
+fn lasts_at_the_end(alloc: Global) -> bool {
+    let Some(steps) = steps_in_all(alloc) else {
+        return false;
+    };
+    for back in 1..9 {
+        if cut_short(alloc, steps.saturating_sub(back), Tear::First) != Some(6) {
+            return false;
+        }
+    }
+    true
 }
 
 #[test]
@@ -125,4 +173,9 @@ fn so_does_one_that_leaves_other_bytes(rt: HostRuntime) {
         lasts(rt.alloc(), Tear::Last(7)),
         "the last bytes of a write, and others before them"
     );
+}
+
+#[test]
+fn a_crash_leaves_the_old_repository_or_the_new_one(rt: HostRuntime) {
+    assert!(rt; lasts_at_the_end(rt.alloc()), "six patches or one");
 }

@@ -19,4 +19,4 @@ returns-clause-texts g c =
     omega (arith, room, c.unit.ensures.is, c.len.ensures, c.deref.ensures.len, ap length c.deref.ensures.value) in
     let size : c.len-2.result ≡ length file = omega (arith, c.len-2.ensures, c.deref.ensures.len, ap length c.deref.ensures.value) in
     let ends = made_so Second file (map (λ text. text.now) c.args.texts.now) c.in_ok-bytes.link (c.len.result - c.unit.result) c.len-2.result w place size in
-    subst (λ l. EndsSo l (map (λ text. text.now) c.args.texts.now) (record { format = Second; link = c.in_ok-bytes.link; gate = c.len.result - c.unit.result; size = c.len-2.result })) (sym (c.in_ok-put_in_place.ensures.taken ∙ c.deref.ensures.value)) ends
+    subst (λ l. EndsSo l (map (λ text. text.now) c.args.texts.now) (record { format = Second; link = c.in_ok-bytes.link; gate = c.len.result - c.unit.result; size = c.len-2.result })) (sym (c.in_ok-replace_file.ensures.taken ∙ c.deref.ensures.value)) ends

@@ -2,7 +2,7 @@ use Rattle.std.proofs.Common.{List, ℕ, [], sym, subst}
 use Rattle.dm_store.specs.Keeping.{TakesEntry}
 use Rattle.dm_store.proofs.StoredLemmas.{weakened}
 use Rattle.dm_store.proofs.WholeLemmas.{old_or_whole}
-use Rattle.dm_store.proofs.store.begin.Goals as goal
+use Rattle.dm_store.proofs.keeping.begin.Goals as goal
 
 pub returns-in-Ok-create-clause-any_moment : goal.returns-in-Ok-create-clause-any_moment
 returns-in-Ok-create-clause-any_moment g c =

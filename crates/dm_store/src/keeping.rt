@@ -1,0 +1,76 @@
+//! Journals that keep a given repository: begun, and put in the place of another.
+ghost use Rattle.std.specs.Prelude.{◌≡◌, ◌≢◌, ◌⊎◌, ◌<◌, List, ℕ, [], IfOk, IfErr, IfSome, IfNone, IsErrOf};
+ghost use Rattle.dm_journal.specs.declared.fault.WriteError.TheVariants.{TooLong, Full};
+ghost use Rattle.dm_journal.specs.Device.{IsDurable, LeavesOnly};
+ghost use Rattle.dm_journal.specs.Ready.{HasTexts, IsBeside, IsFailure};
+ghost use Rattle.dm_named.specs.Patches.{Patch};
+ghost use Rattle.dm_store.specs.Keeping.{KeepsRepo, KeepsEither, IsOrKeeps, FoldTo, FitsOneEntry, entries_of_all};
+
+use crate::growth::Growth;
+use crate::whole::entry_of_repo;
+use dm_journal::{Device, Journal, WriteError};
+use dm_repo::Repo;
+use std::alloc::Global;
+
+// Puts a journal that keeps this repository in the place of the file.
+pub fn begin<D: Device>(
+    alloc: Global,
+    device: D,
+    repo: &Repo<Global>,
+) -> Result<(Journal<D>, Growth), (WriteError, D)>
+    requires { IsDurable D.seen D.may_leave D.file_may_leave device }
+    ensures stored { IfOk result (λ r. (entries : List (List ℕ)) × HasTexts D.seen D.may_leave D.file_may_leave r.0 entries × FoldTo entries repo.now.patches) }
+    ensures any_moment { IfOk result (λ r. LeavesOnly D.moment D.left_since device r.0.device (IsOrKeeps (D.seen device) repo.now.patches)) }
+    ensures any_moment_err { IfErr result (λ e. LeavesOnly D.moment D.left_since device e.1 (IsOrKeeps (D.seen device) repo.now.patches)) }
+    ensures failed { IfErr result (λ e. IsFailure e.0 → D.faults device < D.faults e.1) }
+    ensures too_long { IfErr result (λ e. e.0 ≡ TooLong → (repo.now.patches ≢ []) × (FitsOneEntry repo.now.patches → ⊥)) }
+    ensures not_full { IfErr result (λ e. e.0 ≡ Full → ⊥) }
+{
+    if repo.is_empty() {
+        return match Journal::create(alloc, device, &[]) {
+            Ok(journal) => Ok((journal, Growth::of_whole(0))),
+            Err(error) => Err(error),
+        };
+    }
+    let entry = match entry_of_repo(alloc, repo) {
+        Ok(Some(entry)) => entry,
+        Ok(None) => return Err((WriteError::TooLong, device)),
+        Err(error) => return Err((error, device)),
+    };
+    match Journal::create(alloc, device, &[entry.as_slice()]) {
+        Ok(journal) => Ok((journal, Growth::of_whole(entry.len()))),
+        Err(error) => Err(error),
+    }
+}
+
+// Puts the entries of this repository in the place of those that the journal has: none of one without patches, and one of any
+// other, if it fits. `None` where it doesn't.
+pub fn put_repo<D: Device>(
+    alloc: Global,
+    journal: &mut Journal<D>,
+    repo: &Repo<Global>,
+) -> Result<Option<Growth>, WriteError>
+    requires { IsDurable D.seen D.may_leave D.file_may_leave journal.old.device }
+    ensures entries { IfOk result (λ put. IfSome put (λ _. HasTexts D.seen D.may_leave D.file_may_leave journal.new (entries_of_all repo.now.patches))) }
+    ensures folds { IfOk result (λ put. IfSome put (λ _. FoldTo (entries_of_all repo.now.patches) repo.now.patches)) }
+    ensures fits { IfOk result (λ put. IfSome put (λ _. (repo.now.patches ≡ []) ⊎ FitsOneEntry repo.now.patches)) }
+    ensures none { IfOk result (λ put. IfNone put ((repo.now.patches ≢ []) × (FitsOneEntry repo.now.patches → ⊥))) }
+    ensures unwritten { IfOk result (λ put. IfNone put (journal.new ≡ journal.old)) }
+    ensures any_moment { (old : List Patch) → KeepsRepo (D.seen journal.old.device) old
+        → LeavesOnly D.moment D.left_since journal.old.device journal.new.device (KeepsEither old repo.now.patches) }
+    ensures untouched { IfErr result (λ e. IsBeside e → (old : List (List ℕ)) → HasTexts D.seen D.may_leave D.file_may_leave journal.old old
+        → HasTexts D.seen D.may_leave D.file_may_leave journal.new old) }
+    ensures failed { IfErr result (λ e. IsFailure e → D.faults journal.old.device < D.faults journal.new.device) }
+    ensures not_too_long { IsErrOf result TooLong → ⊥ }
+    ensures not_full { IsErrOf result Full → ⊥ }
+{
+    if repo.is_empty() {
+        journal.replace(alloc, &[])?;
+        return Ok(Some(Growth::of_whole(0)));
+    }
+    let Some(entry) = entry_of_repo(alloc, repo)? else {
+        return Ok(None);
+    };
+    journal.replace(alloc, &[entry.as_slice()])?;
+    Ok(Some(Growth::of_whole(entry.len())))
+}
