@@ -7,3 +7,5 @@ pub mod Placeless
 pub mod Minimal
 pub mod Sent
 pub mod Contexts
+pub mod Left
+pub mod Undone

@@ -73,7 +73,7 @@ module _ (repo : List Patch) (theirs : List PatchInfo) (most : ℕ) (shared new 
   }
 
 -- memory ran out, or something else is wrong
-is_memory : (why : Refusal) → (why ≡ NoMemory) ⊎ (why ≢ NoMemory)
+pub is_memory : (why : Refusal) → (why ≡ NoMemory) ⊎ (why ≢ NoMemory)
 is_memory NoMemory = inl refl
 is_memory Full = inr (λ e. absurd (cc))
 is_memory (MissingContext c) = inr (λ e. absurd (cc))

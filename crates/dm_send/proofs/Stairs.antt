@@ -31,7 +31,7 @@ steps minimizing.nothing = record { between = []; stair = nothing; past = empty 
 steps (minimizing.stays m n) = let s = steps m in record { between = s.between; stair = stays s.stair; past = s.past }
 steps (minimizing.goes m y) = let s = steps m in record { between = y.between ∷ s.between; stair = yields s.stair y.past_needed; past = row s.past y.past_sent }
 
-row_infos : {x x' : Patch} {ys ys' : List Patch} → CellRow NamedCommutes x ys ys' x' → (infos_of ys' ≡ infos_of ys) × (x'.info ≡ x.info)
+pub row_infos : {x x' : Patch} {ys ys' : List Patch} → CellRow NamedCommutes x ys ys' x' → (infos_of ys' ≡ infos_of ys) × (x'.info ≡ x.info)
 row_infos none = (refl, refl)
 row_infos (next c s) = let t = row_infos s in (ap₂ (λ i is. i ∷ is) c.y_stays.info t.0, t.1 ∙ c.x_stays.info)
 

@@ -1,3 +1,6 @@
+pub mod Leaving
 pub mod Minimizing
+pub mod Obliterating
 pub mod Sending
 pub mod Telling
+pub mod Undoing

@@ -19,7 +19,7 @@ pub(crate) struct Minimal<A: Allocator> {
 }
 
 /// A copy of a patch.
-fn copy_of<A: Allocator, B: Allocator + Copy>(
+pub(crate) fn copy_of<A: Allocator, B: Allocator + Copy>(
     alloc: B,
     patch: &Named<A>,
 ) -> Result<Passing<B>, AllocError>
@@ -31,7 +31,7 @@ fn copy_of<A: Allocator, B: Allocator + Copy>(
 
 /// Whether `patch` passes `next`, which stands behind it, and neither is changed by it: neither names the other, and they touch
 /// nothing in common.
-fn pass_unchanged<A: Allocator + Copy>(
+pub(crate) fn pass_unchanged<A: Allocator + Copy>(
     alloc: A,
     patch: &mut Passing<A>,
     next: &mut Passing<A>,
@@ -177,7 +177,7 @@ fn passing_all<A: Allocator + Copy>(
 }
 
 /// The patches, none of which passes another any more.
-fn named_all<A: Allocator + Copy>(
+pub(crate) fn named_all<A: Allocator + Copy>(
     alloc: A,
     list: Vec<Passing<A>, A>,
 ) -> Result<Vec<Named<A>, A>, AllocError>

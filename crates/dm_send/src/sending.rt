@@ -29,7 +29,10 @@ fn without_places<B: Allocator + Copy>(
 }
 
 /// The names of patches, the newest first.
-fn names_of<B: Allocator + Copy>(alloc: B, list: &[Named<B>]) -> Result<Vec<Info<B>, B>, AllocError>
+pub(crate) fn names_of<B: Allocator + Copy>(
+    alloc: B,
+    list: &[Named<B>],
+) -> Result<Vec<Info<B>, B>, AllocError>
     ensures { IfOk result (λ names. names.items ≡ reverse (infos_of list.now)) }
 {
     let mut names = Vec::with_capacity(alloc, list.len())?;
@@ -41,7 +44,10 @@ fn names_of<B: Allocator + Copy>(alloc: B, list: &[Named<B>]) -> Result<Vec<Info
 }
 
 /// The repository of exactly these patches.
-fn repo_of<B: Allocator + Copy>(alloc: B, list: Vec<Named<B>, B>) -> Result<Repo<B>, Refusal>
+pub(crate) fn repo_of<B: Allocator + Copy>(
+    alloc: B,
+    list: Vec<Named<B>, B>,
+) -> Result<Repo<B>, Refusal>
     requires { HasNoDoubles list.items [] }
     ensures { MatchResult result
         (λ repo. repo.patches ≡ list.items)
@@ -60,7 +66,7 @@ fn repo_of<B: Allocator + Copy>(alloc: B, list: Vec<Named<B>, B>) -> Result<Repo
 }
 
 /// What is said where the other repository refuses: it would be full, unless memory ran out.
-fn refused_there(why: Refusal) -> Refusal
+pub(crate) fn refused_there(why: Refusal) -> Refusal
     ensures memory { why ≡ Refusal.NoMemory → result ≡ Refusal.NoMemory }
     ensures full { why ≢ Refusal.NoMemory → result ≡ Refusal.Full }
 {
@@ -71,7 +77,7 @@ fn refused_there(why: Refusal) -> Refusal
 }
 
 /// That the patches of a repository have distinct names and apply in turn; does nothing.
-fn is_lawful<A: Allocator>(repo: &Repo<A>)
+pub(crate) fn is_lawful<A: Allocator>(repo: &Repo<A>)
     ensures { IsRepo repo.now.patches }
 {
     let _ = repo.len();
@@ -115,7 +121,7 @@ fn divide<A: Allocator + Copy, B: Allocator + Copy>(
 }
 
 /// The bundle, where a repository of what both hold takes it.
-fn accepted<B: Allocator + Copy>(
+pub(crate) fn accepted<B: Allocator + Copy>(
     alloc: B,
     shared: &Repo<B>,
     bundle: Bundle<B>,
