@@ -1,3 +1,6 @@
 pub mod ShownLemmas
 pub mod LogLemmas
 pub mod PlainLemmas
+pub mod KeysLemmas
+pub mod TouchedLemmas
+pub mod FindingLemmas

@@ -1,6 +1,9 @@
 pub mod Shown
 pub mod Dates
 pub mod Entries
+pub mod Finding
 pub mod Choices
 pub mod Contexts
 pub mod Plain
+pub mod Touched
+pub mod Collecting

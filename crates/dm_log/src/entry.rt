@@ -12,7 +12,7 @@ use sha1::Sha1;
 use std::alloc::{AllocError, Allocator};
 
 /// The SHA-1 by which Darcs names a patch.
-fn hash_of<A: Allocator>(info: &Info<A>) -> [u8; 20]
+pub(crate) fn hash_of<A: Allocator>(info: &Info<A>) -> [u8; 20]
     ensures { result ≡ patch_hash info.now }
 {
     let mut hasher = Sha1::new();
@@ -26,7 +26,7 @@ fn hash_of<A: Allocator>(info: &Info<A>) -> [u8; 20]
     hasher.finalize()
 }
 
-fn push_hex<A: Allocator>(bytes: &[u8], out: &mut Vec<u8, A>) -> Result<(), AllocError>
+pub(crate) fn push_hex<A: Allocator>(bytes: &[u8], out: &mut Vec<u8, A>) -> Result<(), AllocError>
     ensures { OnOk result (out.new.items ≡ out.old.items ++ flat_map digits bytes.now) }
 {
     for byte in bytes {

@@ -3,7 +3,7 @@
 //! [`write_entries`] writes the entries of a repository's patches, or of a bundle's new ones ([`Patches`]): the hash by which Darcs
 //! names the patch, its author, its date, its name and its log, and the patch's canonical text where that is asked for
 //! ([`LogOptions`]). [`write_context`] writes what `darcs log --context` prints, which `darcs send --context` reads. The theorem of
-//! the crate is what the text is, byte for byte.
+//! the crate is what the text is, byte for byte. [`write_paths`] writes a line for each path that the patches touch.
 //!
 //! What a stranger wrote is shown by one rule. A text in UTF-8 stands as it is, but for control characters other than the
 //! tab, and for marks that end a line or turn the direction of writing: of these each byte is escaped, as `\x1b`. Of a text
@@ -14,14 +14,20 @@
 mod context;
 mod date;
 mod entry;
+mod finding;
+mod key;
+mod keys;
 pub mod laws;
 mod log;
 mod options;
 mod patches;
+mod paths;
 mod shown;
 
 pub use context::write_context;
 pub use entry::push_entry;
+pub use finding::{Found, find_patch, hash_text};
 pub use log::{write_entries, write_log};
 pub use options::LogOptions;
 pub use patches::Patches;
+pub use paths::write_paths;
