@@ -1,9 +1,14 @@
 //! What a command takes.
+ghost use Rattle.std.specs.Prelude.{codes, IfOk};
+ghost use Rattle.dm_words.specs.Words.{Excludes, IsNamed, Wants};
+
 use clap::{Arg, ArgAction, value_parser};
 use std::alloc::{AllocError, Global};
 
 /// A word that names a file.
-pub fn file<'a>(alloc: Global, name: &'a str, help: &'a str) -> Arg<'a> {
+pub fn file<'a>(alloc: Global, name: &'a str, help: &'a str) -> Arg<'a>
+    ensures { IsNamed result name.now }
+{
     Arg::new(alloc, name)
         .long(name)
         .value_name("FILE")
@@ -11,7 +16,10 @@ pub fn file<'a>(alloc: Global, name: &'a str, help: &'a str) -> Arg<'a> {
 }
 
 /// The word that names a repository of one's own.
-pub fn repository<'a>(alloc: Global) -> Result<Arg<'a>, AllocError> {
+pub fn repository<'a>(alloc: Global) -> Result<Arg<'a>, AllocError>
+    ensures name { IfOk result (λ arg. IsNamed arg (codes "repository")) }
+    ensures excludes { IfOk result (λ arg. Excludes arg (codes "base")) }
+{
     file(
         alloc,
         "repository",
@@ -21,7 +29,9 @@ pub fn repository<'a>(alloc: Global) -> Result<Arg<'a>, AllocError> {
 }
 
 /// The word that asks for a bundle.
-pub fn bundle<'a>(alloc: Global) -> Arg<'a> {
+pub fn bundle<'a>(alloc: Global) -> Arg<'a>
+    ensures { IsNamed result (codes "bundle") }
+{
     Arg::new(alloc, "bundle")
         .long("bundle")
         .action(ArgAction::SetTrue)
@@ -29,7 +39,9 @@ pub fn bundle<'a>(alloc: Global) -> Arg<'a> {
 }
 
 /// The word that has patches skipped.
-pub fn skip<'a>(alloc: Global) -> Arg<'a> {
+pub fn skip<'a>(alloc: Global) -> Arg<'a>
+    ensures { IsNamed result (codes "skip") }
+{
     Arg::new(alloc, "skip")
         .long("skip")
         .action(ArgAction::SetTrue)
@@ -37,7 +49,9 @@ pub fn skip<'a>(alloc: Global) -> Arg<'a> {
 }
 
 /// The word that asks for an explanation.
-pub fn explain<'a>(alloc: Global) -> Arg<'a> {
+pub fn explain<'a>(alloc: Global) -> Arg<'a>
+    ensures { IsNamed result (codes "explain") }
+{
     Arg::new(alloc, "explain")
         .long("explain")
         .action(ArgAction::SetTrue)
@@ -47,7 +61,9 @@ pub fn explain<'a>(alloc: Global) -> Arg<'a> {
 }
 
 /// A word that takes a number, which has to be there.
-pub fn number<'a>(alloc: Global, name: &'a str, value: &'a str, help: &'a str) -> Arg<'a> {
+pub fn number<'a>(alloc: Global, name: &'a str, value: &'a str, help: &'a str) -> Arg<'a>
+    ensures { IsNamed result name.now }
+{
     Arg::new(alloc, name)
         .long(name)
         .value_name(value)
@@ -67,7 +83,9 @@ pub fn posters<'a>(alloc: Global) -> Arg<'a> {
 }
 
 /// The word that says how many patches are sent.
-pub fn first<'a>(alloc: Global) -> Arg<'a> {
+pub fn first<'a>(alloc: Global) -> Arg<'a>
+    ensures { IsNamed result (codes "first") }
+{
     Arg::new(alloc, "first")
         .long("first")
         .value_name("N")
@@ -76,7 +94,9 @@ pub fn first<'a>(alloc: Global) -> Arg<'a> {
 }
 
 /// The word that asks for the least context.
-pub fn minimal<'a>(alloc: Global) -> Arg<'a> {
+pub fn minimal<'a>(alloc: Global) -> Arg<'a>
+    ensures { IsNamed result (codes "minimal") }
+{
     Arg::new(alloc, "minimal")
         .long("minimal")
         .action(ArgAction::SetTrue)
@@ -84,12 +104,16 @@ pub fn minimal<'a>(alloc: Global) -> Arg<'a> {
 }
 
 /// The word that names a mirror's file.
-pub fn mirror<'a>(alloc: Global, help: &'a str) -> Arg<'a> {
+pub fn mirror<'a>(alloc: Global, help: &'a str) -> Arg<'a>
+    ensures { IsNamed result (codes "mirror") }
+{
     file(alloc, "mirror", help)
 }
 
 /// The word that has nobody wait.
-pub fn no_wait<'a>(alloc: Global) -> Arg<'a> {
+pub fn no_wait<'a>(alloc: Global) -> Arg<'a>
+    ensures { IsNamed result (codes "no-wait") }
+{
     Arg::new(alloc, "no-wait")
         .long("no-wait")
         .action(ArgAction::SetTrue)
@@ -97,15 +121,19 @@ pub fn no_wait<'a>(alloc: Global) -> Arg<'a> {
 }
 
 /// The word that has bundles come one after the other.
-pub fn stream<'a>(alloc: Global) -> Result<Arg<'a>, AllocError> {
-    Arg::new(alloc, "stream")
-        .long("stream")
-        .action(ArgAction::SetTrue)
-        .help(
-            "Read bundles from standard input, each after a line with its length in bytes, and answer each at once",
-        )
-        .requires_arg("mirror")?
-        .conflicts_with("bundles")
+pub fn stream<'a>(alloc: Global) -> Result<Arg<'a>, AllocError>
+    ensures name { IfOk result (λ arg. IsNamed arg (codes "stream")) }
+    ensures wants { IfOk result (λ arg. Wants arg (codes "mirror")) }
+    ensures excludes { IfOk result (λ arg. Excludes arg (codes "bundles")) }
+{
+    let alone = flag(
+        alloc,
+        "stream",
+        "Read bundles from standard input, each after a line with its length in bytes, and answer each at once",
+    );
+    let arg = alone.conflicts_with("bundles")?;
+    let arg = arg.requires_arg("mirror")?;
+    Ok(arg)
 }
 
 /// The words that name bundles.
@@ -122,7 +150,9 @@ pub fn one_bundle<'a>(alloc: Global, help: &'a str) -> Arg<'a> {
 }
 
 /// A word that is there or not.
-pub fn flag<'a>(alloc: Global, name: &'a str, help: &'a str) -> Arg<'a> {
+pub fn flag<'a>(alloc: Global, name: &'a str, help: &'a str) -> Arg<'a>
+    ensures { IsNamed result name.now }
+{
     Arg::new(alloc, name)
         .long(name)
         .action(ArgAction::SetTrue)
@@ -130,7 +160,9 @@ pub fn flag<'a>(alloc: Global, name: &'a str, help: &'a str) -> Arg<'a> {
 }
 
 /// The word that wants a right hash behind each bundle.
-pub fn hash<'a>(alloc: Global) -> Arg<'a> {
+pub fn hash<'a>(alloc: Global) -> Arg<'a>
+    ensures { IsNamed result (codes "hash") }
+{
     flag(
         alloc,
         "hash",
@@ -139,10 +171,44 @@ pub fn hash<'a>(alloc: Global) -> Arg<'a> {
 }
 
 /// The word that says how many entries are printed.
-pub fn last<'a>(alloc: Global) -> Arg<'a> {
+pub fn last<'a>(alloc: Global) -> Arg<'a>
+    ensures { IsNamed result (codes "last") }
+{
     Arg::new(alloc, "last")
         .long("last")
         .value_name("N")
         .value_parser(value_parser!(u32))
         .help("Print the newest N patches alone")
+}
+
+/// A word that takes a text.
+pub fn text<'a>(alloc: Global, name: &'a str, value: &'a str, help: &'a str) -> Arg<'a>
+    ensures { IsNamed result name.now }
+{
+    Arg::new(alloc, name)
+        .long(name)
+        .value_name(value)
+        .help(help)
+}
+
+/// The word that names the file of a bundle that is made.
+pub fn output<'a>(alloc: Global) -> Arg<'a>
+    ensures { IsNamed result (codes "output") }
+{
+    text(
+        alloc,
+        "output",
+        "BUNDLE",
+        "Keep the bundle in a new file, which is on the disk before the mirror changes",
+    )
+    .short('o')
+}
+
+/// The words that choose patches of a mirror.
+pub fn patches<'a>(alloc: Global) -> Arg<'a> {
+    Arg::new(alloc, "patches")
+        .value_name("PATCH")
+        .action(ArgAction::Append)
+        .required(true)
+        .help("A patch's name, or the first digits of its hash")
 }

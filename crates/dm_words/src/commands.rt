@@ -1,7 +1,7 @@
 //! The commands.
 use crate::arguments::{
     bundle, bundles, explain, file, first, flag, hash, last, minimal, mirror, no_wait, number,
-    one_bundle, posters, repository, skip, stream,
+    one_bundle, output, patches, posters, repository, skip, stream, text,
 };
 use clap::{Arg, ArgGroup, Command};
 use std::alloc::{AllocError, Global};
@@ -38,6 +38,20 @@ const CHECKOUT_HELP: &str = "\
 Exit status: 0 if the tree was written, 2 if it wasn't.
 
 Example: dm checkout --mirror shelf.dm shelf";
+
+/// What the exit status of `dm obliterate` says, and an example.
+const OBLITERATE_HELP: &str = "\
+PATCH is the name of one patch of the mirror, or the first digits of its hash, seven at least, as dm log prints it.
+Exit status: 0 if the patches were taken out, 1 if others rest on them, 2 if there is no answer.
+
+Example: dm obliterate --mirror shelf.dm -o gone.dpatch 5e1f9a2";
+
+/// What the exit status of `dm rollback` says, and an example.
+const ROLLBACK_HELP: &str = "\
+PATCH is the name of one patch of the mirror, or the first digits of its hash, seven at least, as dm log prints it.
+Exit status: 0 if a bundle was made, 1 if other patches rest on these, 2 if there is no answer.
+
+Example: dm rollback --mirror shelf.dm --author 'Ann <ann@example.org>' 5e1f9a2 > undo.dpatch";
 
 /// What the exit status of `dm run` says, and an example.
 const RUN_HELP: &str = "\
@@ -88,6 +102,11 @@ fn check_words<'a>(alloc: Global) -> Result<Command<'a>, AllocError> {
     Command::new(alloc, "check")
         .about("Read a patch bundle; print its canonical text, or what is wrong with it")
         .after_help(CHECK_HELP)
+        .arg(flag(
+            alloc,
+            "paths",
+            "Print the paths that its patches touch, in place of its text",
+        ))?
         .arg(hash(alloc))?
         .arg(explain(alloc))?
         .arg(one_bundle(
@@ -175,6 +194,55 @@ fn checkout_words<'a>(alloc: Global) -> Result<Command<'a>, AllocError> {
         )
 }
 
+/// The words of `dm obliterate`.
+fn obliterate_words<'a>(alloc: Global) -> Result<Command<'a>, AllocError> {
+    Command::new(alloc, "obliterate")
+        .about(
+            "Take patches out of a mirror; print the bundle that brings them back, or keep it in a file",
+        )
+        .after_help(OBLITERATE_HELP)
+        .arg(mirror(alloc, "The mirror that FILE keeps").required(true))?
+        .arg(output(alloc))?
+        .arg(flag(
+            alloc,
+            "with-dependents",
+            "Take out the patches that rest on these, too",
+        ))?
+        .arg(flag(
+            alloc,
+            "dry-run",
+            "Print the bundle, and leave the mirror as it is",
+        )
+        .conflicts_with("output")?)?
+        .arg(no_wait(alloc))?
+        .arg(explain(alloc))?
+        .arg(patches(alloc))
+}
+
+/// The words of `dm rollback`.
+fn rollback_words<'a>(alloc: Global) -> Result<Command<'a>, AllocError> {
+    Command::new(alloc, "rollback")
+        .about("Print the bundle of a new patch that undoes patches of a mirror")
+        .after_help(ROLLBACK_HELP)
+        .arg(mirror(alloc, "The mirror that FILE keeps").required(true))?
+        .arg(text(alloc, "author", "AUTHOR", "Who undoes them").required(true))?
+        .arg(text(
+            alloc,
+            "date",
+            "DATE",
+            "The date of the new patch: fourteen digits, in UTC; without it, now",
+        ))?
+        .arg(text(
+            alloc,
+            "name",
+            "NAME",
+            "The name of the new patch; without it, rollback: and the name of the first PATCH",
+        ))?
+        .arg(text(alloc, "log", "TEXT", "The log of the new patch"))?
+        .arg(no_wait(alloc))?
+        .arg(patches(alloc))
+}
+
 /// The words of `dm run`.
 fn run_words<'a>(alloc: Global) -> Result<Command<'a>, AllocError> {
     let waiting = "How many mails may wait at a mirror, 1 to 64";
@@ -238,6 +306,8 @@ pub fn program<'a>(alloc: Global) -> Result<Command<'a>, AllocError> {
         .subcommand(checkout_words(alloc)?)?
         .subcommand(init_words(alloc)?)?
         .subcommand(log_words(alloc)?)?
+        .subcommand(obliterate_words(alloc)?)?
+        .subcommand(rollback_words(alloc)?)?
         .subcommand(run_words(alloc)?)?
         .subcommand(send_words(alloc)?)
 }
