@@ -9,8 +9,9 @@ use Rattle.dm_scratch.specs.Words.{verdict_text}
 use Rattle.dm_scratch.specs.Printing.{line_of}
 use Rattle.dm_tool.specs.Printing.{status_of}
 use Rattle.dm_tool.specs.Checking.{Checks, malformed, no_memory}
+use Rattle.dm_tool.specs.declared.check.CheckOutput.{CheckOutput}
 
-pub unread_checks : (text out : List ℕ) (fault : ReadFault) (v : Verdict) (status : ℕ) → (fault.kind ≢ kind.NoMemory → FaultAt text fault.kind fault.at) → IsUnread fault v
-    → out ≡ line_of (verdict_text v) → status ≡ status_of v → Checks text out status
-unread_checks text out fault v status at (inl x) e s = malformed fault (at x.0) (rw x.1 at e) (rw x.1 at s)
-unread_checks text out fault v status at (inr x) e s = no_memory (rw x.1 at e) (rw x.1 at s)
+pub unread_checks : (output : CheckOutput) (text out : List ℕ) (fault : ReadFault) (v : Verdict) (status : ℕ) → (fault.kind ≢ kind.NoMemory → FaultAt text fault.kind fault.at) → IsUnread fault v
+    → out ≡ line_of (verdict_text v) → status ≡ status_of v → Checks output text out status
+unread_checks output text out fault v status at (inl x) e s = malformed fault (at x.0) (rw x.1 at e) (rw x.1 at s)
+unread_checks output text out fault v status at (inr x) e s = no_memory (rw x.1 at e) (rw x.1 at s)

@@ -3,3 +3,5 @@ pub mod AnswerLemmas
 pub mod RunLemmas
 pub mod SendLemmas
 pub mod MirrorLemmas
+pub mod TakenOut
+pub mod ChoosingLemmas

@@ -15,33 +15,41 @@ use Rattle.dm_deliver.specs.declared.hash_rule.HashFault.{HashFault}
 use Rattle.dm_deliver.specs.declared.hash_rule.HashRule.TheVariants.{Right}
 use Rattle.dm_deliver.specs.Answering.{answer_line}
 use Rattle.dm_deliver.specs.Hashes.{HasHashFault, PassesRule}
+use Rattle.dm_log.specs.Touched.{TellsPaths}
 use Rattle.dm_tool.specs.Streams.{Gives}
+use Rattle.dm_tool.specs.declared.check.CheckOutput.{CheckOutput}
+use Rattle.dm_tool.specs.declared.check.CheckOutput.TheVariants.{Text, Paths}
 use Rattle.dm_tool.specs.declared.check.Checked.{Checked}
 use Rattle.dm_tool.specs.declared.check.Unread.{Unread}
 
--- these bytes and this exit status: the canonical text of the bundle that the text stands for, the line of the text's fault, or the line that memory ran out
-pub data Checks (text printed : List ℕ) (status : ℕ) : Type 0 where
-  canonical : (b : Contents) → Reads text b → printed ≡ bundle_text b → status ≡ 0 → Checks text printed status
-  malformed : (fault : ReadFault) → FaultAt text fault.kind fault.at → printed ≡ line_of (verdict_text (Malformed fault)) → status ≡ 1 → Checks text printed status
-  no_memory : printed ≡ line_of (verdict_text (Refused NoMemory)) → status ≡ 1 → Checks text printed status
+-- what is printed of a bundle: its canonical text, or the paths that its patches touch
+abbrev pub IsOutput : CheckOutput → Contents → List ℕ → Type 0
+IsOutput Text b printed = printed ≡ bundle_text b
+IsOutput Paths b printed = TellsPaths b.patches printed
+
+-- these bytes and this exit status: what is printed of the bundle that the text stands for, the line of the text's fault, or the line that memory ran out
+pub data Checks (output : CheckOutput) (text printed : List ℕ) (status : ℕ) : Type 0 where
+  shown : (b : Contents) → Reads text b → IsOutput output b printed → status ≡ 0 → Checks output text printed status
+  malformed : (fault : ReadFault) → FaultAt text fault.kind fault.at → printed ≡ line_of (verdict_text (Malformed fault)) → status ≡ 1 → Checks output text printed status
+  no_memory : printed ≡ line_of (verdict_text (Refused NoMemory)) → status ≡ 1 → Checks output text printed status
 
 -- so is the text that the reader gave
-pub record ChecksInput (before after : Option (List ℕ)) (out : List ℕ) (status : ℕ) : Type 0 where
+pub record ChecksInput (output : CheckOutput) (before after : Option (List ℕ)) (out : List ℕ) (status : ℕ) : Type 0 where
   pub text : List ℕ
   pub gives : Gives before after text
-  pub checks : Checks text out status
+  pub checks : Checks output text out status
 
 -- The same where a right hash is asked for: nothing is refused of the text's hash, and these bytes and this exit status are those of the text; or they are the
 -- line of what is wrong with its hash.
-pub data ChecksHash (text printed : List ℕ) (status : ℕ) : Type 0 where
-  passes : PassesRule Right text → Checks text printed status → ChecksHash text printed status
-  refused : (fault : HashFault) → HasHashFault Right text fault → printed ≡ answer_line (Hash fault) → status ≡ 1 → ChecksHash text printed status
+pub data ChecksHash (output : CheckOutput) (text printed : List ℕ) (status : ℕ) : Type 0 where
+  passes : PassesRule Right text → Checks output text printed status → ChecksHash output text printed status
+  refused : (fault : HashFault) → HasHashFault Right text fault → printed ≡ answer_line (Hash fault) → status ≡ 1 → ChecksHash output text printed status
 
 -- so is the text that the reader gave
-pub record ChecksHashInput (before after : Option (List ℕ)) (out : List ℕ) (status : ℕ) : Type 0 where
+pub record ChecksHashInput (output : CheckOutput) (before after : Option (List ℕ)) (out : List ℕ) (status : ℕ) : Type 0 where
   pub text : List ℕ
   pub gives : Gives before after text
-  pub checks : ChecksHash text out status
+  pub checks : ChecksHash output text out status
 
 -- the fault is one of this text, or memory ran out
 pub record IsUnreadText (text : List ℕ) (unread : Unread) : Type 0 where

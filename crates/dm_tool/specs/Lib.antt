@@ -1,8 +1,10 @@
 pub mod Streams
 pub mod Printing
 pub mod Checking
+pub mod Choosing
 pub mod Applying
 pub mod Running
 pub mod Sending
+pub mod Obliterating
 pub mod Bundles
 pub mod Mirrors

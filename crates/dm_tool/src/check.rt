@@ -4,17 +4,28 @@ ghost use Rattle.std.specs.Io.KnownBytes.{Keeps};
 ghost use Rattle.dm_deliver.specs.Answering.{answer_line};
 ghost use Rattle.dm_deliver.specs.declared.answers.Answer.TheVariants.{Hash};
 ghost use Rattle.dm_tool.specs.Streams.{Writes, WritesPrefix};
-ghost use Rattle.dm_tool.specs.Checking.{Checks, ChecksHash, ChecksHashInput, ChecksInput, IsTold, TellsInput};
+ghost use Rattle.dm_tool.specs.Checking.{Checks, ChecksHash, ChecksHashInput, ChecksInput, IsOutput, IsTold, TellsInput};
+ghost use Rattle.dm_tool.specs.declared.check.CheckOutput.TheVariants.{Paths, Text};
 
 use crate::fault::ToolFault;
 use crate::status::status_of;
 use crate::streams::{read_text, write_text};
-use dm_bundle::{read_bundle, write_bundle};
+use dm_bundle::{Bundle, read_bundle, write_bundle};
 use dm_deliver::{Answer, HashFault, HashRule, hash_fault, push_answer};
+use dm_log::write_paths;
 use dm_named::ReadFault;
 use dm_scratch::{Verdict, push_verdict};
 use std::alloc::{AllocError, Global};
 use std::io::{Read, Write};
+
+/// What `dm check` prints of a bundle.
+#[derive(Clone, Copy, Debug, PartialEq, Eq)]
+pub enum CheckOutput {
+    /// Its canonical text.
+    Text,
+    /// The paths that its patches touch.
+    Paths,
+}
 
 /// What `dm check` answered, and why where the text is no bundle.
 #[derive(Drop)]
@@ -34,16 +45,34 @@ pub struct Unread {
     pub fault: ReadFault,
 }
 
+/// What is printed of a bundle.
+fn output_text(
+    alloc: Global,
+    output: CheckOutput,
+    bundle: &Bundle<Global>,
+) -> Result<Vec<u8>, AllocError>
+    ensures { IfOk result (λ out. IsOutput output bundle.now out.items) }
+{
+    match output {
+        CheckOutput::Text => write_bundle(alloc, bundle),
+        CheckOutput::Paths => write_paths(alloc, bundle),
+    }
+}
+
 /// What is printed of a text, and the exit status. The text of a bundle is given up once it has been read: it and what is
 /// printed may be large.
-fn check_text(alloc: Global, text: Vec<u8>) -> Result<(Vec<u8>, Checked), AllocError>
-    ensures checks { IfOk result (λ x. Checks text.items x.0.items x.1.status) }
+fn check_text(
+    alloc: Global,
+    output: CheckOutput,
+    text: Vec<u8>,
+) -> Result<(Vec<u8>, Checked), AllocError>
+    ensures checks { IfOk result (λ x. Checks output text.items x.0.items x.1.status) }
     ensures told { IfOk result (λ x. IsTold text.items x.1) }
 {
     match read_bundle(alloc, &text) {
         Ok(bundle) => {
             drop(text);
-            let out = write_bundle(alloc, &bundle)?;
+            let out = output_text(alloc, output, &bundle)?;
             Ok((
                 out,
                 Checked {
@@ -68,6 +97,26 @@ fn check_text(alloc: Global, text: Vec<u8>) -> Result<(Vec<u8>, Checked), AllocE
     }
 }
 
+/// Reads a bundle and writes what is printed of it, or the line of the verdict.
+fn check_as<R: Read, W: Write>(
+    alloc: Global,
+    output: CheckOutput,
+    reader: &mut R,
+    writer: &mut W,
+) -> Result<Checked, ToolFault>
+    ensures ok { IfOk result (λ checked. Writes (ChecksInput output (R.remaining reader.old) (R.remaining reader.new)) (W.contents writer.old) (W.contents writer.new) checked.status) }
+    ensures told { IfOk result (TellsInput (R.remaining reader.old) (R.remaining reader.new)) }
+    ensures silent { IfErr result (λ e. (e ≢ ToolFault.Write) → Keeps (W.contents writer.old) (W.contents writer.new)) }
+    ensures prefix { IfErr result (λ e. (e ≡ ToolFault.Write) →
+        WritesPrefix (ChecksInput output (R.remaining reader.old) (R.remaining reader.new)) (W.contents writer.old) (W.contents writer.new)) }
+    ensures fault { IfErr result (λ e. (e ≡ ToolFault.Read) ⊎ ((e ≡ ToolFault.NoMemory) ⊎ (e ≡ ToolFault.Write))) }
+{
+    let text = read_text(alloc, reader)?;
+    let (out, checked) = check_text(alloc, output, text)?;
+    write_text(&out, writer)?;
+    Ok(checked)
+}
+
 /// Reads a bundle and writes its canonical text, or the line of the verdict: that the text is
 /// malformed, or that memory ran out as it was read. Returns the exit status, 0 with a
 /// canonical text and 1 with a verdict, and why there is no bundle.
@@ -80,17 +129,32 @@ pub fn check_over<R: Read, W: Write>(
     reader: &mut R,
     writer: &mut W,
 ) -> Result<Checked, ToolFault>
-    ensures ok { IfOk result (λ checked. Writes (ChecksInput (R.remaining reader.old) (R.remaining reader.new)) (W.contents writer.old) (W.contents writer.new) checked.status) }
+    ensures ok { IfOk result (λ checked. Writes (ChecksInput Text (R.remaining reader.old) (R.remaining reader.new)) (W.contents writer.old) (W.contents writer.new) checked.status) }
     ensures told { IfOk result (TellsInput (R.remaining reader.old) (R.remaining reader.new)) }
     ensures silent { IfErr result (λ e. (e ≢ ToolFault.Write) → Keeps (W.contents writer.old) (W.contents writer.new)) }
     ensures prefix { IfErr result (λ e. (e ≡ ToolFault.Write) →
-        WritesPrefix (ChecksInput (R.remaining reader.old) (R.remaining reader.new)) (W.contents writer.old) (W.contents writer.new)) }
+        WritesPrefix (ChecksInput Text (R.remaining reader.old) (R.remaining reader.new)) (W.contents writer.old) (W.contents writer.new)) }
     ensures fault { IfErr result (λ e. (e ≡ ToolFault.Read) ⊎ ((e ≡ ToolFault.NoMemory) ⊎ (e ≡ ToolFault.Write))) }
 {
-    let text = read_text(alloc, reader)?;
-    let (out, checked) = check_text(alloc, text)?;
-    write_text(&out, writer)?;
-    Ok(checked)
+    check_as(alloc, CheckOutput::Text, reader, writer)
+}
+
+/// Reads a bundle and writes the paths that its patches touch, or the line of the verdict, as [`check_over`] does.
+///
+/// Errors: as there.
+pub fn check_paths_over<R: Read, W: Write>(
+    alloc: Global,
+    reader: &mut R,
+    writer: &mut W,
+) -> Result<Checked, ToolFault>
+    ensures ok { IfOk result (λ checked. Writes (ChecksInput Paths (R.remaining reader.old) (R.remaining reader.new)) (W.contents writer.old) (W.contents writer.new) checked.status) }
+    ensures told { IfOk result (TellsInput (R.remaining reader.old) (R.remaining reader.new)) }
+    ensures silent { IfErr result (λ e. (e ≢ ToolFault.Write) → Keeps (W.contents writer.old) (W.contents writer.new)) }
+    ensures prefix { IfErr result (λ e. (e ≡ ToolFault.Write) →
+        WritesPrefix (ChecksInput Paths (R.remaining reader.old) (R.remaining reader.new)) (W.contents writer.old) (W.contents writer.new)) }
+    ensures fault { IfErr result (λ e. (e ≡ ToolFault.Read) ⊎ ((e ≡ ToolFault.NoMemory) ⊎ (e ≡ ToolFault.Write))) }
+{
+    check_as(alloc, CheckOutput::Paths, reader, writer)
 }
 
 /// The line of a hash that is refused.
@@ -103,8 +167,12 @@ fn hash_line(alloc: Global, fault: HashFault) -> Result<Vec<u8>, AllocError>
 }
 
 /// What is printed of a text where the hash of its patches has to stand behind it, and the exit status.
-fn check_hashed(alloc: Global, text: Vec<u8>) -> Result<(Vec<u8>, Checked), AllocError>
-    ensures { IfOk result (λ x. ChecksHash text.items x.0.items x.1.status) }
+fn check_hashed(
+    alloc: Global,
+    output: CheckOutput,
+    text: Vec<u8>,
+) -> Result<(Vec<u8>, Checked), AllocError>
+    ensures { IfOk result (λ x. ChecksHash output text.items x.0.items x.1.status) }
 {
     match hash_fault(alloc, &text, HashRule::Right)? {
         Some(fault) => {
@@ -118,7 +186,7 @@ fn check_hashed(alloc: Global, text: Vec<u8>) -> Result<(Vec<u8>, Checked), Allo
             ))
         }
         None => {
-            let (out, checked) = check_text(alloc, text)?;
+            let (out, checked) = check_text(alloc, output, text)?;
             Ok((out, checked))
         }
     }
@@ -130,17 +198,18 @@ fn check_hashed(alloc: Global, text: Vec<u8>) -> Result<(Vec<u8>, Checked), Allo
 /// Errors: as there.
 pub fn check_hash_over<R: Read, W: Write>(
     alloc: Global,
+    output: CheckOutput,
     reader: &mut R,
     writer: &mut W,
 ) -> Result<Checked, ToolFault>
-    ensures ok { IfOk result (λ checked. Writes (ChecksHashInput (R.remaining reader.old) (R.remaining reader.new)) (W.contents writer.old) (W.contents writer.new) checked.status) }
+    ensures ok { IfOk result (λ checked. Writes (ChecksHashInput output (R.remaining reader.old) (R.remaining reader.new)) (W.contents writer.old) (W.contents writer.new) checked.status) }
     ensures silent { IfErr result (λ e. (e ≢ ToolFault.Write) → Keeps (W.contents writer.old) (W.contents writer.new)) }
     ensures prefix { IfErr result (λ e. (e ≡ ToolFault.Write) →
-        WritesPrefix (ChecksHashInput (R.remaining reader.old) (R.remaining reader.new)) (W.contents writer.old) (W.contents writer.new)) }
+        WritesPrefix (ChecksHashInput output (R.remaining reader.old) (R.remaining reader.new)) (W.contents writer.old) (W.contents writer.new)) }
     ensures fault { IfErr result (λ e. (e ≡ ToolFault.Read) ⊎ ((e ≡ ToolFault.NoMemory) ⊎ (e ≡ ToolFault.Write))) }
 {
     let text = read_text(alloc, reader)?;
-    let (answer, checked) = check_hashed(alloc, text)?;
+    let (answer, checked) = check_hashed(alloc, output, text)?;
     write_text(&answer, writer)?;
     Ok(checked)
 }

@@ -2,7 +2,7 @@
 use crate::apply::apply_over;
 use crate::base::{Base, repo_of};
 use crate::beginning::init;
-use crate::check::{check_hash_over, check_over};
+use crate::check::{CheckOutput, Checked, check_hash_over, check_over, check_paths_over};
 use crate::checking_out::check_out;
 use crate::colour::{Colour, colour_of};
 use crate::delivering::{apply_each, apply_to_mirror};
@@ -12,18 +12,47 @@ use crate::files::{base_of, blame_input, read_base, read_file};
 use crate::input::{INPUT, Input};
 use crate::listing::Listing;
 use crate::logging::log;
+use crate::obliterating::obliterate_chosen;
 use crate::plan_words::{policy_of, refuse_base, run_plan};
 use crate::sending::send;
 use crate::telling::{Manner, NO_ANSWER, exit_status, fixed_manner, tell};
+use crate::undoing::undo_chosen;
 use crate::word_fault::WordFault;
 use clap::error::ErrorKind;
 use clap::{ArgMatches, Error};
 use dm_named::Limits;
 use dm_words::program;
+use std::io::{Read, Write};
 use std::rt::Runtime;
 use std::sync::Wait;
 use std::thread::Threads;
 use std::{env, io};
+
+/// What `dm check` prints of a bundle.
+fn output_of(words: &ArgMatches<'_>) -> CheckOutput {
+    if words.get_flag("paths") {
+        CheckOutput::Paths
+    } else {
+        CheckOutput::Text
+    }
+}
+
+/// What the words ask of a text.
+fn check_words<R: Read, W: Write>(
+    rt: &HostRuntime,
+    words: &ArgMatches<'_>,
+    reader: &mut R,
+    writer: &mut W,
+) -> Result<Checked, ToolFault> {
+    let output = output_of(words);
+    if words.get_flag("hash") {
+        return check_hash_over(rt.alloc(), output, reader, writer);
+    }
+    match output {
+        CheckOutput::Text => check_over(rt.alloc(), reader, writer),
+        CheckOutput::Paths => check_paths_over(rt.alloc(), reader, writer),
+    }
+}
 
 /// `dm check` with explanations: the text is read first, since a sound bundle gives it up.
 fn check_explained<'a>(
@@ -35,11 +64,7 @@ fn check_explained<'a>(
     let text = read_file(rt, name, Limits::STANDARD)?;
     let mut writer = io::writer(rt);
     let mut reader = text.as_slice();
-    let checked = if words.get_flag("hash") {
-        check_hash_over(rt.alloc(), &mut reader, &mut writer)?
-    } else {
-        check_over(rt.alloc(), &mut reader, &mut writer)?
-    };
+    let checked = check_words(rt, words, &mut reader, &mut writer)?;
     match &checked.unread {
         Some(unread) => explain_unread(rt, colour, unread),
         None => explain_hash(rt, colour, &text, words.get_flag("hash")),
@@ -59,12 +84,7 @@ fn check<'a>(
     }
     let mut reader = Input::open(rt, name);
     let mut writer = io::writer(rt);
-    let checked = if words.get_flag("hash") {
-        check_hash_over(rt.alloc(), &mut reader, &mut writer)
-    } else {
-        check_over(rt.alloc(), &mut reader, &mut writer)
-    };
-    match checked {
+    match check_words(rt, words, &mut reader, &mut writer) {
         Ok(checked) => Ok(checked.status),
         Err(fault) => Err(blame_input(&reader, name, fault)),
     }
@@ -184,6 +204,14 @@ fn start<R: Runtime + AllocGlobal + Threads + Wait + Sync>(
         Some(("checkout", words)) => exit_status(rt, full, check_out(host, words, is_terminal)),
         Some(("init", words)) => exit_status(rt, full, init(host, colour, words, is_terminal)),
         Some(("log", words)) => exit_status(rt, full, log(host, words, is_terminal)),
+        Some(("obliterate", words)) => exit_status(
+            rt,
+            full,
+            obliterate_chosen(host, colour, words, is_terminal),
+        ),
+        Some(("rollback", words)) => {
+            exit_status(rt, full, undo_chosen(host, words, is_terminal))
+        }
         Some(("run", words)) => {
             exit_status(rt, fixed_manner(words), run_plan(rt, host, colour, words))
         }

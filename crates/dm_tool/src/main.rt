@@ -6,6 +6,7 @@
 //! patches as a bundle. `dm run` lets posters send bundles to mirrors, in threads, and prints what each
 //! mirror took, and its tree. `dm send` prints the bundle of what somebody lacks. `dm apply --mirror` takes
 //! bundles into a mirror that a file keeps; `dm log` prints its patches, and `dm checkout` writes its tree.
+//! `dm obliterate` takes patches out of it, and `dm rollback` prints the bundle of a patch that undoes others.
 //!
 //! The crate stands on `dm_scratch` for taking a text into a repository, on `dm_mirror` for posters and
 //! mirrors, on `dm_send` for what somebody lacks, on `dm_deliver`, `dm_store` and `dm_disk` for a mirror on a
@@ -23,6 +24,7 @@ mod beginning;
 mod bundles;
 mod check;
 mod checking_out;
+mod choosing;
 mod colour;
 mod commands;
 mod delivering;
@@ -33,6 +35,7 @@ mod input;
 mod listing;
 mod logging;
 mod mirror;
+mod obliterating;
 mod plan_words;
 mod print;
 mod progress;
@@ -42,6 +45,7 @@ mod sending;
 mod status;
 mod streams;
 mod telling;
+mod undoing;
 mod watching;
 mod word_fault;
 

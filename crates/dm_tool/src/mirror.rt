@@ -17,7 +17,7 @@ use std::thread;
 use std::time::Duration;
 
 /// Why the file of a mirror isn't opened.
-fn unopened<'a>(path: &'a str, fault: OpenFault) -> WordFault<'a> {
+pub fn unopened<'a>(path: &'a str, fault: OpenFault) -> WordFault<'a> {
     match fault {
         OpenFault::Sync(error) => WordFault::Unsynced(path, error),
         _ => WordFault::Unopened(path, fault),

@@ -105,7 +105,7 @@ fn are_few(patches: &[Named<Global>]) -> bool
 }
 
 /// The text of a bundle with the hash of its patches, where both are within the limits of what is read.
-fn text_of(alloc: Global, bundle: &Bundle<Global>) -> Result<Vec<u8>, ToolFault>
+pub fn text_of(alloc: Global, bundle: &Bundle<Global>) -> Result<Vec<u8>, ToolFault>
     ensures text { IfOk result (λ text. text.items ≡ hashed_text bundle.now) }
     ensures reads { IfOk result (λ text. Reads text.items bundle.now) }
     ensures err { IfErr result (λ e. (e ≡ ToolFault.NoMemory) ⊎ ((e ≡ ToolFault.TooManyToSend) × (IsWithinLimits bundle.now → ⊥))) }
@@ -121,7 +121,7 @@ fn text_of(alloc: Global, bundle: &Bundle<Global>) -> Result<Vec<u8>, ToolFault>
 }
 
 /// The line that says why there is no bundle. That memory ran out is no answer.
-fn refusal_line(alloc: Global, why: Refusal) -> Result<Vec<u8>, ToolFault>
+pub fn refusal_line(alloc: Global, why: Refusal) -> Result<Vec<u8>, ToolFault>
     ensures line { IfOk result (λ line. line.items ≡ line_of (verdict_text (Refused why))) }
     ensures answers { IfOk result (λ _. why ≢ Refusal.NoMemory) }
     ensures err { IfErr result (λ e. e ≡ ToolFault.NoMemory) }

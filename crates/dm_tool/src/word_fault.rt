@@ -3,6 +3,7 @@ use crate::fault::ToolFault;
 use crate::input::INPUT;
 use dm_deliver::{AnswerError, DeliverError, FrameFault, FrameFaultKind};
 use dm_disk::OpenFault;
+use dm_info::InfoFault;
 use dm_journal::WriteError;
 use dm_mirror::PlanFault;
 use dm_named::ReadFault;
@@ -61,6 +62,33 @@ pub enum WordFault<'a> {
     /// The bundles on standard input end, or can't be told apart. All before this frame are answered.
     #[error("{0}")]
     BadFrame(FrameFault),
+    /// No patch of the mirror has this name, nor a hash that begins so.
+    #[error("the mirror holds no patch {0}: a name or the first seven digits of a hash are wanted, as dm log prints them")]
+    UnknownPatch(&'a str),
+    /// The file of this name was to be made, and has bytes.
+    #[error("{0} is there already")]
+    OutputIsThere(&'a str),
+    /// What goes is past the limits of one bundle.
+    #[error("the bundle of these patches, with the names of all that stay, is past the limits of one; roll back instead")]
+    TooManyToTakeOut,
+    /// What would stay in the mirror of this name is past the limits of a repository of one's own.
+    #[error("what stays is too large for {0}")]
+    TooLargeToStay(&'a str),
+    /// A date isn't fourteen digits.
+    #[error("bad date {0}: fourteen digits are wanted, as 20261127093000, in UTC")]
+    BadDate(&'a str),
+    /// The system's clock can't be read.
+    #[error("cannot read the clock; give --date")]
+    NoClock,
+    /// No patch can have this name, author, date and log.
+    #[error("{0}")]
+    BadInfo(InfoFault),
+    /// The mirror holds a patch of this name, author, date and log.
+    #[error("the mirror holds a patch of this name, author, date and log already")]
+    NameIsHeld,
+    /// The chosen patches change nothing.
+    #[error("these patches change nothing that could be undone")]
+    NothingToUndo,
     /// The command gives no answer.
     #[error("{0}")]
     Tool(ToolFault),

@@ -6,7 +6,7 @@ use Rattle.dm_tool.proofs.check.check_hashed.Goals as goal
 
 pub returns-in_ok-line-in-Some : goal.returns-in_ok-line-in-Some
 returns-in_ok-line-in-Some c =
-    subst (λ (t : List ℕ). ChecksHash t c.in_ok-line-in-Some.line.items 1) c.deref.ensures.value
+    subst (λ (t : List ℕ). ChecksHash c.args.output t c.in_ok-line-in-Some.line.items 1) c.deref.ensures.value
     (refused c.in-Some.fault (rw c.in-Some.is at c.in_ok-fault.ensures.some) c.in_ok-line-in-Some.ensures refl)
 
 pub returns-in_ok-out-in-None : goal.returns-in_ok-out-in-None

@@ -1,0 +1,263 @@
+//! `dm obliterate`: patches are taken out of a mirror, and kept as a bundle.
+ghost use Rattle.std.specs.Prelude.{◌≡◌, ◌⊎◌, IfOk, IsTrue, OnOk};
+ghost use Rattle.dm_disk.specs.States.{seen, may_leave, file_may_leave};
+ghost use Rattle.dm_journal.specs.Device.{IsDurable, LeavesOnly};
+ghost use Rattle.dm_send.specs.Obliterating.{Obliterates};
+ghost use Rattle.dm_scratch.specs.Taking.{Reads};
+ghost use Rattle.dm_store.specs.Keeping.{IsStored};
+ghost use Rattle.dm_store.specs.LettingGo.{LosesNothing};
+ghost use Rattle.dm_tool.specs.Obliterating.{TakesOut};
+
+use crate::choosing::{chosen_names, label_of};
+use crate::colour::{Colour, say};
+use crate::fault::ToolFault;
+use crate::mirror::{blame, open_file, open_store, unopened};
+use crate::send::{refusal_line, text_of};
+use crate::streams::write_text;
+use crate::word_fault::WordFault;
+use clap::ArgMatches;
+use dm_bundle::Bundle;
+use dm_disk::{Access, DiskFile, Lock};
+use dm_info::Info;
+use dm_journal::{Device, WriteError, replace_file};
+use dm_repo::Refusal;
+use dm_send::{Obliterated, obliterate};
+use dm_store::Store;
+use std::alloc::Global;
+use std::io;
+use std::rt::Runtime;
+
+/// Which of two files could not be written.
+enum Unkept {
+    /// That of the bundle: the mirror is as it was.
+    Bundle(WriteError),
+    /// That of the mirror, once the bundle was on the disk.
+    Mirror(WriteError),
+}
+
+/// Puts the bundle of what goes into a file, and once it is on the disk has the mirror let go of it. `false` where what stays is past
+/// the limits of a repository of one's own: the mirror is as it was then.
+fn keep_and_let_go<D: Device, F: Device>(
+    alloc: Global,
+    store: &mut Store<D>,
+    file: &mut F,
+    text: &[u8],
+    out: Obliterated<Global>,
+) -> Result<bool, Unkept>
+    requires stored { IsStored D.seen D.may_leave D.file_may_leave store.old }
+    requires durable { IsDurable F.seen F.may_leave F.file_may_leave file.old }
+    requires takes_out { TakesOut store.old.repo.patches out text.now }
+
+    ensures done { IfOk result (λ done. IsTrue done → store.new.repo ≡ out.repo) }
+    ensures stored { OnOk result (IsStored D.seen D.may_leave D.file_may_leave store.new) }
+    ensures kept { OnOk result (IsDurable F.seen F.may_leave F.file_may_leave file.new × (F.seen file.new ≡ text.now)) }
+
+    // The mirror isn't touched before the bundle is on the disk.
+    ensures order { (store.new ≡ store.old) ⊎ (IsDurable F.seen F.may_leave F.file_may_leave file.new × (F.seen file.new ≡ text.now)) }
+
+    // A crash at any moment loses no patch, once the mirror is touched: the one file or the other has it. It leaves the file of
+    // the bundle as it was, or whole.
+    ensures any_moment { (store.new ≡ store.old) ⊎ LeavesOnly D.moment D.left_since store.old.journal.device store.new.journal.device
+        (LosesNothing store.old.repo.patches out.repo.patches (F.may_leave file.new)) }
+    ensures file { LeavesOnly F.moment F.left_since file.old file.new (λ c. (c ≡ F.seen file.old) ⊎ (c ≡ text.now)) }
+{
+    if let Err(fault) = replace_file(file, text) {
+        return Err(Unkept::Bundle(fault));
+    }
+    match store.let_go(alloc, out.repo, file) {
+        Ok(done) => Ok(done),
+        Err(fault) => Err(Unkept::Mirror(fault)),
+    }
+}
+
+/// The file for the bundle of what goes: it has no bytes, or is made.
+fn open_kept<'a>(rt: &HostRuntime, name: &'a str) -> Result<DiskFile, WordFault<'a>>
+    ensures { IfOk result (IsDurable seen may_leave file_may_leave) }
+{
+    match DiskFile::open(rt, name, Access::Create, Lock::Try) {
+        Ok(file) if file.is_empty() => Ok(file),
+        Ok(_) => Err(WordFault::OutputIsThere(name)),
+        Err(fault) => Err(unopened(name, fault)),
+    }
+}
+
+/// The end of a command that may have changed a mirror: `false` says that what stays is too large for one.
+fn finish<'a>(done: bool, path: &'a str) -> Result<(), WordFault<'a>> {
+    if done {
+        Ok(())
+    } else {
+        Err(WordFault::TooLargeToStay(path))
+    }
+}
+
+/// Keeps the bundle in the file of this name, and has the mirror let go of it.
+fn keep_in_file<'a>(
+    rt: &HostRuntime,
+    path: &'a str,
+    mut store: Store<DiskFile>,
+    name: &'a str,
+    text: &[u8],
+    out: Obliterated<Global>,
+) -> Result<(), WordFault<'a>>
+    requires stored { IsStored seen may_leave file_may_leave store }
+    requires takes_out { TakesOut store.repo.patches out text.now }
+{
+    let mut file = open_kept(rt, name)?;
+    let count = out.bundle.new_patches().len();
+    match keep_and_let_go(rt.alloc(), &mut store, &mut file, text, out) {
+        Ok(done) => finish(done, path)?,
+        Err(Unkept::Bundle(fault)) => return Err(blame(WordFault::Unwritten(name, fault), &file)),
+        Err(Unkept::Mirror(fault)) => {
+            return Err(blame(WordFault::Unwritten(path, fault), &store.into_device()));
+        }
+    }
+    let line = format!(in rt.alloc(); "obliterated {count}\n")?;
+    write_text(line.as_bytes(), &mut io::writer(rt))?;
+    Ok(())
+}
+
+/// Prints the bundle, and has the mirror let go of what it has.
+fn print_and_let_go<'a>(
+    rt: &HostRuntime,
+    path: &'a str,
+    mut store: Store<DiskFile>,
+    text: &[u8],
+    out: Obliterated<Global>,
+) -> Result<(), WordFault<'a>>
+    requires { IsStored seen may_leave file_may_leave store }
+{
+    let count = out.bundle.new_patches().len();
+    write_text(text, &mut io::writer(rt))?;
+    match store.replace(rt.alloc(), out.repo) {
+        Ok(done) => finish(done, path)?,
+        Err(fault) => return Err(blame(WordFault::Unwritten(path, fault), &store.into_device())),
+    }
+    let _ = match count {
+        1 => eprintln!(rt; "dm: obliterated 1 patch"),
+        _ => eprintln!(rt; "dm: obliterated {count} patches"),
+    };
+    Ok(())
+}
+
+/// Says on standard error which patches can't do without one that goes.
+pub fn say_bound<'a>(
+    rt: &HostRuntime,
+    bound: &[(Info<Global>, Info<Global>)],
+) -> Result<(), WordFault<'a>> {
+    for (name, by) in bound {
+        let name = label_of(rt.alloc(), name)?;
+        let by = label_of(rt.alloc(), by)?;
+        let _ = eprintln!(rt; "dm: {name} rests on {by}");
+    }
+    Ok(())
+}
+
+/// Prints that patches are bound to those that were chosen, and which.
+pub fn refuse_bound<'a>(
+    rt: &HostRuntime,
+    bound: &[(Info<Global>, Info<Global>)],
+) -> Result<u8, WordFault<'a>> {
+    let count = bound.len();
+    let line = format!(in rt.alloc(); "refused depends {count}\n")?;
+    write_text(line.as_bytes(), &mut io::writer(rt))?;
+    say_bound(rt, bound)?;
+    Ok(1)
+}
+
+/// Prints the line of a refusal.
+pub fn refuse<'a>(rt: &HostRuntime, why: Refusal) -> Result<u8, WordFault<'a>> {
+    let line = refusal_line(rt.alloc(), why)?;
+    write_text(&line, &mut io::writer(rt))?;
+    Ok(1)
+}
+
+/// Says which patches go, and how many stay.
+fn explain_obliterated<'a>(
+    rt: &HostRuntime,
+    colour: Colour,
+    out: &Obliterated<Global>,
+) -> Result<(), WordFault<'a>> {
+    say(rt, colour, &format_args!("These go:\n"));
+    for patch in out.bundle.new_patches() {
+        let label = label_of(rt.alloc(), patch.info())?;
+        say(rt, colour, &format_args!("  {label}\n"));
+    }
+    let count = out.repo.len();
+    match count {
+        1 => say(rt, colour, &format_args!("1 patch stays.\n")),
+        _ => say(rt, colour, &format_args!("{count} patches stay.\n")),
+    }
+    Ok(())
+}
+
+/// The text of the bundle of what goes, which is within the limits of what is read.
+fn kept_text<'a>(rt: &HostRuntime, bundle: &Bundle<Global>) -> Result<Vec<u8>, WordFault<'a>>
+    ensures { IfOk result (λ text. Reads text.items bundle.now) }
+{
+    match text_of(rt.alloc(), bundle) {
+        Ok(text) => Ok(text),
+        Err(ToolFault::TooManyToSend) => Err(WordFault::TooManyToTakeOut),
+        Err(fault) => Err(WordFault::Tool(fault)),
+    }
+}
+
+/// What goes from a mirror is kept where the words say, and the mirror lets go of it.
+fn take_out<'a>(
+    rt: &HostRuntime,
+    words: &ArgMatches<'a>,
+    path: &'a str,
+    store: Store<DiskFile>,
+    chosen: &[Info<Global>],
+    out: Obliterated<Global>,
+) -> Result<u8, WordFault<'a>>
+    requires stored { IsStored seen may_leave file_may_leave store }
+    requires obliterates { Obliterates store.repo.patches chosen.now out.repo.patches out.bundle out.bound.items }
+{
+    if out.bundle.new_patches().is_empty() {
+        return Err(WordFault::NothingToUndo);
+    }
+    let text = kept_text(rt, &out.bundle)?;
+    if words.get_flag("dry-run") {
+        write_text(&text, &mut io::writer(rt))?;
+        return Ok(0);
+    }
+    match words.get_str("output") {
+        Some(name) => keep_in_file(rt, path, store, name, &text, out)?,
+        None => print_and_let_go(rt, path, store, &text, out)?,
+    }
+    Ok(0)
+}
+
+/// `dm obliterate`.
+pub fn obliterate_chosen<'a>(
+    rt: &HostRuntime,
+    colour: Colour,
+    words: &ArgMatches<'a>,
+    is_terminal: bool,
+) -> Result<u8, WordFault<'a>> {
+    let path = words.get_str("mirror").unwrap_or("");
+    let access = if words.get_flag("dry-run") {
+        Access::Read
+    } else {
+        Access::Write
+    };
+    let file = open_file(rt, words, path, access, is_terminal)?;
+    let store = open_store(rt, path, file)?;
+    let chosen = chosen_names(rt, words, store.repo())?;
+    let out = match obliterate(rt.alloc(), store.repo(), &chosen) {
+        Ok(out) => out,
+        Err(why) => return refuse(rt, why),
+    };
+    if !out.bound.is_empty() && !words.get_flag("with-dependents") {
+        let status = refuse_bound(rt, &out.bound)?;
+        let _ = eprintln!(rt;
+            "dm: nothing was taken out; --with-dependents takes these patches out too"
+        );
+        return Ok(status);
+    }
+    if words.get_flag("explain") {
+        say_bound(rt, &out.bound)?;
+        explain_obliterated(rt, colour, &out)?;
+    }
+    take_out(rt, words, path, store, &chosen, out)
+}

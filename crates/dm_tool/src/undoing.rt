@@ -1,0 +1,133 @@
+//! `dm rollback`: the bundle of a patch that undoes others.
+use crate::choosing::chosen_names;
+use crate::mirror::read_repo;
+use crate::obliterating::{refuse, refuse_bound};
+use crate::send::text_of;
+use crate::streams::write_text;
+use crate::word_fault::WordFault;
+use clap::ArgMatches;
+use dm_info::Info;
+use dm_send::{UndoFault, roll_back};
+use jiff_core::civil::DateTime;
+use jiff_core::{Offset, Timestamp};
+use std::alloc::Global;
+use std::io;
+use std::rt::Runtime;
+use std::time::{SystemTime, UNIX_EPOCH};
+
+/// What stands before the name of the first patch that is undone, where no other name is given.
+const PREFIX: &[u8] = b"rollback: ";
+
+/// The date and the time of the system's clock, in UTC.
+fn read_clock(rt: &HostRuntime) -> Option<DateTime> {
+    let Ok(now) = SystemTime::now(rt) else {
+        return None;
+    };
+    let Ok(since) = now.duration_since(UNIX_EPOCH) else {
+        return None;
+    };
+    let Ok(nanos) = i128::try_from(since.as_nanos()) else {
+        return None;
+    };
+    let Ok(stamp) = Timestamp::from_nanosecond(nanos) else {
+        return None;
+    };
+    Some(Offset::UTC.to_datetime(stamp))
+}
+
+/// The date of a new patch: that of the words, or the system's.
+fn date_of<'a>(rt: &HostRuntime, words: &ArgMatches<'a>) -> Result<String, WordFault<'a>> {
+    if let Some(date) = words.get_str("date") {
+        if date.len() != 14 || !date.bytes().all(|byte| byte.is_ascii_digit()) {
+            return Err(WordFault::BadDate(date));
+        }
+        return Ok(format!(in rt.alloc(); "{date}")?);
+    }
+    let Some(now) = read_clock(rt) else {
+        return Err(WordFault::NoClock);
+    };
+    let DateTime { date, time } = now;
+    let (year, month, day) = (date.year, date.month, date.day);
+    let (hour, minute, second) = (time.hour, time.minute, time.second);
+    Ok(format!(in rt.alloc(); "{year:04}{month:02}{day:02}{hour:02}{minute:02}{second:02}")?)
+}
+
+/// The name of a new patch: that of the words, or one made of the first that is undone.
+fn name_of<'a>(
+    rt: &HostRuntime,
+    words: &ArgMatches<'a>,
+    chosen: &[Info<Global>],
+) -> Result<Vec<u8>, WordFault<'a>> {
+    let mut name = Vec::new(rt.alloc());
+    if let Some(given) = words.get_str("name") {
+        name.extend_from_slice(given.as_bytes())?;
+        return Ok(name);
+    }
+    name.extend_from_slice(PREFIX)?;
+    if let Some(first) = chosen.first() {
+        name.extend_from_slice(first.name())?;
+    }
+    Ok(name)
+}
+
+/// The patch info of a new patch.
+fn info_of<'a>(
+    rt: &HostRuntime,
+    words: &ArgMatches<'a>,
+    chosen: &[Info<Global>],
+) -> Result<Info<Global>, WordFault<'a>> {
+    let name = name_of(rt, words, chosen)?;
+    let date = date_of(rt, words)?;
+    let author = words.get_str("author").unwrap_or("");
+    let mut lines = Vec::new(rt.alloc());
+    if let Some(log) = words.get_str("log") {
+        for line in log.as_bytes().split(|byte| *byte == b'\n') {
+            lines.push(line)?;
+        }
+    }
+    match Info::new(
+        rt.alloc(),
+        &name,
+        author.as_bytes(),
+        date.as_bytes(),
+        &lines,
+    ) {
+        Ok(info) => Ok(info),
+        Err(fault) => Err(WordFault::BadInfo(fault)),
+    }
+}
+
+/// Why no patch undoes the chosen ones: a line, or no answer.
+fn refuse_undoing<'a>(rt: &HostRuntime, fault: UndoFault<Global>) -> Result<u8, WordFault<'a>> {
+    match fault {
+        UndoFault::Held => Err(WordFault::NameIsHeld),
+        UndoFault::ChangesNothing => Err(WordFault::NothingToUndo),
+        UndoFault::Refused(why) => refuse(rt, why),
+        UndoFault::Bound(bound) => {
+            let status = refuse_bound(rt, &bound)?;
+            let _ = eprintln!(rt;
+                "dm: no bundle was made; name these patches too, or roll them back before"
+            );
+            Ok(status)
+        }
+    }
+}
+
+/// `dm rollback`. The mirror's file is let go before anything is printed.
+pub fn undo_chosen<'a>(
+    rt: &HostRuntime,
+    words: &ArgMatches<'a>,
+    is_terminal: bool,
+) -> Result<u8, WordFault<'a>> {
+    let repo = read_repo(rt, words, is_terminal)?;
+    let chosen = chosen_names(rt, words, &repo)?;
+    let info = info_of(rt, words, &chosen)?;
+    match roll_back(rt.alloc(), &repo, &chosen, info) {
+        Ok(bundle) => {
+            let text = text_of(rt.alloc(), &bundle)?;
+            write_text(&text, &mut io::writer(rt))?;
+            Ok(0)
+        }
+        Err(fault) => refuse_undoing(rt, fault),
+    }
+}
