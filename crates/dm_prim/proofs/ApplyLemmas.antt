@@ -1,6 +1,7 @@
 -- From what the tree's calls promise to what applying a primitive does.
-use Rattle.std.proofs.Common.{◌≡◌, ◌≢◌, ℕ, ◌+◌, ◌<◌, true, false, cond, List, [], ◌∷◌, ◌++◌, take, drop, length, get_or, Option, Some, None, Result, Ok, Err, OnOk, OnErr, ◌⊎◌, inl, inr, refl, sym, ap, subst, ◌∙◌, append_assoc}
+use Rattle.std.proofs.Common.{◌≡◌, ◌≢◌, ℕ, ◌+◌, ◌-◌, ◌<◌, true, false, cond, List, [], ◌∷◌, ◌++◌, take, drop, length, get_or, Option, Some, None, Result, Ok, Err, OnOk, OnErr, ◌⊎◌, inl, inr, refl, sym, ap, subst, ◌∙◌, append_assoc, append-nil, length-append, arith}
 use Rattle.std.proofs.lemmas.Bool.{cases_Bool}
+use Rattle.std.proofs.lemmas.List.{take_all}
 use Rattle.std.specs.FinMap as map
 use Rattle.std.specs.Ordering.{eq_by_cmp}
 use Rattle.dm_tree.specs.declared.fault.TreeFault.{TreeFault}
@@ -13,9 +14,9 @@ use Rattle.dm_tree.proofs.Trees.{path_total, equal_by}
 use Rattle.dm_tree.proofs.MoveLemmas.{self_equal}
 use Rattle.dm_tree.proofs.OneAnswer.{in_range, old_there, some_left}
 use Rattle.dm_prim.specs.InTurn.{InTurn, done, step}
-use Rattle.dm_prim.specs.Primitives.{AddFile, RmFile, AddDir, RmDir, Hunk, Prim, At, Move, Applies}
+use Rattle.dm_prim.specs.Primitives.{AddFile, RmFile, AddDir, RmDir, Hunk, Binary, Prim, At, Move, Applies}
 use Rattle.dm_prim.specs.Prims.{prim_of, prims_of}
-use Rattle.dm_prim.specs.Applying.{Applied, FaultsAs, AppliesToTree, AppliedAll}
+use Rattle.dm_prim.specs.Applying.{Applied, BinaryAnswers, FaultsAs, AppliesToTree, AppliedAll}
 use Rattle.dm_prim.specs.declared.primitive.Primitive as code
 use Rattle.dm_prim.proofs.Maps.{below_absent, moves_from}
 use Rattle.dm_prim.proofs.ListLemmas.{prims_more, parted}
@@ -192,6 +193,90 @@ module _ (t t' : Tree) (p : Path) (n : ℕ) (old new : Lines) where
   edits (Err NoLines) f ok err = (err, λ m' a. let e = edited m' f.0 f.1 a in some_left n old new f.0 e.0 e.1 f.2 f.4)
   edits (Err TooDeep) f ok err = absurd f
   edits (Err NoMemory) f ok err = (err, tt)
+
+-- replacing all lines
+nothing : (xs : Lines) → length xs ≡ 0 → xs ≡ []
+nothing [] h = refl
+nothing (x ∷ xs) h = absurd (omega arith)
+
+same_count : (a b : ℕ) → (a ≢ b → ⊥) → a ≡ b
+same_count a b h = grind arith
+
+-- a file stands there that has another count of lines
+abbrev pub OtherCount : Map → Path → Lines → Type 0
+OtherCount m p old = (ls : Lines) × (m p ≡ Some (File ls)) × (length ls ≢ length old)
+
+module _ (m : Map) (p : Path) (old new : Lines) where
+  binary_gone : m p ≡ None → (m' : Map) → Applies (At p (Binary old new)) m m' → ⊥
+  binary_gone h m' a = let k : m p ≡ Some (File old) = a.here.0 in cc
+
+  binary_dir : m p ≡ Some Dir → (m' : Map) → Applies (At p (Binary old new)) m m' → ⊥
+  binary_dir h m' a = let k : m p ≡ Some (File old) = a.here.0 in cc
+
+  binary_differs : (ls : Lines) → m p ≡ Some (File ls) → ls ≢ old → (m' : Map) → Applies (At p (Binary old new)) m m' → ⊥
+  binary_differs ls h n m' a = let k : m p ≡ Some (File old) = a.here.0 in n (cc)
+
+  -- in a file of as many lines, an edit at the first line replaces all of them
+  whole : (ls ls' : Lines) → length ls ≡ length old → ReplacesLines 1 old new ls ls' → (ls ≡ old) × (ls' ≡ new)
+  whole ls ls' n e =
+      let c : length ls ≡ length e.front + (length old + length e.back) = simp length-append at (ap length e.before) in
+      let f : e.front ≡ [] = nothing e.front (omega (arith, e.at)) in
+      let g : e.back ≡ [] = nothing e.back (omega arith) in
+      (e.before ∙ rw (f, g) (append-nil old), e.after ∙ rw (f, g) (append-nil new))
+
+  all_taken : (ls : Lines) → ls ≡ old → take (length old) (drop (1 - 1) ls) ≡ old
+  all_taken ls e = rw e (take_all (length old) old (omega arith))
+
+  module _ (some : new ≢ []) (same : OtherCount m p old → ⊥) where
+    counted : (ls : Lines) → m p ≡ Some (File ls) → length ls ≡ length old
+    counted ls e = same_count (length ls) (length old) (λ n. same (ls, e, n))
+
+    there : (ls ls' : Lines) → m p ≡ Some (File ls) → ReplacesLines 1 old new ls ls' → m p ≡ Some (File old)
+    there ls ls' e r = e ∙ ap (λ x. Some (File x)) (whole ls ls' (counted ls e) r).0
+
+    -- what an edit of all lines answers, a binary answers
+    pub replaces_as : {T : Type 0} (r : Result T TreeFault) → EditAnswers m p 1 old new r → BinaryAnswers m p old r
+    replaces_as (Ok x) f = there f.0 f.1 f.2 f.3
+    replaces_as (Err NoParent) f = absurd f
+    replaces_as (Err Occupied) f = absurd f
+    replaces_as (Err Missing) f = f
+    replaces_as (Err NotFile) f = f
+    replaces_as (Err NotDir) f = absurd f
+    replaces_as (Err NotEmpty) f = absurd f
+    replaces_as (Err IntoItself) f = absurd f
+    replaces_as (Err LineRange) f = let n = counted f.0 f.1 in absurd (f.2 (omega arith, omega arith))
+    replaces_as (Err OldDiffers) f = (f.0, f.1, λ e. f.3 (all_taken f.0 e))
+    replaces_as (Err NoLines) f = absurd (some f.4)
+    replaces_as (Err TooDeep) f = absurd f
+    replaces_as (Err NoMemory) f = there f.0 f.1 f.2 f.3
+
+module _ (t t' : Tree) (p : Path) (old new : Lines) where
+  -- a file of another count of lines
+  pub refuses_count : OtherCount (map.get t) p old → t' ≡ t → (T : Type 0) → Applied {T = T} (At p (Binary old new)) t t' (Err OldDiffers)
+  refuses_count (ls, h, n) e T = (e, λ m' a. binary_differs (map.get t) p old new ls h (λ k. n (ap length k)) m' a)
+
+  pub refuses_as : OtherCount (map.get t) p old → (T : Type 0) → FaultsAs {T = T} (At p (Binary old new)) (map.get t) (Err OldDiffers)
+  refuses_as (ls, h, n) T = (ls, h, λ k. n (ap length k))
+
+  pub replaces : {T : Type 0} (r : Result T TreeFault) → new ≢ [] → (OtherCount (map.get t) p old → ⊥) → EditAnswers (map.get t) p 1 old new r → OnOk r (Edited p 1 old new t t') → OnErr r (t' ≡ t) → Applied (At p (Binary old new)) t t' r
+  replaces (Ok x) some same f ok err =
+      let w = whole (map.get t) p old new ok.0 ok.1 (counted (map.get t) p old new some same ok.0 ok.2) ok.3 in record {
+        around = tt;
+        here = (there (map.get t) p old new some same ok.0 ok.1 ok.2 ok.3, rw ok.4 (put_here t p (File ok.1) ∙ ap (λ x. Some (File x)) w.1), some);
+        elsewhere = λ q h. rw ok.4 (put_else t p (File ok.1) q h);
+      }
+  replaces (Err Missing) some same f ok err = (err, λ m' a. binary_gone (map.get t) p old new f m' a)
+  replaces (Err NotFile) some same f ok err = (err, λ m' a. binary_dir (map.get t) p old new f m' a)
+  replaces (Err OldDiffers) some same f ok err = let d = replaces_as (map.get t) p old new some same {T = Unit {0}} (Err OldDiffers) f in (err, λ m' a. binary_differs (map.get t) p old new d.0 d.1 d.2 m' a)
+  replaces (Err NoMemory) some same f ok err = (err, tt)
+  replaces (Err LineRange) some same f ok err = absurd (replaces_as (map.get t) p old new some same {T = Unit {0}} (Err LineRange) f)
+  replaces (Err NoLines) some same f ok err = absurd (some f.4)
+  replaces (Err NoParent) some same f ok err = absurd f
+  replaces (Err Occupied) some same f ok err = absurd f
+  replaces (Err NotDir) some same f ok err = absurd f
+  replaces (Err NotEmpty) some same f ok err = absurd f
+  replaces (Err IntoItself) some same f ok err = absurd f
+  replaces (Err TooDeep) some same f ok err = absurd f
 
 -- a list
 module _ {Y : Type 0} (prims : List (code.Primitive Y)) (i : ℕ) (p : code.Primitive Y) (l : i < length prims) (e : p ≡ get_or prims i p) where

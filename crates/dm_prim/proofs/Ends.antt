@@ -1,14 +1,14 @@
 -- A square's two ways have one end.
-use Rattle.std.proofs.Common.{◌≡◌, ◌≢◌, ℕ, ◌+◌, ◌<◌, ◌≤◌, List, [], ◌∷◌, ◌++◌, length, Option, Some, None, ◌⊎◌, inl, inr, refl, sym, ap, ◌∙◌, append_assoc, append-nil, arith, length-append}
+use Rattle.std.proofs.Common.{◌≡◌, ◌≢◌, ℕ, ◌+◌, ◌<◌, ◌≤◌, List, [], ◌∷◌, ◌++◌, length, Option, Some, None, ◌⊎◌, inl, inr, refl, sym, ap, subst, ◌∙◌, append_assoc, append-nil, arith, length-append}
 use Rattle.dm_tree.proofs.Paths.{apart_sym, swap, swap-swap, swap_inj, Clear, swap-append, swap_turn, swap_through}
 use Rattle.dm_prim.proofs.Maps.{path_dec, swap_child, Swaps, swaps_from, moves_from}
 use Rattle.dm_prim.proofs.Undoing.{swap_left, swap_right, OffRoot, undone, kept, swaps_kept}
-use Rattle.dm_prim.proofs.Squares.{Beside, Passing, Square, hunk_down, hunk_up, free, then_move, move_then, moves, beside_clear, beside_moved, passing_turn, passing_clear, passing_moved, beside_inv, same_under, passing_kind, passing_still}
+use Rattle.dm_prim.proofs.Squares.{Beside, Passing, Square, hunk_down, hunk_up, free, then_move, move_then, moves, pref_then, then_pref, beside_clear, beside_moved, passing_turn, passing_clear, passing_moved, beside_inv, same_under, passing_kind, passing_still}
 use Rattle.dm_tree.specs.Paths.{Path, Apart}
 use Rattle.dm_tree.specs.Trees.{Lines, Entry, Dir, File, Map, HasParent, IsLawful, empty_file}
 use Rattle.dm_tree.specs.Changes.{ReplacesLines}
-use Rattle.dm_prim.specs.Primitives.{Work, AddFile, RmFile, AddDir, RmDir, Hunk, Prim, At, Move, inv_work, inv, Changes, Around, WorksAt, AppliesMove, Applies}
-use Rattle.dm_prim.specs.Table.{IsDirectoryWork, IsHunk, LiesAbove, WorkAndWork}
+use Rattle.dm_prim.specs.Primitives.{Work, AddFile, RmFile, AddDir, RmDir, Hunk, Binary, Prim, At, Move, ChangePref, inv_work, inv, Changes, Around, WorksAt, AppliesMove, Applies}
+use Rattle.dm_prim.specs.Table.{IsDirectoryWork, KeepsFile, LiesAbove, WorkAndWork}
 
 -- t with e at p
 unfoldable pub put : Map → Path → Option Entry → Map
@@ -43,6 +43,7 @@ dir_after RmFile e e' c h = let y : e' ≡ None = c.1 in cc
 dir_after AddDir e e' c h = tt
 dir_after RmDir e e' c h = tt
 dir_after (Hunk l o n) e e' c h = let y : e' ≡ Some (File c.1) = c.3 in cc
+dir_after (Binary o n) e e' c h = let y : e' ≡ Some (File n) = c.1 in cc
 
 pub dir_before : (w : Work) (e e' : Option Entry) → Changes w e e' → e ≡ Some Dir → IsDirectoryWork w
 dir_before AddFile e e' c h = let y : e ≡ None = c.0 in cc
@@ -50,6 +51,7 @@ dir_before RmFile e e' c h = let y : e ≡ Some empty_file = c.0 in cc
 dir_before AddDir e e' c h = tt
 dir_before RmDir e e' c h = tt
 dir_before (Hunk l o n) e e' c h = let y : e ≡ Some (File c.0) = c.2 in cc
+dir_before (Binary o n) e e' c h = let y : e ≡ Some (File o) = c.0 in cc
 
 -- what is around f is not changed by a change at g
 pub around_carry : (w : Work) (f g : Path) (s s' : Map) → ((q : Path) → q ≢ g → s' q ≡ s q) → (s g ≡ Some Dir → Apart f g) → (IsDirectoryWork w → Apart f g) → Around w f s → Around w f s'
@@ -68,6 +70,7 @@ around_carry w f g s s' same dir work a = go w work a
     go AddDir h a = parent a
     go RmDir h a = λ n r. same (f ++ n ∷ r) (λ e. (h tt).right (n ∷ r, sym e)) ∙ a n r
     go (Hunk l o n) h a = tt
+    go (Binary o n) h a = tt
 
 pub runs_free : (f : Path) (w : Work) (g : Path) (v : Work) → WorkAndWork f w g v → (t u z : Map) → WorksAt f w t u → WorksAt g v u z → BothLead (At g v) (At f w) t z
 runs_free f w g v s t u z h k = (m, first, second)
@@ -99,12 +102,13 @@ runs_free f w g v s t u z h k = (m, first, second)
         at q n (inl e) = rw e (sym (put_same t g (z g)))
         at q n (inr i) = k.elsewhere q i ∙ h.elsewhere q n ∙ sym (put_other t g (z g) q i)
 
-pub hunk_there : (w : Work) (e e' : Option Entry) → IsHunk w → Changes w e e' → e ≢ None
-hunk_there AddFile e e' i c x = absurd i
-hunk_there RmFile e e' i c x = absurd i
-hunk_there AddDir e e' i c x = absurd i
-hunk_there RmDir e e' i c x = absurd i
-hunk_there (Hunk l o n) e e' i c x = let y : e ≡ Some (File c.0) = c.2 in cc
+pub file_there : (w : Work) (e e' : Option Entry) → KeepsFile w → Changes w e e' → e ≢ None
+file_there AddFile e e' i c x = absurd i
+file_there RmFile e e' i c x = absurd i
+file_there AddDir e e' i c x = absurd i
+file_there RmDir e e' i c x = absurd i
+file_there (Hunk l o n) e e' i c x = let y : e ≡ Some (File c.0) = c.2 in cc
+file_there (Binary o n) e e' i c x = let y : e ≡ Some (File o) = c.0 in cc
 
 -- a parent seen through a swap
 pub parent_swapped : (a b f : Path) (t u : Map) → Apart a b → f ≢ a → f ≢ b → ((p : Path) → u p ≡ t (swap a b p)) → HasParent f t → HasParent (swap a b f) u
@@ -112,11 +116,12 @@ parent_swapped a b f t u d na nb is (q, n, e, h) =
     (swap a b q, n, rw e (swap_child a b q n d (λ k. na (e ∙ k)) (λ k. nb (e ∙ k))), is (swap a b q) ∙ rw (swap-swap a b q d) h)
 
 pub around_swapped : (w : Work) (a b f : Path) (t u : Map) → Beside f w a b → ((p : Path) → u p ≡ t (swap a b p)) → Around w f t → Around w (swap a b f) u
-around_swapped AddFile a b f t u s is h = parent_swapped a b f t u s.move_apart s.hunk_at_a (λ e. s.target.left ([], e ∙ sym (append-nil b))) is h
+around_swapped AddFile a b f t u s is h = parent_swapped a b f t u s.move_apart s.keeps_at_a (λ e. s.target.left ([], e ∙ sym (append-nil b))) is h
 around_swapped RmFile a b f t u s is h = tt
-around_swapped AddDir a b f t u s is h = parent_swapped a b f t u s.move_apart s.hunk_at_a (λ e. s.target.left ([], e ∙ sym (append-nil b))) is h
+around_swapped AddDir a b f t u s is h = parent_swapped a b f t u s.move_apart s.keeps_at_a (λ e. s.target.left ([], e ∙ sym (append-nil b))) is h
 around_swapped RmDir a b f t u s is h = λ n r. is (swap a b f ++ n ∷ r) ∙ rw (← swap-append a b f (n ∷ r) s.move_apart (beside_clear f RmDir a b s), swap-swap a b (f ++ n ∷ r) s.move_apart) (h n r)
 around_swapped (Hunk l o n) a b f t u s is h = tt
+around_swapped (Binary o n) a b f t u s is h = tt
 
 pub runs_then_move : (f : Path) (w : Work) (a b : Path) → Beside f w a b → (t u z : Map) → IsLawful t → IsLawful u → WorksAt f w t u → AppliesMove a b u z → BothLead (Move a b) (At (swap a b f) w) t z
 runs_then_move f w a b s t u z lt lu h k = (m, moves_from a b t m lt first, second)
@@ -134,7 +139,7 @@ runs_then_move f w a b s t u z lt lu h k = (m, moves_from a b t m lt first, seco
     bf = λ e. s.target.left ([], sym e ∙ sym (append-nil b))
 
     there : (a ≡ f) ⊎ (a ≢ f) → t a ≢ None
-    there (inl e) = rw e (hunk_there w (t f) (u f) (s.hunk_at_a (sym e)) h.here)
+    there (inl e) = rw e (file_there w (t f) (u f) (s.keeps_at_a (sym e)) h.here)
     there (inr n) = λ x. sw.present (h.elsewhere a n ∙ x)
 
     parent : HasParent b u → HasParent b t
@@ -156,6 +161,7 @@ inv_twice RmFile = refl
 inv_twice AddDir = refl
 inv_twice RmDir = refl
 inv_twice (Hunk l o n) = refl
+inv_twice (Binary o n) = refl
 
 -- two fronts of one list, the first the shorter
 pub split : {A : Type 0} (xs ys zs ws : List A) → xs ++ ys ≡ zs ++ ws → length xs ≤ length zs → (m : List A) × (zs ≡ xs ++ m) × (ys ≡ m ++ ws)
@@ -276,6 +282,7 @@ turned p q t z g lz lt (m, h, k) = let lm : IsLawful m = kept p z m g lz h in (m
 pub inv_inv : (p : Prim) → inv (inv p) ≡ p
 inv_inv (At f w) = ap (At f) (inv_twice w)
 inv_inv (Move a b) = refl
+inv_inv (ChangePref name old new) = refl
 
 pub runs_move_then : (f : Path) (w : Work) (a b : Path) → Beside f w a b → f ≢ [] → (t u z : Map) → swap a b f ≢ [] → IsLawful t → IsLawful u → IsLawful z → AppliesMove a b t u → WorksAt (swap a b f) w u z → BothLead (At f w) (Move a b) t z
 runs_move_then f w a b s nf t u z nr lt lu lz h k =
@@ -314,3 +321,5 @@ square_runs {p} {q} {q'} {p'} s gp gq gq' t u z lt h k = go s gp gq gq' lu lz h 
     go (then_move {f} {f'} {a} {b} {w} s e) gp gq gq' x y h k = rw e (runs_then_move f w a b s t u z lt x h k)
     go (move_then {f} {f'} {a} {b} {w} s e) gp gq gq' x y h k = runs_move_then f w a b s gq' t u z (rw e at gq) lt x y h (rw e at k)
     go (moves {a} {b} {c} {d} {a'} {b'} {c'} {d'} p ec ed ea eb) gp gq gq' x y h k = rw (ea, eb) (runs_moves a b c d p t u z lt x h (rw (ec, ed) at k))
+    go (pref_then {q = q} o) gp gq gq' x y h k = (z, subst (λ m. Applies q m z) h k, refl)
+    go (then_pref {p = p} o) gp gq gq' x y h k = (t, refl, subst (λ m. Applies p t m) (sym k) h)

@@ -4,7 +4,7 @@ use Rattle.dm_tree.specs.Validity.{IsValidPath}
 use Rattle.dm_tree.specs.Paths.{Path}
 use Rattle.dm_prim.specs.InTurn.{done, step}
 use Rattle.dm_prim.specs.Rectangles.{CellRow, none, next, empty, row}
-use Rattle.dm_prim.specs.Primitives.{AddFile, RmFile, AddDir, RmDir, Hunk, Prim, At, Move, inv, inv_all, LawfulMap, Leads, LeadsAll}
+use Rattle.dm_prim.specs.Primitives.{AddFile, RmFile, AddDir, RmDir, Hunk, Binary, Prim, At, Move, ChangePref, inv, inv_all, LawfulMap, Leads, LeadsAll}
 use Rattle.dm_prim.specs.Commuting.{IsValidPrim, Commutes, ListsCommute}
 use Rattle.dm_prim.specs.Laws.{PairLaws, ListLaws, CommutedPairsEndAlike, PairsCommuteBack, PairsCommutePastAnInverse, CommutedListsEndAlike, ListsCommuteBack, ListsCommutePastAnInverse, RectanglesTurn, InversesLeadBack, ListInversesLeadBack, OneWayToApply, OneWayToCommute, OneWayToCommuteLists}
 use Rattle.dm_prim.proofs.Undoing.{OffRoot, undone, kept}
@@ -19,6 +19,7 @@ not_root f h e = let k : IsValidPath [] = rw e at h in cc
 pub off_root : (p : Prim) → IsValidPrim p → OffRoot p
 off_root (At f w) h = not_root f h.0
 off_root (Move a b) h = tt
+off_root (ChangePref name old new) h = tt
 
 pub valid_inv : (p : Prim) → IsValidPrim p → IsValidPrim (inv p)
 valid_inv (At f AddFile) h = h
@@ -26,7 +27,9 @@ valid_inv (At f RmFile) h = h
 valid_inv (At f AddDir) h = h
 valid_inv (At f RmDir) h = h
 valid_inv (At f (Hunk l o n)) h = (h.0, (h.1.0, omega arith, h.1.3, h.1.2))
+valid_inv (At f (Binary o n)) h = (h.0, (h.1.1, h.1.0, h.1.3, h.1.2))
 valid_inv (Move a b) h = (h.1, h.0)
+valid_inv (ChangePref name old new) h = (h.0, h.1, h.3, h.2)
 
 -- pairs
 pub pairs_end_alike : CommutedPairsEndAlike

@@ -1,21 +1,47 @@
 -- At most one answer: of a primitive on a map, of a list on a tree, and of the parts of a hunk.
-use Rattle.std.proofs.Common.{◌≡◌, ◌≢◌, ℕ, ◌+◌, suc, zero, List, [], ◌∷◌, ◌++◌, take, Some, None, Result, Ok, Err, ◌⊎◌, inl, inr, refl, sym, ap, subst, ◌∙◌, arith}
+use Rattle.std.proofs.Common.{◌≡◌, ◌≢◌, ℕ, ◌+◌, suc, zero, List, [], ◌∷◌, ◌++◌, take, Option, Some, None, Result, Ok, Err, ◌⊎◌, inl, inr, refl, sym, ap, subst, ◌∙◌, arith}
 use Rattle.std.specs.FinMap as map
 use Rattle.dm_tree.specs.declared.fault.TreeFault.{TreeFault}
-use Rattle.dm_tree.specs.declared.fault.TreeFault.TheVariants.{TooDeep, NoMemory}
+use Rattle.dm_tree.specs.declared.fault.TreeFault.TheVariants.{Missing, NotFile, OldDiffers, TooDeep, NoMemory}
 use Rattle.dm_tree.specs.Paths.{Path}
-use Rattle.dm_tree.specs.Trees.{Dir, File, Map, Tree, HasParent, IsLawful, Deep, empty_file}
+use Rattle.dm_tree.specs.Trees.{Lines, Dir, File, Map, Tree, HasParent, IsLawful, Deep, empty_file}
 use Rattle.dm_tree.specs.Laws.{fault_of_change}
 use Rattle.dm_tree.proofs.OneAnswer.{adding_one, removing_a_file_one, removing_a_directory_one, renaming_one, editing_one}
 use Rattle.dm_tree.proofs.Trees.{path_total, path_same}
 use Rattle.dm_prim.specs.InTurn.{InTurn, done, step}
-use Rattle.dm_prim.specs.Primitives.{Work, AddFile, RmFile, AddDir, RmDir, Hunk, Prim, At, Move, Applies}
-use Rattle.dm_prim.specs.Applying.{AdmitsFault, FaultsAs, AppliesToTree, AppliedAll}
-use Rattle.dm_prim.specs.Laws.{ApplyingHasOneAnswer, IsNotOutOfMemory, ApplyingAListHasOneAnswer, HunkHasOneAnswer}
+use Rattle.dm_prim.specs.Primitives.{Work, AddFile, RmFile, AddDir, RmDir, Hunk, Binary, Prim, At, Move, ChangePref, Applies}
+use Rattle.dm_prim.specs.Applying.{AdmitsFault, BinaryAnswers, FaultsAs, AppliesToTree, AppliedAll}
+use Rattle.dm_prim.specs.Laws.{ApplyingHasOneAnswer, IsNotOutOfMemory, ApplyingAListHasOneAnswer, HunkHasOneAnswer, BinaryHasOneAnswer, PreferenceHasOneAnswer}
 use Rattle.dm_prim.specs.declared.hunk.HunkFault.TheVariants.{BadLine, NoChange}
 use Rattle.dm_prim.proofs.Maps.{path_dec}
 use Rattle.dm_prim.proofs.Undoing.{kept}
 use Rattle.dm_prim.proofs.Single.{applies_one}
+
+-- the fault f where C holds, and otherwise what comes after it
+abbrev Else : Type 0 → TreeFault → (Option TreeFault → Type 0) → Option TreeFault → Type 0
+Else C f Rest o = (C × (o ≡ Some f)) ⊎ ((C → ⊥) × Rest o)
+
+else_one : (C : Type 0) (f : TreeFault) (R : Option TreeFault → Type 0) → ((o u : Option TreeFault) → R o → R u → o ≡ u) → (o u : Option TreeFault) → Else C f R o → Else C f R u → o ≡ u
+else_one C f R one o u (inl h) (inl k) = h.1 ∙ sym k.1
+else_one C f R one o u (inl h) (inr k) = absurd (k.0 h.0)
+else_one C f R one o u (inr h) (inl k) = absurd (h.0 k.0)
+else_one C f R one o u (inr h) (inr k) = one o u h.1 k.1
+
+-- why a binary may not be applied at p
+module _ (m : Map) (p : Path) (old : Lines) where
+  abbrev Stops : Option TreeFault → Type 0
+  Stops = Else (m p ≡ None) Missing (Else (m p ≡ Some Dir) NotFile (Else (m p ≢ Some (File old)) OldDiffers (λ o. o ≡ None)))
+
+  stops_first : (r : Result (Unit {0}) TreeFault) → BinaryAnswers m p old r → Stops (fault_of_change r)
+  stops_first (Ok x) h = inr (λ k. cc, inr (λ k. cc, inr (λ n. n h, refl)))
+  stops_first (Err Missing) h = inl (h, refl)
+  stops_first (Err NotFile) h = inr (λ k. cc, inl (h, refl))
+  stops_first (Err OldDiffers) (ls, e, n) = inr (λ k. cc, inr (λ k. cc, inl (λ k. n (cc), refl)))
+  stops_first (Err NoMemory) h = inr (λ k. cc, inr (λ k. cc, inr (λ n. n h, refl)))
+  stops_first (Err e) h = absurd h
+
+binary_one : (m : Map) (p : Path) (old : Lines) (r s : Result (Unit {0}) TreeFault) → BinaryAnswers m p old r → BinaryAnswers m p old s → fault_of_change r ≡ fault_of_change s
+binary_one m p old r s h k = else_one _ _ _ (else_one _ _ _ (else_one _ _ (λ o. o ≡ None) (λ o u i j. i ∙ sym j))) _ _ (stops_first m p old r h) (stops_first m p old s k)
 
 pub faults_one : ApplyingHasOneAnswer
 faults_one (At p AddFile) m r s h k = adding_one m p r s h k
@@ -23,19 +49,26 @@ faults_one (At p RmFile) m r s h k = removing_a_file_one m p r s h k
 faults_one (At p AddDir) m r s h k = adding_one m p r s h k
 faults_one (At p RmDir) m r s h k = removing_a_directory_one m p r s h k
 faults_one (At p (Hunk n old new)) m r s h k = editing_one m p n old new r s h k
+faults_one (At p (Binary old new)) m r s h k = binary_one m p old r s h k
 faults_one (Move a b) m r s h k = renaming_one m a b r s h k
+faults_one (ChangePref name old new) m (Ok x) (Ok y) h k = refl
+faults_one (ChangePref name old new) m (Ok x) (Err e) h k = absurd k
+faults_one (ChangePref name old new) m (Err e) s h k = absurd h
 
 -- a map that primitives make of a lawful one: lawful too, or nothing is left, where the root was removed
 abbrev Made : Map → Type 0
 Made m = IsLawful m ⊎ ((q : Path) → m q ≡ None)
 
-nothing_applies : (p : Prim) (t u : Map) → ((q : Path) → t q ≡ None) → Applies p t u → ⊥
-nothing_applies (At f AddFile) t u e h = let k : t h.around.0 ≡ Some Dir = h.around.3 in let n = e h.around.0 in cc
-nothing_applies (At f RmFile) t u e h = let k : t f ≡ Some empty_file = h.here.0 in let n = e f in cc
-nothing_applies (At f AddDir) t u e h = let k : t h.around.0 ≡ Some Dir = h.around.3 in let n = e h.around.0 in cc
-nothing_applies (At f RmDir) t u e h = let k : t f ≡ Some Dir = h.here.0 in let n = e f in cc
-nothing_applies (At f (Hunk l old new)) t u e h = let k : t f ≡ Some (File h.here.0) = h.here.2 in let n = e f in cc
-nothing_applies (Move a b) t u e h = h.0.present (e a)
+-- where nothing is, nothing comes to be
+from_nothing : (p : Prim) (t u : Map) → ((q : Path) → t q ≡ None) → Applies p t u → u ≡ t
+from_nothing (At f AddFile) t u e h = let k : t h.around.0 ≡ Some Dir = h.around.3 in let n = e h.around.0 in absurd (cc)
+from_nothing (At f RmFile) t u e h = let k : t f ≡ Some empty_file = h.here.0 in let n = e f in absurd (cc)
+from_nothing (At f AddDir) t u e h = let k : t h.around.0 ≡ Some Dir = h.around.3 in let n = e h.around.0 in absurd (cc)
+from_nothing (At f RmDir) t u e h = let k : t f ≡ Some Dir = h.here.0 in let n = e f in absurd (cc)
+from_nothing (At f (Hunk l old new)) t u e h = let k : t f ≡ Some (File h.here.0) = h.here.2 in let n = e f in absurd (cc)
+from_nothing (At f (Binary old new)) t u e h = let k : t f ≡ Some (File old) = h.here.0 in let n = e f in absurd (cc)
+from_nothing (Move a b) t u e h = absurd (h.0.present (e a))
+from_nothing (ChangePref name old new) t u e h = h
 
 no_parent : (t : Map) → HasParent [] t → ⊥
 no_parent t ([], n, e, d) = cc
@@ -48,10 +81,12 @@ at_root AddDir t u l h q = absurd (no_parent t h.around)
 at_root RmDir t u l h [] = h.here.1
 at_root RmDir t u l h (n ∷ q) = h.elsewhere (n ∷ q) (λ e. cc) ∙ h.around n q
 at_root (Hunk i old new) t u l h q = let k : t [] ≡ Some (File h.here.0) = h.here.2 in let r : t [] ≡ Some Dir = l.root in cc
+at_root (Binary old new) t u l h q = let k : t [] ≡ Some (File old) = h.here.0 in let r : t [] ≡ Some Dir = l.root in cc
 
 makes : (p : Prim) (t u : Map) → Made t → Applies p t u → Made u
-makes p t u (inr e) h = absurd (nothing_applies p t u e h)
+makes p t u (inr e) h = inr (λ q. ap (λ m. m q) (from_nothing p t u e h) ∙ e q)
 makes (Move a b) t u (inl l) h = inl (kept (Move a b) t u tt l h)
+makes (ChangePref name old new) t u (inl l) h = inl (kept (ChangePref name old new) t u tt l h)
 makes (At f w) t u (inl l) h = go (path_dec f [])
   where
     go : (f ≡ []) ⊎ (f ≢ []) → Made u
@@ -60,7 +95,7 @@ makes (At f w) t u (inl l) h = go (path_dec f [])
 
 one_map : (p : Prim) (t u v : Map) → Made t → Applies p t u → Applies p t v → (q : Path) → u q ≡ v q
 one_map p t u v (inl l) h k = applies_one p t u v l h k
-one_map p t u v (inr e) h k = absurd (nothing_applies p t u e h)
+one_map p t u v (inr e) h k = λ q. ap (λ m. m q) (from_nothing p t u e h ∙ sym (from_nothing p t v e k))
 
 one_tree : (p : Prim) (t u v : Tree) → Made (map.get t) → Applies p (map.get t) (map.get u) → Applies p (map.get t) (map.get v) → u ≡ v
 one_tree p t u v m h k = map.same_map path_total path_same u v (one_map p (map.get t) (map.get u) (map.get v) m h k)
@@ -135,3 +170,16 @@ hunk_one h (Err BadLine) (Err NoChange) k l = absurd (omega (arith, k, l.0))
 hunk_one h (Err NoChange) (Ok y) k l = absurd (omega (arith, k.1, l.1.1.1))
 hunk_one h (Err NoChange) (Err BadLine) k l = absurd (omega (arith, k.0, l))
 hunk_one h (Err NoChange) (Err NoChange) k l = refl
+
+-- the parts of a binary, and of a change of a preference
+pub binary_parts_one : BinaryHasOneAnswer
+binary_parts_one b (Ok x) (Ok y) k l = ap Ok (k.0 ∙ sym l.0)
+binary_parts_one b (Ok x) (Err e) k l = absurd (elim l [ inl n ↦ k.1.1.0 n | inr n ↦ k.1.1.1 n ])
+binary_parts_one b (Err e) (Ok y) k l = absurd (elim k [ inl n ↦ l.1.1.0 n | inr n ↦ l.1.1.1 n ])
+binary_parts_one b (Err e) (Err f) k l = refl
+
+pub preference_parts_one : PreferenceHasOneAnswer
+preference_parts_one c (Ok x) (Ok y) k l = ap Ok (k.0 ∙ sym l.0)
+preference_parts_one c (Ok x) (Err e) k l = absurd (l k.1)
+preference_parts_one c (Err e) (Ok y) k l = absurd (k l.1)
+preference_parts_one c (Err e) (Err f) k l = refl

@@ -7,8 +7,8 @@ use Rattle.dm_prim.proofs.RectangleLemmas.{rectangle_one}
 use Rattle.dm_tree.specs.Paths.{Path, forward}
 use Rattle.dm_tree.specs.Trees.{Lines, Entry, Map, IsLawful}
 use Rattle.dm_tree.specs.Changes.{ReplacesLines}
-use Rattle.dm_prim.specs.Primitives.{Work, AddFile, RmFile, AddDir, RmDir, Hunk, Prim, At, Move, Changes, Applies}
-use Rattle.dm_prim.specs.Table.{LiesAbove, WorkAndWork, WorkThenMove, MoveThenMove, TableRow, first_above, second_above, two_works, work_move, move_work, two_moves}
+use Rattle.dm_prim.specs.Primitives.{Work, AddFile, RmFile, AddDir, RmDir, Hunk, Binary, Prim, At, Move, ChangePref, Changes, Applies}
+use Rattle.dm_prim.specs.Table.{LiesAbove, WorkAndWork, WorkThenMove, MoveThenMove, TableRow, first_above, second_above, two_works, work_move, move_work, two_moves, preference_first, preference_second, MovesOutside}
 use Rattle.dm_prim.specs.Commuting.{Commutes, ListsCommute}
 
 -- what the table answers for work on two paths
@@ -28,6 +28,13 @@ Answer (At f w) (Move a b) q' p' = WorkThenMove f w a b × (q' ≡ Move a b) × 
 Answer (Move a b) (At f w) q' p' = WorkThenMove f w b a × (q' ≡ At (forward b a f) w) × (p' ≡ Move a b)
 Answer (Move a b) (Move c d) q' p' = MoveThenMove a b c d × (q' ≡ Move (forward b a c) (forward b a d)) ×
     (p' ≡ Move (forward (forward b a c) (forward b a d) a) (forward (forward b a c) (forward b a d) b))
+Answer (ChangePref name old new) q q' p' = MovesOutside q × (q' ≡ q) × (p' ≡ ChangePref name old new)
+Answer p (ChangePref name old new) q' p' = MovesOutside p × (q' ≡ ChangePref name old new) × (p' ≡ p)
+
+after_any : (name old new : List ℕ) (p : Prim) → MovesOutside p → Answer p (ChangePref name old new) (ChangePref name old new) p
+after_any name old new (At f w) h = (h, refl, refl)
+after_any name old new (Move a b) h = (h, refl, refl)
+after_any name old new (ChangePref n o w) h = (tt, refl, refl)
 
 pub answer_from : {p q q' p' : Prim} → TableRow p q q' p' → Answer p q q' p'
 answer_from (first_above c e) = down refl refl refl c e refl refl
@@ -37,6 +44,8 @@ answer_from (work_move {w = w} c e) = (c, refl, ap (λ x. At x w) e)
 answer_from (move_work {w = w} c e) = (c, ap (λ x. At x w) e, refl)
 answer_from (two_moves {a} {b} {c} {d} {a'} {b'} {c'} {d'} p ec ed ea eb) =
     (p, ap₂ Move ec ed, ap₂ Move (ea ∙ rw (ec, ed)) (eb ∙ rw (ec, ed)))
+answer_from (preference_first h) = (h, refl, refl)
+answer_from (preference_second {name} {old} {new} {p} h) = after_any name old new p h
 
 pub clears_both : (l1 o1 n1 l2 o2 n2 : ℕ) → LiesAbove (l1 + n1) l2 o1 n1 o2 n2 → LiesAbove (l2 + o2) l1 o1 n1 o2 n2 → ⊥
 clears_both l1 o1 n1 l2 o2 n2 (inl h) (inl k) = omega arith
@@ -70,6 +79,9 @@ answer_one (At f w) (At g v) q1 p1 q2 p2 x y = both_one f w g v q1 p1 q2 p2 x y
 answer_one (At f w) (Move a b) q1 p1 q2 p2 x y = (x.1 ∙ sym y.1, x.2 ∙ sym y.2)
 answer_one (Move a b) (At f w) q1 p1 q2 p2 x y = (x.1 ∙ sym y.1, x.2 ∙ sym y.2)
 answer_one (Move a b) (Move c d) q1 p1 q2 p2 x y = (x.1 ∙ sym y.1, x.2 ∙ sym y.2)
+answer_one (ChangePref name old new) q q1 p1 q2 p2 x y = (x.1 ∙ sym y.1, x.2 ∙ sym y.2)
+answer_one (At f w) (ChangePref name old new) q1 p1 q2 p2 x y = (x.1 ∙ sym y.1, x.2 ∙ sym y.2)
+answer_one (Move a b) (ChangePref name old new) q1 p1 q2 p2 x y = (x.1 ∙ sym y.1, x.2 ∙ sym y.2)
 
 pub commutes_one : (p q q1 p1 q2 p2 : Prim) → Commutes p q q1 p1 → Commutes p q q2 p2 → (q1 ≡ q2) × (p1 ≡ p2)
 commutes_one p q q1 p1 q2 p2 x y = answer_one p q q1 p1 q2 p2 (answer_from x.row) (answer_from y.row)
@@ -102,6 +114,7 @@ changes_one AddDir e a b x y = x.1 ∙ sym y.1
 changes_one RmDir e a b x y = x.1 ∙ sym y.1
 changes_one (Hunk l old new) e a b (ls, ls1, i, j, k) (ms, ls2, i', j', k') =
     let s : ms ≡ ls = cc in let t : ls1 ≡ ls2 = edits_one l old new ls ls1 ls2 k (rw s at k') in cc
+changes_one (Binary old new) e a b x y = x.1 ∙ sym y.1
 
 pub applies_one : (p : Prim) (t u v : Map) → IsLawful t → Applies p t u → Applies p t v → (x : Path) → u x ≡ v x
 applies_one (At f w) t u v l h k x = go (path_dec x f)
@@ -110,6 +123,7 @@ applies_one (At f w) t u v l h k x = go (path_dec x f)
     go (inl e) = rw e (changes_one w (t f) (u f) (v f) h.here k.here)
     go (inr n) = h.elsewhere x n ∙ sym (k.elsewhere x n)
 applies_one (Move a b) t u v l h k x = let s = swaps_from a b t u l h in let r = swaps_from a b t v l k in s.is x ∙ sym (r.is x)
+applies_one (ChangePref name old new) t u v l h k x = ap (λ m. m x) (h ∙ sym k)
 
 -- maps that agree at each path are one
 pub same_map : (s t : Map) → ((x : Path) → s x ≡ t x) → s ≡ t

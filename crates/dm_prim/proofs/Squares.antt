@@ -1,20 +1,20 @@
 -- A square: p then q, and q' then p', where the two first sides, p and q', are both seen from the start.
 -- So each condition is the same from both sides.
-use Rattle.std.proofs.Common.{◌≡◌, ◌≢◌, ℕ, ◌+◌, [], ◌∷◌, ◌++◌, length, ◌⊎◌, inl, inr, sym, ◌∙◌, append_assoc, append-nil, arith}
+use Rattle.std.proofs.Common.{◌≡◌, ◌≢◌, ℕ, ◌+◌, [], ◌∷◌, ◌++◌, List, length, ◌⊎◌, inl, inr, sym, ◌∙◌, append_assoc, append-nil, arith}
 use Rattle.std.proofs.lemmas.List.{append_cancel_left}
 use Rattle.dm_tree.proofs.Paths.{under_dec, comparable, apart_sym, inside_or_is, under_refl, under_append, under_trans, swap, swap-left, swap-other, Place, in_left, in_right, outside, place, swap-swap, swap_inj, Clear, swap-append, swap_turn, swap_under, swap_apart}
 use Rattle.dm_prim.proofs.Undoing.{swap_left, swap_right}
 use Rattle.dm_tree.specs.Paths.{Path, Under, Inside, Apart}
 use Rattle.dm_tree.specs.Trees.{Lines}
-use Rattle.dm_prim.specs.Primitives.{Work, AddFile, RmFile, AddDir, RmDir, Hunk, Prim, At, Move, inv_work, inv}
-use Rattle.dm_prim.specs.Table.{IsDirectoryWork, IsHunk, LiesAbove, WorkAndWork}
+use Rattle.dm_prim.specs.Primitives.{Work, AddFile, RmFile, AddDir, RmDir, Hunk, Binary, Prim, At, Move, ChangePref, inv_work, inv}
+use Rattle.dm_prim.specs.Table.{IsDirectoryWork, KeepsFile, LiesAbove, WorkAndWork, MovesOutside}
 
 -- `move a b` against work on f, from the same start
 pub record Beside (f : Path) (w : Work) (a b : Path) : Type 0 where
   pub move_apart : Apart a b
   pub target : Apart f b
   pub source : Inside a f → ⊥
-  pub hunk_at_a : f ≡ a → IsHunk w
+  pub keeps_at_a : f ≡ a → KeepsFile w
 
 -- `move a b` against `move c d`, from the same start
 pub record Passing (a b c d : Path) : Type 0 where
@@ -41,6 +41,8 @@ pub data Square : Prim → Prim → Prim → Prim → Type 0 where
   moves : {a b c d a' b' c' d' : Path} → Passing a b c d →
       c' ≡ swap a b c → d' ≡ swap a b d → a' ≡ swap c d a → b' ≡ swap c d b →
       Square (Move a b) (Move c' d') (Move c d) (Move a' b')
+  pref_then : {name old new : List ℕ} {q : Prim} → MovesOutside q → Square (ChangePref name old new) q q (ChangePref name old new)
+  then_pref : {name old new : List ℕ} {p : Prim} → MovesOutside p → Square p (ChangePref name old new) (ChangePref name old new) p
 
 -- symmetry
 
@@ -61,6 +63,8 @@ square_turn (free {f} {g} {w} {v} s) = free (separate_turn f w g v s)
 square_turn (then_move b e) = move_then b e
 square_turn (move_then b e) = then_move b e
 square_turn (moves {a} {b} {c} {d} p ec ed ea eb) = moves (passing_turn a b c d p) ea eb ec ed
+square_turn (pref_then h) = then_pref h
+square_turn (then_pref h) = pref_then h
 
 -- the first side the other way
 
@@ -83,19 +87,26 @@ dir_inv RmFile d = d
 dir_inv AddDir d = d
 dir_inv RmDir d = d
 dir_inv (Hunk l o n) d = d
+dir_inv (Binary o n) d = d
 
-pub hunk_inv : (w : Work) → IsHunk w → IsHunk (inv_work w)
-hunk_inv AddFile d = d
-hunk_inv RmFile d = d
-hunk_inv AddDir d = d
-hunk_inv RmDir d = d
-hunk_inv (Hunk l o n) d = d
+pub keeps_inv : (w : Work) → KeepsFile w → KeepsFile (inv_work w)
+keeps_inv AddFile d = d
+keeps_inv RmFile d = d
+keeps_inv AddDir d = d
+keeps_inv RmDir d = d
+keeps_inv (Hunk l o n) d = d
+keeps_inv (Binary o n) d = d
+
+pub outside_inv : (p : Prim) → MovesOutside p → MovesOutside (inv p)
+outside_inv (At f w) h = tt
+outside_inv (Move a b) h = apart_sym h
+outside_inv (ChangePref name old new) h = tt
 
 pub separate_inv : (f : Path) (w : Work) (g : Path) (v : Work) → WorkAndWork f w g v → WorkAndWork f (inv_work w) g v
 separate_inv f w g v s = record { differ = s.differ; apart = λ d. s.apart (elim d [ inl x ↦ inl (dir_inv w x) | inr x ↦ inr x ]) }
 
 pub beside_inv : (f : Path) (w : Work) (a b : Path) → Beside f w a b → Beside f (inv_work w) a b
-beside_inv f w a b s = record { move_apart = s.move_apart; target = s.target; source = s.source; hunk_at_a = λ e. hunk_inv w (s.hunk_at_a e) }
+beside_inv f w a b s = record { move_apart = s.move_apart; target = s.target; source = s.source; keeps_at_a = λ e. keeps_inv w (s.keeps_at_a e) }
 
 -- no path is inside one that is apart from it
 pub not_inside : (a b : Path) → (Under a b → ⊥) → Inside a b → ⊥
@@ -116,7 +127,7 @@ beside_moved f w a b s = record {
   move_apart = apart_sym s.move_apart;
   target = rw (swap_right a b s.move_apart) at (swap_apart a b f b s.move_apart (beside_clear f w a b s) (clear_ends a b s.move_apart).1 s.target);
   source = λ i. s.source (i.0, i.1, swap_inj a b a (f ++ i.0 ∷ i.1) s.move_apart (swap_left a b ∙ i.2 ∙ sym (swap-append a b f (i.0 ∷ i.1) s.move_apart (beside_clear f w a b s))));
-  hunk_at_a = λ e. s.hunk_at_a (swap_inj a b f a s.move_apart (e ∙ sym (swap_left a b)));
+  keeps_at_a = λ e. s.keeps_at_a (swap_inj a b f a s.move_apart (e ∙ sym (swap_left a b)));
 }
 
 -- moves, seen from the far side of the first
@@ -211,3 +222,5 @@ square_inv (move_then {f} {f'} {a} {b} {w} h e) = move_then (rw e (beside_moved 
 square_inv (moves {a} {b} {c} {d} {a'} {b'} {c'} {d'} p ec ed ea eb) =
     moves (rw (ec, ed) (passing_moved a b c d p)) (swap_back a b c c' p.left ec) (swap_back a b d d' p.left ed)
     (eb ∙ rw (ec, ed) (sym (passing_ends a b c d p).1)) (ea ∙ rw (ec, ed) (sym (passing_ends a b c d p).0))
+square_inv (pref_then h) = pref_then h
+square_inv (then_pref {p = p} h) = then_pref (outside_inv p h)

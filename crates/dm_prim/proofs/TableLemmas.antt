@@ -1,15 +1,15 @@
 -- What the table says of two primitives of each kind.
-use Rattle.std.proofs.Common.{◌≡◌, ℕ, ◌<◌, length, inl, inr, refl, sym, ap, Option, Some, None, arith}
+use Rattle.std.proofs.Common.{◌≡◌, ℕ, ◌<◌, length, ◌⊎◌, inl, inr, refl, sym, ap, Option, Some, None, arith}
 use Rattle.dm_tree.specs.Paths.{Path, Under, forward}
 use Rattle.dm_tree.specs.Validity.{IsValidPath}
 use Rattle.dm_tree.specs.Trees.{Lines}
 use Rattle.dm_tree.proofs.ValidityLemmas.{valid_parts}
-use Rattle.dm_tree.proofs.Paths.{forward-other}
-use Rattle.dm_prim.specs.Primitives.{Work, Prim, At, Move, Hunk}
-use Rattle.dm_prim.specs.Table.{TableRow, first_above, second_above, two_works, work_move, move_work, two_moves, WorkAndWork, WorkThenMove, MoveThenMove, IsHunk}
+use Rattle.dm_tree.proofs.Paths.{forward-other, apart_sym}
+use Rattle.dm_prim.specs.Primitives.{Work, Prim, At, Move, Hunk, ChangePref}
+use Rattle.dm_prim.specs.Table.{TableRow, first_above, second_above, two_works, work_move, move_work, two_moves, preference_first, preference_second, MovesOutside, WorkAndWork, WorkThenMove, MoveThenMove, IsHunk}
 use Rattle.dm_prim.specs.Commuting.{IsLineNumber, IsValidPrim, Commutes}
 use Rattle.dm_prim.specs.Hunks.{HunkParts, hunk_of, ChangePlaces}
-use Rattle.dm_prim.specs.Prims.{path_of, work_of, IsWork, CommutesTo, PairLawsHold}
+use Rattle.dm_prim.specs.Prims.{path_of, work_of, IsWork, NamesAPath, MovesNothing, CommutesTo, PairLawsHold}
 use Rattle.dm_prim.specs.declared.primitive.Primitive as code
 use Rattle.dm_prim.proofs.Single.{answer_from, Both, apart, down, up}
 use Rattle.dm_prim.proofs.LawProofs.{pair_laws}
@@ -86,10 +86,12 @@ module _ (a b c d : Path) where
 as_work : (p : Prim) → IsWork p → p ≡ At (path_of p) (work_of p)
 as_work (At f w) h = refl
 as_work (Move a b) h = absurd h
+as_work (ChangePref name old new) h = absurd h
 
 pub work_stays : (p : Prim) (a b : Path) → IsWork p → (f : Path) → f ≡ path_of p → (Under f a → ⊥) → p ≡ At (forward a b (path_of p)) (work_of p)
 work_stays (At f w) a b is g e n = ap (λ x. At x w) (stays a b f (rw e at n))
 work_stays (Move c d) a b is g e n = absurd is
+work_stays (ChangePref name old new) a b is g e n = absurd is
 
 module _ (p : Prim) (a b : Path) (is : IsWork p) where
   pub no_work_move : (WorkThenMove (path_of p) (work_of p) a b → ⊥) → (q' p' : Prim) → Commutes p (Move a b) q' p' → ⊥
@@ -144,3 +146,38 @@ module _ (p q : Prim) (ip : IsWork p) (iq : IsWork q) where
   change_places s gp gq =
       let h : TableRow p q q p = rw (as_work p ip, as_work q iq) (two_works s) in
       record { valid_p = gp; valid_q = gq; valid_q' = gq; valid_p' = gp; row = h }
+
+-- a change of a preference, and any primitive
+preference_row : (p q : Prim) → (NamesAPath p → ⊥) ⊎ (NamesAPath q → ⊥) → MovesOutside p → MovesOutside q → TableRow p q q p
+preference_row (ChangePref name old new) q n hp hq = preference_first hq
+preference_row p (ChangePref name old new) n hp hq = preference_second hp
+preference_row (At f w) (At g v) n hp hq = absurd (elim n [ inl k ↦ k tt | inr k ↦ k tt ])
+preference_row (At f w) (Move a b) n hp hq = absurd (elim n [ inl k ↦ k tt | inr k ↦ k tt ])
+preference_row (Move a b) (At f w) n hp hq = absurd (elim n [ inl k ↦ k tt | inr k ↦ k tt ])
+preference_row (Move a b) (Move c d) n hp hq = absurd (elim n [ inl k ↦ k tt | inr k ↦ k tt ])
+
+both_outside : {p q q' p' : Prim} → TableRow p q q' p' → MovesOutside p × MovesOutside q
+both_outside (first_above c e) = (tt, tt)
+both_outside (second_above c e) = (tt, tt)
+both_outside (two_works s) = (tt, tt)
+both_outside (work_move c e) = (tt, c.move_apart)
+both_outside (move_work c e) = (apart_sym c.move_apart, tt)
+both_outside (two_moves c e1 e2 e3 e4) = (c.first_apart, c.second_apart)
+both_outside (preference_first h) = (tt, h)
+both_outside (preference_second h) = (h, tt)
+
+module _ (p q : Prim) where
+  pub no_first_outside : (MovesOutside p → ⊥) → (q' p' : Prim) → Commutes p q q' p' → ⊥
+  no_first_outside n q' p' r = n (both_outside r.row).0
+
+  pub no_second_outside : (MovesOutside q → ⊥) → (q' p' : Prim) → Commutes p q q' p' → ⊥
+  no_second_outside n q' p' r = n (both_outside r.row).1
+
+  pub both_stay : (NamesAPath p → ⊥) ⊎ (NamesAPath q → ⊥) → MovesOutside p → MovesOutside q → IsValidPrim p → IsValidPrim q → Commutes p q q p
+  both_stay n hp hq gp gq = record { valid_p = gp; valid_q = gq; valid_q' = gq; valid_p' = gp; row = preference_row p q n hp hq }
+
+-- a primitive that names a path and moves nothing is work
+pub is_work : (p : Prim) → NamesAPath p → MovesNothing p → IsWork p
+is_work (At f w) n h = tt
+is_work (Move a b) n h = absurd h
+is_work (ChangePref name old new) n h = absurd n

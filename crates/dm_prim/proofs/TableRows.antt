@@ -1,10 +1,10 @@
 -- The table and the squares say the same.
 use Rattle.std.proofs.Common.{◌≡◌, ◌≢◌, length, inl, inr, sym, ◌∙◌}
 use Rattle.dm_tree.proofs.Paths.{apart_sym, inside_or_is, swap, swap_forward}
-use Rattle.dm_prim.proofs.Squares.{Beside, Passing, Square, hunk_down, hunk_up, free, then_move, move_then, moves, clears_moved, clears_back, beside_moved, not_inside, inside_to_under, same_under, passing_moved, swap_back, square_turn, square_inv}
+use Rattle.dm_prim.proofs.Squares.{Beside, Passing, Square, hunk_down, hunk_up, free, then_move, move_then, moves, pref_then, then_pref, clears_moved, clears_back, beside_moved, not_inside, inside_to_under, same_under, passing_moved, swap_back, square_turn, square_inv}
 use Rattle.dm_tree.specs.Paths.{Path, Under, Inside}
 use Rattle.dm_prim.specs.Primitives.{Work, Prim, inv}
-use Rattle.dm_prim.specs.Table.{WorkThenMove, MoveThenMove, TableRow, first_above, second_above, two_works, work_move, move_work, two_moves}
+use Rattle.dm_prim.specs.Table.{WorkThenMove, MoveThenMove, TableRow, first_above, second_above, two_works, work_move, move_work, two_moves, preference_first, preference_second}
 
 -- neither it nor inside it
 pub not_under : (p a : Path) → p ≢ a → (Inside p a → ⊥) → Under p a → ⊥
@@ -15,7 +15,7 @@ beside_of f w a b c = record {
   move_apart = c.move_apart;
   target = record { left = not_under f b c.f_not_b c.f_not_in_b; right = not_under b f (λ e. c.f_not_b (sym e)) c.b_not_in_f };
   source = c.a_not_in_f;
-  hunk_at_a = c.hunk_at_a;
+  keeps_at_a = c.keeps_at_a;
 }
 
 pub then_move_from : (f : Path) (w : Work) (a b : Path) → Beside f w a b → WorkThenMove f w a b
@@ -25,7 +25,7 @@ then_move_from f w a b s = record {
   f_not_in_b = not_inside f b s.target.left;
   a_not_in_f = s.source;
   b_not_in_f = not_inside b f s.target.right;
-  hunk_at_a = s.hunk_at_a;
+  keeps_at_a = s.keeps_at_a;
 }
 
 pub passing_from : (a b c d : Path) → MoveThenMove a b c d → Passing b a c d
@@ -71,11 +71,15 @@ square_from (two_moves {a} {b} {c} {d} {a'} {b'} {c'} {d'} p ec ed ea eb) =
     let g : Passing a b c' d' = rw (kc, kd) (passing_moved b a c d h) in
     moves g (swap_back b a c c' h.left kc) (swap_back b a d d' h.left kd)
     (ea ∙ sym (swap_forward c' d' a g.a_off_d)) (eb ∙ sym (swap_forward c' d' b g.targets.left))
+square_from (preference_first h) = pref_then h
+square_from (preference_second h) = then_pref h
 
 pub row_from : {p q q' p' : Prim} → Square p q q' p' → TableRow p q q' p'
 row_from (hunk_down {l1 = l1} {l2 = l2} {l2' = m} {o1 = o1} {n1 = n1} {o2 = o2} {n2 = n2} c e) = first_above (clears_moved l1 l2 m (length o1) (length n1) (length o2) (length n2) c e) e
 row_from (hunk_up c e) = second_above c e
 row_from (free s) = two_works s
+row_from (pref_then h) = preference_first h
+row_from (then_pref h) = preference_second h
 row_from (then_move {f} {f'} {a} {b} {w} h e) = work_move (then_move_from f w a b h) (e ∙ swap_forward a b f h.target.left)
 row_from (move_then {f} {f'} {a} {b} {w} h e) = let k = beside_moved f w a b h in
     move_work (rw e (then_move_from (swap a b f) w b a k)) (swap_back a b f f' h.move_apart e ∙ rw e (swap_forward b a (swap a b f) k.target.left))

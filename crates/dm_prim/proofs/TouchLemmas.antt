@@ -6,16 +6,16 @@ use Rattle.std.proofs.lemmas.List.Elements.{Contains-get_or, Contains-append_lef
 use Rattle.std.proofs.lemmas.Grind.{flat_map-append}
 use Rattle.dm_tree.specs.Paths.{Path, Apart}
 use Rattle.dm_tree.proofs.Paths.{forward-other, apart_sym}
-use Rattle.dm_prim.specs.Primitives.{Work, Prim, At, Move, inv, inv_all}
+use Rattle.dm_prim.specs.Primitives.{Work, Prim, At, Move, ChangePref, inv, inv_all}
 use Rattle.dm_prim.specs.Rectangles.{CellRow, none, next, empty, row}
-use Rattle.dm_prim.specs.Table.{TableRow, first_above, second_above, two_works, work_move, move_work, two_moves, WorkThenMove, MoveThenMove}
+use Rattle.dm_prim.specs.Table.{TableRow, first_above, second_above, two_works, work_move, move_work, two_moves, preference_first, preference_second, WorkThenMove, MoveThenMove, MovesOutside}
 use Rattle.dm_prim.specs.Commuting.{IsValidPrim, Commutes, ListsCommute}
 use Rattle.std.proofs.lemmas.List.{take_all}
-use Rattle.dm_prim.specs.Prims.{prim_of, prims_of, path_of, IsWork}
+use Rattle.dm_prim.specs.Prims.{prim_of, prims_of, path_of, IsWork, NamesAPath, MovesNothing}
 use Rattle.dm_prim.specs.declared.primitive.Primitive as code
 use Rattle.dm_prim.proofs.ListLemmas.{count_of, prims_more, parted}
 use Rattle.dm_prim.proofs.LawProofs.{valid_inv}
-use Rattle.dm_prim.specs.Touch.{paths_of, IsTouched, MovesOutside, TouchedPaths, Touches, IsApartFrom, AreApart, PassUnchanged, StayTouched, MoveNothing, NamesAmong, IsNamedAmong, InversesTouchTheSame}
+use Rattle.dm_prim.specs.Touch.{paths_of, IsTouched, TouchedPaths, Touches, IsApartFrom, AreApart, PassUnchanged, StayTouched, MoveNothing, NamesAmong, IsNamedAmong, InversesTouchTheSame}
 use Rattle.dm_prim.proofs.Squares.{not_inside, same_under}
 
 module _ {X : Type 0} (P : X → Type 0) where
@@ -38,7 +38,7 @@ work_aside f a b w m ha hb = record {
   f_not_in_b = not_inside f b hb.left;
   a_not_in_f = not_inside a f ha.right;
   b_not_in_f = not_inside b f hb.right;
-  hunk_at_a = λ e. absurd (ha.left (same_under f a e));
+  keeps_at_a = λ e. absurd (ha.left (same_under f a e));
 }
 
 move_aside : (a b c d : Path) → Apart a b → Apart c d → Apart a c → Apart a d → Apart b c → Apart b d → MoveThenMove a b c d
@@ -78,6 +78,9 @@ row_aside (Move a b) (Move c d) hp hq h =
     let bd = h b d (second_of a b) (second_of c d) in
     two_moves (move_aside a b c d hp hq ac ad bc bd)
     (sym (forward-other b a c bc.right)) (sym (forward-other b a d bd.right)) (sym (forward-other c d a ac.left)) (sym (forward-other c d b bc.left))
+row_aside (ChangePref name old new) q hp hq h = preference_first hq
+row_aside (At f w) (ChangePref name old new) hp hq h = preference_second tt
+row_aside (Move a b) (ChangePref name old new) hp hq h = preference_second hp
 
 -- lists each pair of which commutes unchanged
 row_unchanged : (x : Prim) (ys : List Prim) → ((y : Prim) → Contains ys y → Commutes x y y x) → CellRow Commutes x ys ys x
@@ -111,10 +114,23 @@ pass_unchanged t u h xs ys a b =
 pub paths_of_work : (p : Prim) → IsWork p → paths_of p ≡ path_of p ∷ []
 paths_of_work (At f w) h = refl
 paths_of_work (Move a b) h = elim h [ ]
+paths_of_work (ChangePref name old new) h = elim h [ ]
 
-pub work_moves_outside : (p : Prim) → IsWork p → MovesOutside p
-work_moves_outside (At f w) h = tt
-work_moves_outside (Move a b) h = elim h [ ]
+pub still_moves_outside : (p : Prim) → MovesNothing p → MovesOutside p
+still_moves_outside (At f w) h = tt
+still_moves_outside (Move a b) h = elim h [ ]
+still_moves_outside (ChangePref name old new) h = tt
+
+-- a primitive that names no path moves nothing
+pub nameless_moves_nothing : (p : Prim) → (NamesAPath p → ⊥) → MovesNothing p
+nameless_moves_nothing (At f w) n = tt
+nameless_moves_nothing (Move a b) n = absurd (n tt)
+nameless_moves_nothing (ChangePref name old new) n = tt
+
+pub paths_of_nameless : (p : Prim) → (NamesAPath p → ⊥) → paths_of p ≡ []
+paths_of_nameless (At f w) n = absurd (n tt)
+paths_of_nameless (Move a b) n = absurd (n tt)
+paths_of_nameless (ChangePref name old new) n = refl
 
 pub paths_of_move : (p : Prim) (a b : Path) → p ≡ Move a b → paths_of p ≡ a ∷ b ∷ []
 paths_of_move p a b e = rw e
@@ -122,13 +138,13 @@ paths_of_move p a b e = rw e
 pub move_moves_outside : (p : Prim) (a b : Path) → p ≡ Move a b → MovesOutside p ↔ Apart a b
 move_moves_outside p a b e = rw e (λ h. h, λ h. h)
 
-pub move_moves_something : (p : Prim) (a b : Path) → p ≡ Move a b → {P : Type 0} → IsTrue false ↔ (P × IsWork p)
+pub move_moves_something : (p : Prim) (a b : Path) → p ≡ Move a b → {P : Type 0} → IsTrue false ↔ (P × MovesNothing p)
 move_moves_something p a b e = rw e (λ x. absurd (cc x), λ x. elim x.1 [ ])
 
 -- one primitive more
 module _ (p : Prim) (t : TouchedPaths) (paths : List Path) (moves still : Bool) (valid : IsValidPrim p)
     (more : (f : Path) → Contains paths f ↔ Contains (t.paths ++ paths_of p) f) (outside : IsTrue moves ↔ (IsTrue t.moves_outside × MovesOutside p))
-    (work : IsTrue still ↔ (IsTrue t.moves_nothing × IsWork p))
+    (work : IsTrue still ↔ (IsTrue t.moves_nothing × MovesNothing p))
     (ps : List Prim) (h : Touches ps t) where
   touched_more : (f : Path) → Contains (t.paths ++ paths_of p) f ↔ Contains (flat_map paths_of ps ++ paths_of p) f
   touched_more f = (
@@ -148,8 +164,8 @@ module _ (p : Prim) (t : TouchedPaths) (paths : List Path) (moves still : Bool) 
       λ m. let o = (all_with MovesOutside ps p).0 m in outside.1 (h.moves.1 o.0, o.1),
     );
     works = (
-      λ m. let o = work.0 m in (all_with IsWork ps p).1 (h.works.0 o.0, o.1),
-      λ m. let o = (all_with IsWork ps p).0 m in work.1 (h.works.1 o.0, o.1),
+      λ m. let o = work.0 m in (all_with MovesNothing ps p).1 (h.works.0 o.0, o.1),
+      λ m. let o = (all_with MovesNothing ps p).0 m in work.1 (h.works.1 o.0, o.1),
     );
   }
 
@@ -178,6 +194,7 @@ touched_by_last qs p = flat_map-append paths_of qs (p ∷ []) ∙ ap (λ z. flat
 
 inverse_names : (p : Prim) (f : Path) → Contains (paths_of (inv p)) f ↔ Contains (paths_of p) f
 inverse_names (At g w) f = (λ c. c, λ c. c)
+inverse_names (ChangePref name old new) f = (λ c. c, λ c. c)
 inverse_names (Move a b) f = (turned b a f, turned a b f)
   where
     turned : (a b f : Path) → Contains (a ∷ b ∷ []) f → Contains (b ∷ a ∷ []) f
@@ -186,10 +203,12 @@ inverse_names (Move a b) f = (turned b a f, turned a b f)
 inverse_outside : (p : Prim) → MovesOutside (inv p) ↔ MovesOutside p
 inverse_outside (At f w) = (λ h. h, λ h. h)
 inverse_outside (Move a b) = (λ h. apart_sym h, λ h. apart_sym h)
+inverse_outside (ChangePref name old new) = (λ h. h, λ h. h)
 
-inverse_work : (p : Prim) → IsWork (inv p) ↔ IsWork p
-inverse_work (At f w) = (λ h. h, λ h. h)
-inverse_work (Move a b) = (λ h. h, λ h. h)
+inverse_still : (p : Prim) → MovesNothing (inv p) ↔ MovesNothing p
+inverse_still (At f w) = (λ h. h, λ h. h)
+inverse_still (Move a b) = (λ h. h, λ h. h)
+inverse_still (ChangePref name old new) = (λ h. h, λ h. h)
 
 inverse_touched : (ps : List Prim) (f : Path) → IsTouched (inv_all ps) f ↔ IsTouched ps f
 inverse_touched [] f = (λ c. c, λ c. c)
@@ -217,44 +236,46 @@ inverses_touch_the_same ps t h = record {
     λ m. h.moves.1 (all_from_inverse MovesOutside MovesOutside (λ p. (inverse_outside p).0) ps m),
   );
   works = (
-    λ m. all_of_inverse IsWork IsWork (λ p. (inverse_work p).1) ps (h.works.0 m),
-    λ m. h.works.1 (all_from_inverse IsWork IsWork (λ p. (inverse_work p).0) ps m),
+    λ m. all_of_inverse MovesNothing MovesNothing (λ p. (inverse_still p).1) ps (h.works.0 m),
+    λ m. h.works.1 (all_from_inverse MovesNothing MovesNothing (λ p. (inverse_still p).0) ps m),
   );
 }
 
 -- lists without moves that commute: every path stays
 record Kept (ps ps' : List Prim) : Type 0 where
   valid : All IsValidPrim ps'
-  works : All IsWork ps'
+  works : All MovesNothing ps'
   paths : flat_map paths_of ps' ≡ flat_map paths_of ps
 
 record KeptOne (p p' : Prim) : Type 0 where
   valid : IsValidPrim p'
-  work : IsWork p'
+  work : MovesNothing p'
   paths : paths_of p' ≡ paths_of p
 
-row_kept : {p q q' p' : Prim} → TableRow p q q' p' → IsWork p → IsWork q → ((IsWork p' × (paths_of p' ≡ paths_of p)) × (IsWork q' × (paths_of q' ≡ paths_of q)))
+row_kept : {p q q' p' : Prim} → TableRow p q q' p' → MovesNothing p → MovesNothing q → ((MovesNothing p' × (paths_of p' ≡ paths_of p)) × (MovesNothing q' × (paths_of q' ≡ paths_of q)))
 row_kept (first_above a e) h k = ((tt, refl), (tt, refl))
 row_kept (second_above a e) h k = ((tt, refl), (tt, refl))
 row_kept (two_works a) h k = ((tt, refl), (tt, refl))
 row_kept (work_move a e) h k = elim k [ ]
 row_kept (move_work a e) h k = elim h [ ]
 row_kept (two_moves a e1 e2 e3 e4) h k = elim h [ ]
+row_kept (preference_first a) h k = ((tt, refl), (k, refl))
+row_kept (preference_second a) h k = ((h, refl), (tt, refl))
 
-kept_first : {p q q' p' : Prim} → Commutes p q q' p' → IsWork p → IsWork q → KeptOne p p'
+kept_first : {p q q' p' : Prim} → Commutes p q q' p' → MovesNothing p → MovesNothing q → KeptOne p p'
 kept_first c h k = let r = row_kept c.row h k in record { valid = c.valid_p'; work = r.0.0; paths = r.0.1 }
 
-kept_second : {p q q' p' : Prim} → Commutes p q q' p' → IsWork p → IsWork q → KeptOne q q'
+kept_second : {p q q' p' : Prim} → Commutes p q q' p' → MovesNothing p → MovesNothing q → KeptOne q q'
 kept_second c h k = let r = row_kept c.row h k in record { valid = c.valid_q'; work = r.1.0; paths = r.1.1 }
 
 kept_more : {p p' : Prim} {ps ps' : List Prim} → KeptOne p p' → Kept ps ps' → Kept (p ∷ ps) (p' ∷ ps')
 kept_more {p} {p'} {ps} {ps'} a b = record {
   valid = All-cons IsValidPrim p' ps' a.valid b.valid;
-  works = All-cons IsWork p' ps' a.work b.works;
+  works = All-cons MovesNothing p' ps' a.work b.works;
   paths = ap (λ z. z ++ flat_map paths_of ps') a.paths ∙ ap (λ z. paths_of p ++ z) b.paths;
 }
 
-kept_all : (ps : List Prim) → All IsValidPrim ps → All IsWork ps → Kept ps ps
+kept_all : (ps : List Prim) → All IsValidPrim ps → All MovesNothing ps → Kept ps ps
 kept_all ps h k = record { valid = h; works = k; paths = refl }
 
 kept_on : {p q r : Prim} → KeptOne p q → KeptOne q r → KeptOne p r
@@ -263,23 +284,23 @@ kept_on a b = record { valid = b.valid; work = b.work; paths = b.paths ∙ a.pat
 kept_then : {ps qs rs : List Prim} → Kept ps qs → Kept qs rs → Kept ps rs
 kept_then a b = record { valid = b.valid; works = b.works; paths = b.paths ∙ a.paths }
 
-cells_kept : {x x' : Prim} {ys ys' : List Prim} → CellRow Commutes x ys ys' x' → IsValidPrim x → IsWork x → All IsValidPrim ys → All IsWork ys → KeptOne x x' × Kept ys ys'
+cells_kept : {x x' : Prim} {ys ys' : List Prim} → CellRow Commutes x ys ys' x' → IsValidPrim x → MovesNothing x → All IsValidPrim ys → All MovesNothing ys → KeptOne x x' × Kept ys ys'
 cells_kept none g h valid works = (record { valid = g; work = h; paths = refl }, kept_all [] valid works)
 cells_kept (next {x} {y} {y'} {x1} {x'} {ys} {ys'} c s) g h valid works =
-    let k = All-head IsWork y ys works in
+    let k = All-head MovesNothing y ys works in
     let one = kept_first c h k in
-    let rest = cells_kept s one.valid one.work (All-tail IsValidPrim y ys valid) (All-tail IsWork y ys works) in
+    let rest = cells_kept s one.valid one.work (All-tail IsValidPrim y ys valid) (All-tail MovesNothing y ys works) in
     (kept_on one rest.0, kept_more (kept_second c h k) rest.1)
 
-lists_kept : {xs ys ys' xs' : List Prim} → ListsCommute xs ys ys' xs' → All IsValidPrim xs → All IsWork xs → All IsValidPrim ys → All IsWork ys → Kept xs xs' × Kept ys ys'
+lists_kept : {xs ys ys' xs' : List Prim} → ListsCommute xs ys ys' xs' → All IsValidPrim xs → All MovesNothing xs → All IsValidPrim ys → All MovesNothing ys → Kept xs xs' × Kept ys ys'
 lists_kept (empty {ys}) g h valid works = (kept_all [] g h, kept_all ys valid works)
 lists_kept (row {x} {x'} {xs} {xs'} {ys} {between} {ys'} r s) g h valid works =
-    let below = lists_kept r (All-tail IsValidPrim x xs g) (All-tail IsWork x xs h) valid works in
-    let above = cells_kept s (All-head IsValidPrim x xs g) (All-head IsWork x xs h) below.1.valid below.1.works in
+    let below = lists_kept r (All-tail IsValidPrim x xs g) (All-tail MovesNothing x xs h) valid works in
+    let above = cells_kept s (All-head IsValidPrim x xs g) (All-head MovesNothing x xs h) below.1.valid below.1.works in
     (kept_more above.0 below.0, kept_then below.1 above.1)
 
-works_move_outside : (ps : List Prim) → All IsWork ps → All MovesOutside ps
-works_move_outside ps h = holds_of_all MovesOutside ps (λ p c. work_moves_outside p (holds_of IsWork ps h c))
+works_move_outside : (ps : List Prim) → All MovesNothing ps → All MovesOutside ps
+works_move_outside ps h = holds_of_all MovesOutside ps (λ p c. still_moves_outside p (holds_of MovesNothing ps h c))
 
 kept_touched : (ps ps' : List Prim) (t : TouchedPaths) → IsTrue t.moves_nothing → Touches ps t → Kept ps ps' → Touches ps' t
 kept_touched ps ps' t m h k = record {
@@ -301,10 +322,15 @@ contains_one g f c = elim (Contains-push_cases [] g f c) [ inl (k, l, e) ↦ abs
 pub names_work : (p : Prim) → IsWork p → (f : Path) → (path_of p ≡ f) ↔ IsTouched (p ∷ []) f
 names_work (At g w) h f = (λ e. (0, omega arith, e), contains_one g f)
 names_work (Move a b) h f = elim h [ ]
+names_work (ChangePref name old new) h f = elim h [ ]
 
-pub names_first : (p : Prim) → IsTouched (p ∷ []) (path_of p)
-names_first (At g w) = (0, omega arith, refl)
-names_first (Move a b) = (0, omega arith, refl)
+pub names_none : (p : Prim) → (NamesAPath p → ⊥) → (f : Path) → IsTouched (p ∷ []) f → ⊥
+names_none p n f c = let e = paths_of_nameless p n in let d = rw (append-nil (paths_of p), e) at c in absurd (omega (arith, d.1))
+
+pub names_first : (p : Prim) → NamesAPath p → IsTouched (p ∷ []) (path_of p)
+names_first (At g w) h = (0, omega arith, refl)
+names_first (Move a b) h = (0, omega arith, refl)
+names_first (ChangePref name old new) h = elim h [ ]
 
 pub names_move : (p : Prim) (a b : Path) → p ≡ Move a b → (f : Path) → (a ≢ f) → (b ≡ f) ↔ IsTouched (p ∷ []) f
 names_move p a b e f n = rw e (
@@ -315,10 +341,15 @@ names_move p a b e f n = rw e (
 pub among_work : (paths : List Path) (p : Prim) → IsWork p → Contains paths (path_of p) → NamesAmong paths p
 among_work paths (At g w) h c = record { each = All-cons (Contains paths) g [] c (All-nil (Contains paths)) }
 among_work paths (Move a b) h c = elim h [ ]
+among_work paths (ChangePref name old new) h c = elim h [ ]
 
-pub among_first : (paths : List Path) (p : Prim) → NamesAmong paths p → Contains paths (path_of p)
-among_first paths (At g w) h = All-head (Contains paths) g [] h.each
-among_first paths (Move a b) h = All-head (Contains paths) a (b ∷ []) h.each
+pub among_none : (paths : List Path) (p : Prim) → (NamesAPath p → ⊥) → NamesAmong paths p
+among_none paths p n = record { each = rw (paths_of_nameless p n) (All-nil (Contains paths)) }
+
+pub among_first : (paths : List Path) (p : Prim) → NamesAPath p → NamesAmong paths p → Contains paths (path_of p)
+among_first paths (At g w) n h = All-head (Contains paths) g [] h.each
+among_first paths (Move a b) n h = All-head (Contains paths) a (b ∷ []) h.each
+among_first paths (ChangePref name old new) n h = elim n [ ]
 
 pub among_move : (paths : List Path) (p : Prim) (a b : Path) → p ≡ Move a b → Contains paths a → Contains paths b ↔ NamesAmong paths p
 among_move paths p a b e c = rw e (
@@ -346,7 +377,7 @@ module _ {Z : Type 0} (P : Prim → Type 0) (ps : List (code.Primitive Z)) (i : 
   all_prims l h = rw (take_all i (prims_of ps) (rw (count_of ps) l)) at h
 
 pub touches_where : (ps : List Prim) (paths : List Path) (moves outside still work : Bool) → All IsValidPrim ps → All (NamesAmong paths) ps → All (IsNamedAmong ps) paths → IsTrue outside ↔ All MovesOutside ps →
-    outside ≡ moves → IsTrue work ↔ All IsWork ps → work ≡ still → Touches ps (record { paths = paths; moves_outside = moves; moves_nothing = still })
+    outside ≡ moves → IsTrue work ↔ All MovesNothing ps → work ≡ still → Touches ps (record { paths = paths; moves_outside = moves; moves_nothing = still })
 touches_where ps paths moves outside still work valid among named out e all f = record {
   valid = valid;
   paths = λ f. (λ c. (holds_of (IsNamedAmong ps) paths named c).named, among_all paths ps among f);

@@ -1,11 +1,11 @@
 -- What applies is undone by the inverse, and keeps a map lawful.
-use Rattle.std.proofs.Common.{◌≡◌, ◌≢◌, [], ◌∷◌, ◌++◌, Option, Some, None, ◌⊎◌, inl, inr, refl, sym, ap, ◌∙◌, append_assoc, append-nil}
+use Rattle.std.proofs.Common.{◌≡◌, ◌≢◌, [], ◌∷◌, ◌++◌, Option, Some, None, ◌⊎◌, inl, inr, refl, sym, ap, subst, ◌∙◌, append_assoc, append-nil}
 use Rattle.std.proofs.lemmas.List.{append_cancel_left, same_from_push}
 use Rattle.dm_tree.proofs.Paths.{apart_sym, under_append, under_trans, swap, swap-left, swap-right, swap-other, swap-swap, swap_turn}
 use Rattle.dm_prim.proofs.Maps.{path_dec, child_differs, below_absent, swap_child, Swaps, swaps_from, moves_from}
 use Rattle.dm_tree.specs.Paths.{Name, Path, Apart}
 use Rattle.dm_tree.specs.Trees.{Lines, Entry, Dir, File, Map, HasParent, IsLawful, empty_file}
-use Rattle.dm_prim.specs.Primitives.{Work, AddFile, RmFile, AddDir, RmDir, Hunk, Prim, At, Move, inv_work, inv, Changes, Around, WorksAt, Applies}
+use Rattle.dm_prim.specs.Primitives.{Work, AddFile, RmFile, AddDir, RmDir, Hunk, Binary, Prim, At, Move, ChangePref, inv_work, inv, Changes, Around, WorksAt, Applies}
 
 pub snoc : (f : Path) → (f ≡ []) ⊎ ((q : Path) × (n : Name) × (f ≡ q ++ n ∷ []))
 snoc [] = inl refl
@@ -39,6 +39,7 @@ changes_inv RmFile e e' h c = (c.1, c.0)
 changes_inv AddDir e e' h c = (c.1, c.0)
 changes_inv RmDir e e' h c = (c.1, c.0)
 changes_inv (Hunk l old new) e e' h (ls, ls', is, is', ed) = (ls', ls, is', is, record { front = ed.front; back = ed.back; at = ed.at; before = ed.after; after = ed.before; left = h ls is })
+changes_inv (Binary old new) e e' h c = (c.1, c.0, h old c.0)
 
 around_inv : (w : Work) (f : Path) (t u : Map) → IsLawful t → IsLawful u → WorksAt f w t u → Around (inv_work w) f u
 around_inv AddFile f t u lt lu h = tt
@@ -46,6 +47,7 @@ around_inv RmFile f t u lt lu h = parent_kept t u f h.elsewhere (parent_of t lt 
 around_inv AddDir f t u lt lu h = λ n r. h.elsewhere (f ++ n ∷ r) (λ e. let k : n ∷ r ≡ [] = append_cancel_left f (n ∷ r) [] (e ∙ sym (append-nil f)) in cc) ∙ below_absent t lt (n ∷ r) f h.here.0
 around_inv RmDir f t u lt lu h = parent_kept t u f h.elsewhere (parent_of t lt f (λ e. let x : u [] ≡ Some Dir = lu.root in let y : u f ≡ None = h.here.1 in let z : u [] ≡ None = rw e at y in cc) (λ e. let y : t f ≡ Some Dir = h.here.0 in cc))
 around_inv (Hunk l old new) f t u lt lu h = tt
+around_inv (Binary old new) f t u lt lu h = tt
 
 pub swaps_inv : (a b : Path) (t u : Map) → IsLawful t → Swaps a b t u → Swaps b a u t
 swaps_inv a b t u l s = record {
@@ -74,11 +76,13 @@ swaps_inv a b t u l s = record {
 pub undone : (p : Prim) (t u : Map) → IsLawful t → IsLawful u → Applies p t u → Applies (inv p) u t
 undone (At f w) t u lt lu h = record { around = around_inv w f t u lt lu h; here = changes_inv w (t f) (u f) (lt.lines f) h.here; elsewhere = λ q k. sym (h.elsewhere q k) }
 undone (Move a b) t u lt lu h = moves_from b a u t lu (swaps_inv a b t u lt (swaps_from a b t u lt h))
+undone (ChangePref name old new) t u lt lu h = sym h
 
 -- work is never done at the root
 abbrev pub OffRoot : Prim → Type 0
 OffRoot (At f w) = f ≢ []
 OffRoot (Move a b) = Unit {0}
+OffRoot (ChangePref name old new) = Unit {0}
 
 -- the entry after work: its parent where one is owed, its lines
 pub present_parent : (w : Work) (f : Path) (t u : Map) → IsLawful t → f ≢ [] → WorksAt f w t u → u f ≢ None → HasParent f t
@@ -87,6 +91,7 @@ present_parent RmFile f t u l nr h k = absurd (k h.here.1)
 present_parent AddDir f t u l nr h k = h.around
 present_parent RmDir f t u l nr h k = absurd (k h.here.1)
 present_parent (Hunk l1 old new) f t u l nr h k = parent_of t l f nr (λ e. let y : t f ≡ Some (File h.here.0) = h.here.2 in cc)
+present_parent (Binary old new) f t u l nr h k = parent_of t l f nr (λ e. let y : t f ≡ Some (File old) = h.here.0 in cc)
 
 -- a directory on which work was done has nothing in it
 pub emptied : (w : Work) (f : Path) (t u : Map) → WorksAt f w t u → t f ≡ Some Dir → (n : Name) → t (f ++ n ∷ []) ≡ None
@@ -95,6 +100,7 @@ emptied RmFile f t u h d n = let y : t f ≡ Some empty_file = h.here.0 in cc
 emptied AddDir f t u h d n = let y : t f ≡ None = h.here.0 in cc
 emptied RmDir f t u h d n = h.around n []
 emptied (Hunk l1 old new) f t u h d n = let y : t f ≡ Some (File h.here.0) = h.here.2 in cc
+emptied (Binary old new) f t u h d n = let y : t f ≡ Some (File old) = h.here.0 in cc
 
 pub lines_after : (w : Work) (f : Path) (t u : Map) → WorksAt f w t u → (ls : Lines) → u f ≡ Some (File ls) → ls ≢ []
 lines_after AddFile f t u h ls e z = let y : u f ≡ Some empty_file = h.here.1 in cc
@@ -102,6 +108,7 @@ lines_after RmFile f t u h ls e z = let y : u f ≡ None = h.here.1 in cc
 lines_after AddDir f t u h ls e z = let y : u f ≡ Some Dir = h.here.1 in cc
 lines_after RmDir f t u h ls e z = let y : u f ≡ None = h.here.1 in cc
 lines_after (Hunk l1 old new) f t u h ls e z = let y : u f ≡ Some (File h.here.1) = h.here.3 in h.here.4.left (cc)
+lines_after (Binary old new) f t u h ls e z = let y : u f ≡ Some (File new) = h.here.1 in h.here.2 (cc)
 
 pub works_kept : (w : Work) (f : Path) (t u : Map) → f ≢ [] → IsLawful t → WorksAt f w t u → IsLawful u
 works_kept w f t u nr l h = record {
@@ -156,3 +163,4 @@ swaps_kept a b t u l s = record {
 pub kept : (p : Prim) (t u : Map) → OffRoot p → IsLawful t → Applies p t u → IsLawful u
 kept (At f w) t u g l h = works_kept w f t u g l h
 kept (Move a b) t u g l h = swaps_kept a b t u l (swaps_from a b t u l h)
+kept (ChangePref name old new) t u g l h = subst IsLawful (sym h) l

@@ -1,12 +1,13 @@
 -- What applying primitives to a tree may answer.
-use Rattle.std.specs.Prelude.{◌≡◌, ℕ, List, ◌∷◌, ◌++◌, take, Result, Ok, Err}
+use Rattle.std.specs.Prelude.{◌≡◌, ◌≢◌, ℕ, List, ◌∷◌, ◌++◌, take, Some, None, Result, Ok, Err}
 use Rattle.std.specs.FinMap as map
 use Rattle.dm_tree.specs.declared.fault.TreeFault.{TreeFault}
-use Rattle.dm_tree.specs.declared.fault.TreeFault.TheVariants.{TooDeep, NoMemory}
-use Rattle.dm_tree.specs.Trees.{Map, Tree, Deep}
+use Rattle.dm_tree.specs.declared.fault.TreeFault.TheVariants.{Missing, NotFile, OldDiffers, TooDeep, NoMemory}
+use Rattle.dm_tree.specs.Paths.{Path}
+use Rattle.dm_tree.specs.Trees.{Lines, Dir, File, Map, Tree, Deep}
 use Rattle.dm_tree.specs.Changes.{AddAnswers, RemoveFileAnswers, RemoveDirAnswers, RenameAnswers, EditAnswers}
 use Rattle.dm_prim.specs.InTurn.{InTurn}
-use Rattle.dm_prim.specs.Primitives.{AddFile, RmFile, AddDir, RmDir, Hunk, Prim, At, Move, Applies}
+use Rattle.dm_prim.specs.Primitives.{AddFile, RmFile, AddDir, RmDir, Hunk, Binary, Prim, At, Move, ChangePref, Applies}
 
 -- when a fault may come: the primitive does not apply, or it does and what it makes is too deep; memory may run out at any time
 abbrev pub AdmitsFault : Prim → Map → TreeFault → Type 0
@@ -19,14 +20,26 @@ abbrev pub Applied : {T : Type 0} → Prim → Tree → Tree → Result T TreeFa
 Applied p t t' (Ok x) = Applies p (map.get t) (map.get t')
 Applied p t t' (Err e) = (t' ≡ t) × AdmitsFault p (map.get t) e
 
--- which fault comes, by what stood there before: that of the tree's call which the primitive is
+-- what a binary at p may answer: all lines of the file have to be the old ones
+abbrev pub BinaryAnswers : {T : Type 0} → Map → Path → Lines → Result T TreeFault → Type 0
+BinaryAnswers m p old (Ok x) = m p ≡ Some (File old)
+BinaryAnswers m p old (Err Missing) = m p ≡ None
+BinaryAnswers m p old (Err NotFile) = m p ≡ Some Dir
+BinaryAnswers m p old (Err OldDiffers) = (ls : Lines) × (m p ≡ Some (File ls)) × (ls ≢ old)
+BinaryAnswers m p old (Err NoMemory) = m p ≡ Some (File old)
+BinaryAnswers m p old (Err e) = ⊥
+
+-- which fault comes, by what stood there before: that of the tree's call which the primitive is; a change of a preference has none
 abbrev pub FaultsAs : {T : Type 0} → Prim → Map → Result T TreeFault → Type 0
 FaultsAs (At p AddFile) m r = AddAnswers m p r
 FaultsAs (At p RmFile) m r = RemoveFileAnswers m p r
 FaultsAs (At p AddDir) m r = AddAnswers m p r
 FaultsAs (At p RmDir) m r = RemoveDirAnswers m p r
 FaultsAs (At p (Hunk n old new)) m r = EditAnswers m p n old new r
+FaultsAs (At p (Binary old new)) m r = BinaryAnswers m p old r
 FaultsAs (Move a b) m r = RenameAnswers m a b r
+FaultsAs (ChangePref name old new) m (Ok x) = Unit {0}
+FaultsAs (ChangePref name old new) m (Err e) = ⊥
 
 -- a primitive makes one tree of another, in which no path has too many names
 abbrev pub AppliesToTree : Prim → Tree → Tree → Type 0

@@ -10,6 +10,10 @@ use Rattle.dm_prim.specs.Commuting.{Commutes, ListsCommute}
 use Rattle.dm_prim.specs.Applying.{FaultsAs, AppliedAll}
 use Rattle.dm_prim.specs.Hunks.{HunkParts, MakesHunk}
 use Rattle.dm_prim.specs.declared.hunk.HunkFault.{HunkFault}
+use Rattle.dm_prim.specs.Binaries.{BinaryParts, MakesBinary}
+use Rattle.dm_prim.specs.declared.binary.NoContent.{NoContent}
+use Rattle.dm_prim.specs.Preferences.{PreferenceParts, MakesPreference}
+use Rattle.dm_prim.specs.declared.preference.BadPreference.{BadPreference}
 
 -- the three laws, of one pair
 pub record PairLaws (p q q' p' : Prim) : Type 0 where
@@ -89,3 +93,11 @@ ApplyingAListHasOneAnswer = (ps : List Prim) (t u v : Tree) (r s : Result (Unit 
 -- two answers to the same parts of a hunk are the same
 abbrev pub HunkHasOneAnswer : Type 0
 HunkHasOneAnswer = (h : HunkParts) (r s : Result HunkParts HunkFault) → MakesHunk h r → MakesHunk h s → r ≡ s
+
+-- so are two answers to the same parts of a binary
+abbrev pub BinaryHasOneAnswer : Type 0
+BinaryHasOneAnswer = (b : BinaryParts) (r s : Result BinaryParts NoContent) → MakesBinary b r → MakesBinary b s → r ≡ s
+
+-- and of a change of a preference
+abbrev pub PreferenceHasOneAnswer : Type 0
+PreferenceHasOneAnswer = (c : PreferenceParts) (r s : Result PreferenceParts BadPreference) → MakesPreference c r → MakesPreference c s → r ≡ s

@@ -5,6 +5,8 @@ pub mod Table
 pub mod Commuting
 pub mod Laws
 pub mod Hunks
+pub mod Binaries
+pub mod Preferences
 pub mod Prims
 pub mod Applying
 pub mod Touch

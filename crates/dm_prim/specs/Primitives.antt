@@ -1,35 +1,39 @@
--- Primitive patches, their inverses, and what each does to a tree (Darcs.Patch.Prim.V1; this profile's own: `rmfile` wants an empty file, `rmdir` an empty directory, and a hunk leaves at least one line).
+-- Primitive patches, their inverses, and what each does to a tree (Darcs.Patch.Prim.V1; this profile's own: `rmfile` wants an empty file, `rmdir` an empty directory, and a hunk or a binary leaves at least one line).
 use Rattle.std.specs.Prelude.{◌≡◌, ◌≢◌, ℕ, List, [], ◌∷◌, ◌++◌, Option, Some, None}
 use Rattle.dm_tree.specs.Paths.{Name, Path}
 use Rattle.dm_tree.specs.Trees.{Lines, Entry, Dir, File, Map, HasParent, IsLawful, empty_file}
 use Rattle.dm_tree.specs.Changes.{MayMove, Renamed, ReplacesLines}
 use Rattle.dm_prim.specs.InTurn.{InTurn}
 
--- what is done at one path; a hunk has a line, counted from 1, and the old lines that new lines replace there
+-- what is done at one path; a hunk has a line, counted from 1, and the old lines that new lines replace there; a binary has all lines of the file, before and after
 pub data Work : Type 0 where
   AddFile : Work
   RmFile : Work
   AddDir : Work
   RmDir : Work
   Hunk : ℕ → Lines → Lines → Work
+  Binary : Lines → Lines → Work
 
--- a primitive is work at a path, or a move of all that is at or under a path to another
+-- a primitive is work at a path, a move of all that is at or under a path to another, or another value for the preference of this name
 pub data Prim : Type 0 where
   At : Path → Work → Prim
   Move : Path → Path → Prim
+  ChangePref : List ℕ → List ℕ → List ℕ → Prim
 
--- adding and removing undo each other, and a hunk is undone with its old and new lines exchanged
+-- adding and removing undo each other, and a hunk and a binary are undone with old and new exchanged
 abbrev pub inv_work : Work → Work
 inv_work AddFile = RmFile
 inv_work RmFile = AddFile
 inv_work AddDir = RmDir
 inv_work RmDir = AddDir
 inv_work (Hunk l old new) = Hunk l new old
+inv_work (Binary old new) = Binary new old
 
--- the inverse of a primitive; a move is undone by the move back
+-- the inverse of a primitive; a move is undone by the move back, another value by the old one
 abbrev pub inv : Prim → Prim
 inv (At p w) = At p (inv_work w)
 inv (Move a b) = Move b a
+inv (ChangePref name old new) = ChangePref name new old
 
 -- the inverse of a list: the inverses, in reversed order
 abbrev pub inv_all : List Prim → List Prim
@@ -43,6 +47,7 @@ Changes RmFile e e' = (e ≡ Some empty_file) × (e' ≡ None)
 Changes AddDir e e' = (e ≡ None) × (e' ≡ Some Dir)
 Changes RmDir e e' = (e ≡ Some Dir) × (e' ≡ None)
 Changes (Hunk l old new) e e' = (ls : Lines) × (ls' : Lines) × (e ≡ Some (File ls)) × (e' ≡ Some (File ls')) × ReplacesLines l old new ls ls'
+Changes (Binary old new) e e' = (e ≡ Some (File old)) × (e' ≡ Some (File new)) × (new ≢ [])
 
 -- what work asks of the tree around its path: a directory that holds what is added, nothing in a directory that is removed
 abbrev pub Around : Work → Path → Map → Type 0
@@ -51,6 +56,7 @@ Around RmFile p t = Unit {0}
 Around AddDir p t = HasParent p t
 Around RmDir p t = (n : Name) (r : Path) → t (p ++ n ∷ r) ≡ None
 Around (Hunk l old new) p t = Unit {0}
+Around (Binary old new) p t = Unit {0}
 
 -- work w at p makes t' of t
 pub record WorksAt (p : Path) (w : Work) (t t' : Map) : Type 0 where
@@ -62,10 +68,11 @@ pub record WorksAt (p : Path) (w : Work) (t t' : Map) : Type 0 where
 abbrev pub AppliesMove : Path → Path → Map → Map → Type 0
 AppliesMove a b t t' = MayMove t a b × Renamed a b t t'
 
--- p applies to t, and makes t' of it
+-- p applies to t, and makes t' of it; preferences aren't in the tree
 abbrev pub Applies : Prim → Map → Map → Type 0
 Applies (At p w) t t' = WorksAt p w t t'
 Applies (Move a b) t t' = AppliesMove a b t t'
+Applies (ChangePref name old new) t t' = t' ≡ t
 
 -- a lawful map
 pub record LawfulMap : Type 0 where

@@ -1,13 +1,15 @@
 -- Which primitive a value of the code is, and what commuting such values returns.
-use Rattle.std.specs.Prelude.{List, Vec, map, Option, Some, None}
+use Rattle.std.specs.Prelude.{List, [], Vec, map, Option, Some, None}
 use Rattle.dm_tree.specs.Paths.{Path}
 use Rattle.dm_prim.specs.Primitives as primitives
 use Rattle.dm_prim.specs.Rectangles.{CellRow}
 use Rattle.dm_prim.specs.Commuting.{Commutes, ListsCommute}
 use Rattle.dm_prim.specs.Laws.{PairLaws, ListLaws}
 use Rattle.dm_prim.specs.Hunks.{hunk_of}
+use Rattle.dm_prim.specs.Binaries.{binary_of}
+use Rattle.dm_prim.specs.Preferences.{preference_of}
 use Rattle.dm_prim.specs.declared.primitive.Primitive.{Primitive}
-use Rattle.dm_prim.specs.declared.primitive.Primitive.TheVariants.{AddFile, RmFile, AddDir, RmDir, Move, Hunk}
+use Rattle.dm_prim.specs.declared.primitive.Primitive.TheVariants.{AddFile, RmFile, AddDir, RmDir, Move, Hunk, Binary, ChangePref}
 
 -- the primitive that a value is
 abbrev pub prim_of : {Z : Type 0} → Primitive Z → primitives.Prim
@@ -17,24 +19,41 @@ prim_of (AddDir p) = primitives.At p primitives.AddDir
 prim_of (RmDir p) = primitives.At p primitives.RmDir
 prim_of (Move a b) = primitives.Move a b
 prim_of (Hunk h) = hunk_of h
+prim_of (Binary b) = binary_of b
+prim_of (ChangePref c) = preference_of c
 
 abbrev pub prims_of : {Z : Type 0} → List (Primitive Z) → List primitives.Prim
 prims_of ps = map prim_of ps
 
--- the path that it works at, or that it moves
+-- the path that it works at, or that it moves; a change of a preference has none
 abbrev pub path_of : primitives.Prim → Path
 path_of (primitives.At f w) = f
 path_of (primitives.Move a b) = a
+path_of (primitives.ChangePref name old new) = []
 
--- the work that it does, where it is no move
+-- the work that it does, where it does some
 abbrev pub work_of : primitives.Prim → primitives.Work
 work_of (primitives.At f w) = w
 work_of (primitives.Move a b) = primitives.AddFile
+work_of (primitives.ChangePref name old new) = primitives.AddFile
 
--- it is no move
+-- it is work at a path
 abbrev pub IsWork : primitives.Prim → Type 0
 IsWork (primitives.At f w) = Unit {0}
 IsWork (primitives.Move a b) = ⊥
+IsWork (primitives.ChangePref name old new) = ⊥
+
+-- it names a path
+abbrev pub NamesAPath : primitives.Prim → Type 0
+NamesAPath (primitives.At f w) = Unit {0}
+NamesAPath (primitives.Move a b) = Unit {0}
+NamesAPath (primitives.ChangePref name old new) = ⊥
+
+-- it is no move
+abbrev pub MovesNothing : primitives.Prim → Type 0
+MovesNothing (primitives.At f w) = Unit {0}
+MovesNothing (primitives.Move a b) = ⊥
+MovesNothing (primitives.ChangePref name old new) = Unit {0}
 
 -- p then q commute to the pair that is returned; where none is, they commute to nothing
 abbrev pub CommutesTo : {Z : Type 0} → primitives.Prim → primitives.Prim → Option (Primitive Z × Primitive Z) → Type 0

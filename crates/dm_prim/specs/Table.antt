@@ -1,9 +1,9 @@
 -- When two primitives change places: this project's table, made after Darcs.Patch.Prim.V1.Commute, row by row.
--- File work is adding or removing a file and a hunk; directory work is adding or removing a directory.
-use Rattle.std.specs.Prelude.{◌≡◌, ◌≢◌, ℕ, ◌+◌, ◌<◌, length, ◌⊎◌}
+-- File work is adding or removing a file, a hunk and a binary; directory work is adding or removing a directory.
+use Rattle.std.specs.Prelude.{◌≡◌, ◌≢◌, ℕ, ◌+◌, ◌<◌, List, length, ◌⊎◌}
 use Rattle.dm_tree.specs.Paths.{Path, Inside, Apart, forward}
 use Rattle.dm_tree.specs.Trees.{Lines}
-use Rattle.dm_prim.specs.Primitives.{Work, AddFile, RmFile, AddDir, RmDir, Hunk, Prim, At, Move}
+use Rattle.dm_prim.specs.Primitives.{Work, AddFile, RmFile, AddDir, RmDir, Hunk, Binary, Prim, At, Move, ChangePref}
 
 -- directory work; all other work is file work
 abbrev pub IsDirectoryWork : Work → Type 0
@@ -12,6 +12,16 @@ IsDirectoryWork RmFile = ⊥
 IsDirectoryWork AddDir = Unit {0}
 IsDirectoryWork RmDir = Unit {0}
 IsDirectoryWork (Hunk l old new) = ⊥
+IsDirectoryWork (Binary old new) = ⊥
+
+-- work after which the file is still there, and was there before
+abbrev pub KeepsFile : Work → Type 0
+KeepsFile AddFile = ⊥
+KeepsFile RmFile = ⊥
+KeepsFile AddDir = ⊥
+KeepsFile RmDir = ⊥
+KeepsFile (Hunk l old new) = Unit {0}
+KeepsFile (Binary old new) = Unit {0}
 
 abbrev pub IsHunk : Work → Type 0
 IsHunk AddFile = ⊥
@@ -19,6 +29,7 @@ IsHunk RmFile = ⊥
 IsHunk AddDir = ⊥
 IsHunk RmDir = ⊥
 IsHunk (Hunk l old new) = Unit {0}
+IsHunk (Binary old new) = ⊥
 
 -- of two hunks with o1 and o2 old lines, n1 and n2 new ones, the one that ends before line e lies above line m:
 -- a line stands between them, or they touch and none of the four counts is zero
@@ -30,14 +41,20 @@ pub record WorkAndWork (f : Path) (w : Work) (g : Path) (v : Work) : Type 0 wher
   pub differ : f ≢ g
   pub apart : IsDirectoryWork w ⊎ IsDirectoryWork v → Apart f g
 
--- work w on f, then `move a b`: f is not b nor inside b, f contains neither a nor b, and f is a for a hunk alone
+-- work w on f, then `move a b`: f is not b nor inside b, f contains neither a nor b, and f is a only where the file is kept
 pub record WorkThenMove (f : Path) (w : Work) (a b : Path) : Type 0 where
   pub move_apart : Apart a b
   pub f_not_b : f ≢ b
   pub f_not_in_b : Inside f b → ⊥
   pub a_not_in_f : Inside a f → ⊥
   pub b_not_in_f : Inside b f → ⊥
-  pub hunk_at_a : f ≡ a → IsHunk w
+  pub keeps_at_a : f ≡ a → KeepsFile w
+
+-- it is no move one of whose paths is, or contains, the other
+abbrev pub MovesOutside : Prim → Type 0
+MovesOutside (At f w) = Unit {0}
+MovesOutside (Move a b) = Apart a b
+MovesOutside (ChangePref name old new) = Unit {0}
 
 -- `move a b`, then `move c d`
 pub record MoveThenMove (a b c d : Path) : Type 0 where
@@ -76,3 +93,8 @@ pub data TableRow : Prim → Prim → Prim → Prim → Type 0 where
   two_moves : {a b c d a' b' c' d' : Path} → MoveThenMove a b c d →
       c' ≡ forward b a c → d' ≡ forward b a d → a' ≡ forward c' d' a → b' ≡ forward c' d' b →
       TableRow (Move a b) (Move c d) (Move c' d') (Move a' b')
+  -- another value for a preference, before or after any primitive: both as they were
+  preference_first : {name old new : List ℕ} {q : Prim} → MovesOutside q →
+      TableRow (ChangePref name old new) q q (ChangePref name old new)
+  preference_second : {name old new : List ℕ} {p : Prim} → MovesOutside p →
+      TableRow p (ChangePref name old new) (ChangePref name old new) p

@@ -2,23 +2,20 @@
 use Rattle.std.specs.Prelude.{◌↔◌, Bool, IsTrue, List, [], ◌∷◌, ◌++◌, flat_map}
 use Rattle.std.specs.List.{All, Contains}
 use Rattle.dm_tree.specs.Paths.{Path, Apart}
-use Rattle.dm_prim.specs.Primitives.{Prim, At, Move, inv_all}
+use Rattle.dm_prim.specs.Primitives.{Prim, At, Move, ChangePref, inv_all}
+use Rattle.dm_prim.specs.Table.{MovesOutside}
 use Rattle.dm_prim.specs.Commuting.{IsValidPrim, ListsCommute}
-use Rattle.dm_prim.specs.Prims.{IsWork}
+use Rattle.dm_prim.specs.Prims.{MovesNothing}
 
 -- the paths that a primitive names
 abbrev pub paths_of : Prim → List Path
 paths_of (At f w) = f ∷ []
 paths_of (Move a b) = a ∷ b ∷ []
+paths_of (ChangePref name old new) = []
 
 -- a path that a primitive of the list names
 abbrev pub IsTouched : List Prim → Path → Type 0
 IsTouched ps f = Contains (flat_map paths_of ps) f
-
--- it is no move one of whose paths is, or contains, the other
-abbrev pub MovesOutside : Prim → Type 0
-MovesOutside (At f w) = Unit {0}
-MovesOutside (Move a b) = Apart a b
 
 -- what is known of a list of primitives once it was gone through
 pub record TouchedPaths : Type 0 where
@@ -34,7 +31,7 @@ pub record Touches (ps : List Prim) (t : TouchedPaths) : Type 0 where
   pub valid : All IsValidPrim ps
   pub paths : (f : Path) → Contains t.paths f ↔ IsTouched ps f
   pub moves : IsTrue t.moves_outside ↔ All MovesOutside ps
-  pub works : IsTrue t.moves_nothing ↔ All IsWork ps
+  pub works : IsTrue t.moves_nothing ↔ All MovesNothing ps
 
 -- the path neither is, nor is inside, nor contains one of these
 pub record IsApartFrom (others : List Path) (f : Path) : Type 0 where

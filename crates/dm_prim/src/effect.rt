@@ -1,19 +1,23 @@
 //! What a primitive does to a tree.
+ghost use Rattle.std.specs.Prelude.{◌≡◌, ◌≢◌, ◌↔◌, Some, IsTrue, length};
 ghost use Rattle.std.specs.FinMap as map;
-ghost use Rattle.dm_tree.specs.Trees.{path_cmp};
+ghost use Rattle.dm_tree.specs.Trees.{path_cmp, File, Lines as TreeLines};
 ghost use Rattle.dm_prim.specs.Primitives.{AddFile, RmFile, AddDir, RmDir, At, Move};
 ghost use Rattle.dm_prim.specs.Hunks.{hunk_of};
+ghost use Rattle.dm_prim.specs.Binaries.{binary_of};
 ghost use Rattle.dm_prim.specs.Prims.{prim_of, prims_of};
 ghost use Rattle.dm_prim.specs.Applying.{Applied, AppliedAll, FaultsAs};
 
+use crate::binary::Binary;
 use crate::hunk::Hunk;
 use crate::primitive::Primitive;
 use dm_tree::laws::tree_is_lawful;
-use dm_tree::{Path, Tree, TreeFault};
+use dm_tree::{Entry, Path, Tree, TreeFault};
 use std::alloc::Allocator;
 
 /// Changes the tree as the primitive says; after a fault it is as it was. The faults are those of
-/// the tree's call that the primitive is.
+/// the tree's call that the primitive is. A change of a preference leaves the tree as it is, and has
+/// no fault.
 pub fn apply<A: Allocator + Copy, B: Allocator>(
     prim: &Primitive<B>,
     tree: &mut Tree<A>,
@@ -28,6 +32,8 @@ pub fn apply<A: Allocator + Copy, B: Allocator>(
         Primitive::RmDir(path) => remove_dir(tree, path),
         Primitive::Move(from, to) => rename(tree, from, to),
         Primitive::Hunk(hunk) => edit(tree, hunk),
+        Primitive::Binary(binary) => replace(tree, binary),
+        Primitive::ChangePref(_) => Ok(()),
     }
 }
 
@@ -111,4 +117,30 @@ fn edit<A: Allocator + Copy, B: Allocator>(
     ensures fault { FaultsAs (hunk_of hunk.now) (map.get tree.old) result }
 {
     tree.edit(hunk.path(), hunk.line(), hunk.old(), hunk.new_lines())
+}
+
+/// Replaces all lines of a file. Where there are as many of them as old lines, an edit at the first
+/// line replaces them all.
+fn replace<A: Allocator + Copy, B: Allocator>(
+    tree: &mut Tree<A>,
+    binary: &Binary<B>,
+) -> Result<(), TreeFault>
+    ensures change { Applied (binary_of binary.now) tree.old tree.new result }
+    ensures fault { FaultsAs (binary_of binary.now) (map.get tree.old) result }
+{
+    if has_other_count(tree, binary.path(), binary.old().len()) {
+        return Err(TreeFault::OldDiffers);
+    }
+    tree.edit(binary.path(), 1, binary.old(), binary.new_lines())
+}
+
+/// Whether a file stands at the path that has another count of lines.
+fn has_other_count<A: Allocator, B: Allocator>(tree: &Tree<A>, path: &Path<B>, count: usize) -> bool
+    ensures { IsTrue result ↔ ((ls : TreeLines) × (map.get tree.now path.now ≡ Some (File ls)) × (length ls ≢ count)) }
+{
+    match tree.entry(path) {
+        None => false,
+        Some(Entry::Dir) => false,
+        Some(Entry::File(file)) => file.count() != count,
+    }
 }

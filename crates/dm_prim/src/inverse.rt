@@ -18,6 +18,8 @@ pub fn invert<A: Allocator>(prim: Primitive<A>) -> Primitive<A>
         Primitive::RmDir(path) => Primitive::AddDir(path),
         Primitive::Move(from, to) => Primitive::Move(to, from),
         Primitive::Hunk(hunk) => Primitive::Hunk(hunk.inverse()),
+        Primitive::Binary(binary) => Primitive::Binary(binary.inverse()),
+        Primitive::ChangePref(change) => Primitive::ChangePref(change.inverse()),
     }
 }
 

@@ -1,6 +1,6 @@
 //! The laws of the definitions alone, for all values, whether or not they ever apply to a tree.
 //! Each call does nothing; whoever calls it knows the law from there on.
-ghost use Rattle.dm_prim.specs.Laws.{CommutedPairsEndAlike, PairsCommuteBack, PairsCommutePastAnInverse, CommutedListsEndAlike, ListsCommuteBack, ListsCommutePastAnInverse, RectanglesTurn, InversesLeadBack, ListInversesLeadBack, OneWayToApply, OneWayToCommute, OneWayToCommuteLists, ApplyingHasOneAnswer, ApplyingAListHasOneAnswer, HunkHasOneAnswer};
+ghost use Rattle.dm_prim.specs.Laws.{CommutedPairsEndAlike, PairsCommuteBack, PairsCommutePastAnInverse, CommutedListsEndAlike, ListsCommuteBack, ListsCommutePastAnInverse, RectanglesTurn, InversesLeadBack, ListInversesLeadBack, OneWayToApply, OneWayToCommute, OneWayToCommuteLists, ApplyingHasOneAnswer, ApplyingAListHasOneAnswer, HunkHasOneAnswer, BinaryHasOneAnswer, PreferenceHasOneAnswer};
 ghost use Rattle.dm_prim.specs.Touch.{InversesTouchTheSame};
 
 /// Every lawful map on which two primitives apply in turn has the same end by those that they
@@ -85,4 +85,14 @@ pub fn applying_a_list_has_one_answer()
 /// The parts decide whether there is such a hunk, and why not.
 pub fn a_hunk_has_one_answer()
     ensures { HunkHasOneAnswer }
+{}
+
+/// The parts decide whether there is such a binary.
+pub fn a_binary_has_one_answer()
+    ensures { BinaryHasOneAnswer }
+{}
+
+/// The parts decide whether there is such a change of a preference.
+pub fn a_preference_has_one_answer()
+    ensures { PreferenceHasOneAnswer }
 {}

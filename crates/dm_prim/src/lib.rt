@@ -9,6 +9,7 @@
 //! stand in [`laws`]; none has the premise that a patch ever applies.
 #![tactic(auto)]
 
+mod binary;
 mod effect;
 mod hunk;
 mod inverse;
@@ -16,14 +17,17 @@ pub mod laws;
 mod list;
 mod pair;
 mod places;
+mod preference;
 mod primitive;
 mod sketch;
 mod touched;
 
+pub use binary::{Binary, NoContent};
 pub use effect::{apply, apply_all};
 pub use hunk::{Hunk, HunkFault};
 pub use inverse::{invert, invert_all};
 pub use list::{commute_lists, commute_lists_owned};
 pub use pair::commute;
+pub use preference::{BadPreference, Preference};
 pub use primitive::Primitive as Prim;
 pub use touched::{Touched, apart, touch};

@@ -1,12 +1,12 @@
 //! When two primitives commute: the table, row by row.
-ghost use Rattle.std.specs.Prelude.{◌≡◌, ◌↔◌, ◌<◌, ℕ, IfOk, IsTrue, MatchOption, length};
+ghost use Rattle.std.specs.Prelude.{◌≡◌, ◌↔◌, ◌<◌, ◌⊎◌, ℕ, IfOk, IsTrue, MatchOption, length};
 ghost use Rattle.dm_tree.specs.Limits.{most_names};
 ghost use Rattle.dm_tree.specs.Paths.{Apart, forward};
 ghost use Rattle.dm_prim.specs.Primitives.{At, Move};
-ghost use Rattle.dm_prim.specs.Table.{LiesAbove, WorkAndWork, WorkThenMove, MoveThenMove};
+ghost use Rattle.dm_prim.specs.Table.{LiesAbove, WorkAndWork, WorkThenMove, MoveThenMove, MovesOutside};
 ghost use Rattle.dm_prim.specs.Commuting.{IsValidPrim, IsLineNumber};
 ghost use Rattle.dm_prim.specs.Hunks.{ChangePlaces, hunk_of};
-ghost use Rattle.dm_prim.specs.Prims.{prim_of, path_of, work_of, IsWork, CommutesTo, PairLawsHold};
+ghost use Rattle.dm_prim.specs.Prims.{prim_of, path_of, work_of, IsWork, NamesAPath, CommutesTo, PairLawsHold};
 
 use crate::hunk::Hunk;
 use crate::places::places;
@@ -38,6 +38,9 @@ pub(crate) fn commute_owned<A: Allocator + Copy>(
 ) -> Result<Option<(Primitive<A>, Primitive<A>)>, AllocError>
     ensures { IfOk result (CommutesTo (prim_of p) (prim_of q)) }
 {
+    if !p.names_a_path() || !q.names_a_path() {
+        return Ok(commute_preference(p, q));
+    }
     match p.into_move() {
         Ok((a, b)) => match q.into_move() {
             Ok((c, d)) => commute_moves(alloc, a, b, c, d),
@@ -47,6 +50,35 @@ pub(crate) fn commute_owned<A: Allocator + Copy>(
             Ok((a, b)) => commute_work_move(alloc, first, a, b),
             Err(second) => Ok(commute_works(first, second)),
         },
+    }
+}
+
+/// A change of a preference and any primitive, in either order: both stay as they were.
+fn commute_preference<A: Allocator>(
+    p: Primitive<A>,
+    q: Primitive<A>,
+) -> Option<(Primitive<A>, Primitive<A>)>
+    requires { (NamesAPath (prim_of p) → ⊥) ⊎ (NamesAPath (prim_of q) → ⊥) }
+    ensures { CommutesTo (prim_of p) (prim_of q) result }
+{
+    if !moves_outside(&p) {
+        return None;
+    }
+    if !moves_outside(&q) {
+        return None;
+    }
+    p.tells_valid();
+    q.tells_valid();
+    Some((q, p))
+}
+
+/// Whether a primitive is no move one of whose paths is, or contains, the other.
+pub(crate) fn moves_outside<A: Allocator>(prim: &Primitive<A>) -> bool
+    ensures { IsTrue result ↔ MovesOutside (prim_of prim.now) }
+{
+    match prim {
+        Primitive::Move(from, to) => are_apart(from, to),
+        _ => true,
     }
 }
 
@@ -113,7 +145,9 @@ pub(crate) fn are_apart<A: Allocator, B: Allocator>(a: &Path<A>, b: &Path<B>) ->
 /// Whether work and work on two paths change places: where one is directory work, neither path may
 /// contain the other.
 fn may_change_places<A: Allocator, B: Allocator>(p: &Primitive<A>, q: &Primitive<B>) -> bool
-    requires { path_of (prim_of p.now) ≡ path_of (prim_of q.now) → ⊥ }
+    requires first { IsWork (prim_of p.now) }
+    requires second { IsWork (prim_of q.now) }
+    requires differ { path_of (prim_of p.now) ≡ path_of (prim_of q.now) → ⊥ }
     ensures { IsTrue result ↔ WorkAndWork (path_of (prim_of p.now)) (work_of (prim_of p.now)) (path_of (prim_of q.now)) (work_of (prim_of q.now)) }
 {
     if p.is_directory_work() {
@@ -166,6 +200,7 @@ fn commute_move_work<A: Allocator + Copy>(
 
 /// Whether work, then the move of a to b, change places.
 fn may_move_after<A: Allocator, B: Allocator>(p: &Primitive<A>, a: &Path<B>, b: &Path<B>) -> bool
+    requires { IsWork (prim_of p.now) }
     ensures { IsTrue result ↔ WorkThenMove (path_of (prim_of p.now)) (work_of (prim_of p.now)) a.now b.now }
 {
     if !are_apart(a, b) {
@@ -185,7 +220,7 @@ fn may_move_after<A: Allocator, B: Allocator>(p: &Primitive<A>, a: &Path<B>, b: 
         return false;
     }
     if path.same(a) {
-        return p.is_hunk();
+        return p.keeps_file();
     }
     true
 }

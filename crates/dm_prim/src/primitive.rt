@@ -1,17 +1,19 @@
 //! Primitive patches, over any allocator.
 ghost use Rattle.std.specs.Prelude.{◌≡◌, ◌↔◌, IfOk, IsTrue, MatchOption, MatchResult};
 ghost use Rattle.dm_prim.specs.Primitives as primitives;
-ghost use Rattle.dm_prim.specs.Table.{IsDirectoryWork, IsHunk};
+ghost use Rattle.dm_prim.specs.Table.{IsDirectoryWork, IsHunk, KeepsFile};
 ghost use Rattle.dm_prim.specs.Commuting.{IsValidPrim};
 ghost use Rattle.dm_prim.specs.Hunks.{hunk_of};
-ghost use Rattle.dm_prim.specs.Prims.{prim_of, path_of, work_of, IsWork};
+ghost use Rattle.dm_prim.specs.Prims.{prim_of, path_of, work_of, IsWork, NamesAPath, MovesNothing};
 
+use crate::binary::Binary;
 use crate::hunk::Hunk;
+use crate::preference::Preference;
 use dm_tree::Path;
 use std::alloc::{AllocError, Allocator};
 
-/// A primitive patch: a change of a tree at one path, or the move of all that is at or under the
-/// first path to the second.
+/// A primitive patch: a change of a tree at one path, the move of all that is at or under the first
+/// path to the second, or another value for a preference.
 #[derive(Drop)]
 pub enum Primitive<A: Allocator> {
     AddFile(Path<A>),
@@ -20,6 +22,8 @@ pub enum Primitive<A: Allocator> {
     RmDir(Path<A>),
     Move(Path<A>, Path<A>),
     Hunk(Hunk<A>),
+    Binary(Binary<A>),
+    ChangePref(Preference<A>),
 }
 
 impl<A: Allocator> Primitive<A> {
@@ -40,6 +44,8 @@ impl<A: Allocator> Primitive<A> {
                 Ok(Primitive::Move(from, to))
             }
             Primitive::Hunk(hunk) => Ok(Primitive::Hunk(hunk.copy_into(alloc)?)),
+            Primitive::Binary(binary) => Ok(Primitive::Binary(binary.copy_into(alloc)?)),
+            Primitive::ChangePref(change) => Ok(Primitive::ChangePref(change.copy_into(alloc)?)),
         }
     }
 
@@ -51,8 +57,25 @@ impl<A: Allocator> Primitive<A> {
         Primitive::Move(from, to)
     }
 
+    /// Whether it names a path, as all do but a change of a preference.
+    pub(crate) fn names_a_path(&self) -> bool
+        ensures { IsTrue result ↔ NamesAPath (prim_of self.now) }
+    {
+        match self {
+            Primitive::AddFile(_) => true,
+            Primitive::RmFile(_) => true,
+            Primitive::AddDir(_) => true,
+            Primitive::RmDir(_) => true,
+            Primitive::Move(_, _) => true,
+            Primitive::Hunk(_) => true,
+            Primitive::Binary(_) => true,
+            Primitive::ChangePref(_) => false,
+        }
+    }
+
     /// The path that it works at, or that it moves.
     pub(crate) fn path(&self) -> &Path<A>
+        requires { NamesAPath (prim_of self.now) }
         ensures { result.now ≡ path_of (prim_of self.now) }
     {
         match self {
@@ -62,13 +85,15 @@ impl<A: Allocator> Primitive<A> {
             Primitive::RmDir(path) => path,
             Primitive::Move(from, _) => from,
             Primitive::Hunk(hunk) => hunk.path(),
+            Primitive::Binary(binary) => binary.path(),
+            Primitive::ChangePref(_) => unreachable!(),
         }
     }
 
     /// The path that it moves to, where it is a move.
     pub(crate) fn target(&self) -> Option<&Path<A>>
         ensures { MatchOption result
-            (IsWork (prim_of self.now))
+            (MovesNothing (prim_of self.now))
             (λ to. prim_of self.now ≡ primitives.Move (path_of (prim_of self.now)) to.now) }
     {
         match self {
@@ -78,6 +103,8 @@ impl<A: Allocator> Primitive<A> {
             Primitive::RmDir(_) => None,
             Primitive::Move(_, to) => Some(to),
             Primitive::Hunk(_) => None,
+            Primitive::Binary(_) => None,
+            Primitive::ChangePref(_) => None,
         }
     }
 
@@ -105,6 +132,12 @@ impl<A: Allocator> Primitive<A> {
             Primitive::Hunk(hunk) => {
                 let _ = hunk.line();
             }
+            Primitive::Binary(binary) => {
+                let _ = binary.path();
+            }
+            Primitive::ChangePref(change) => {
+                let _ = change.name();
+            }
         }
     }
 
@@ -118,11 +151,13 @@ impl<A: Allocator> Primitive<A> {
             Primitive::RmDir(_) => true,
             Primitive::Move(_, _) => false,
             Primitive::Hunk(_) => false,
+            Primitive::Binary(_) => false,
+            Primitive::ChangePref(_) => false,
         }
     }
 
-    pub(crate) fn is_hunk(&self) -> bool
-        ensures { IsTrue result ↔ IsHunk (work_of (prim_of self.now)) }
+    pub(crate) fn keeps_file(&self) -> bool
+        ensures { IsTrue result ↔ KeepsFile (work_of (prim_of self.now)) }
     {
         match self {
             Primitive::AddFile(_) => false,
@@ -131,6 +166,8 @@ impl<A: Allocator> Primitive<A> {
             Primitive::RmDir(_) => false,
             Primitive::Move(_, _) => false,
             Primitive::Hunk(_) => true,
+            Primitive::Binary(_) => true,
+            Primitive::ChangePref(_) => false,
         }
     }
 
@@ -138,7 +175,7 @@ impl<A: Allocator> Primitive<A> {
     pub(crate) fn into_move(self) -> Result<(Path<A>, Path<A>), Primitive<A>>
         ensures { MatchResult result
             (λ paths. prim_of self ≡ primitives.Move paths.0 paths.1)
-            (λ work. (prim_of work ≡ prim_of self) × IsWork (prim_of self)) }
+            (λ other. (prim_of other ≡ prim_of self) × MovesNothing (prim_of self)) }
     {
         match self {
             Primitive::AddFile(path) => Err(Primitive::AddFile(path)),
@@ -147,6 +184,8 @@ impl<A: Allocator> Primitive<A> {
             Primitive::RmDir(path) => Err(Primitive::RmDir(path)),
             Primitive::Move(from, to) => Ok((from, to)),
             Primitive::Hunk(hunk) => Err(Primitive::Hunk(hunk)),
+            Primitive::Binary(binary) => Err(Primitive::Binary(binary)),
+            Primitive::ChangePref(change) => Err(Primitive::ChangePref(change)),
         }
     }
 
@@ -163,6 +202,8 @@ impl<A: Allocator> Primitive<A> {
             Primitive::RmDir(_) => None,
             Primitive::Move(_, _) => None,
             Primitive::Hunk(hunk) => Some(hunk),
+            Primitive::Binary(_) => None,
+            Primitive::ChangePref(_) => None,
         }
     }
 
@@ -178,6 +219,8 @@ impl<A: Allocator> Primitive<A> {
             Primitive::RmDir(_) => Primitive::RmDir(path),
             Primitive::Move(_, _) => unreachable!(),
             Primitive::Hunk(hunk) => Primitive::Hunk(hunk.at(path)),
+            Primitive::Binary(binary) => Primitive::Binary(binary.at(path)),
+            Primitive::ChangePref(_) => unreachable!(),
         }
     }
 }

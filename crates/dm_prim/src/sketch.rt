@@ -10,7 +10,8 @@ use std::alloc::Allocator;
 use std::hash::{DefaultHasher, Hasher};
 
 /// A bit for each of some paths, and one for each directory above them, drawn by a hash of the names. Paths with no bit in
-/// common are apart. Others may be: one path draws the bit of another once in 128 times.
+/// common are apart. Others may be apart too, since two paths may draw the same one of the 128 bits: then the paths
+/// themselves tell.
 #[derive(Clone, Copy)]
 pub(crate) struct Sketch {
     /// The bit of each path.

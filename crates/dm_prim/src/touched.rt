@@ -1,12 +1,13 @@
 //! The paths that a list of primitives touches.
 ghost use Rattle.std.specs.Prelude.{◌≡◌, ◌↔◌, ◌++◌, ◌∷◌, [], All, Contains, IfOk, OnOk, IsTrue};
 ghost use Rattle.dm_tree.specs.Paths.{Path as TreePath};
+ghost use Rattle.dm_prim.specs.Table.{MovesOutside};
 ghost use Rattle.dm_prim.specs.Commuting.{IsValidPrim};
-ghost use Rattle.dm_prim.specs.Prims.{IsWork, prim_of, prims_of};
+ghost use Rattle.dm_prim.specs.Prims.{MovesNothing, prim_of, prims_of};
 ghost use Rattle.dm_prim.specs.Sketches.{Covers};
-ghost use Rattle.dm_prim.specs.Touch.{AreApart, IsApartFrom, IsNamedAmong, IsTouched, MoveNothing, MovesOutside, NamesAmong, PassUnchanged, StayTouched, Touches, TouchesMore};
+ghost use Rattle.dm_prim.specs.Touch.{AreApart, IsApartFrom, IsNamedAmong, IsTouched, MoveNothing, NamesAmong, PassUnchanged, StayTouched, Touches, TouchesMore};
 
-use crate::pair::are_apart;
+use crate::pair::{are_apart, moves_outside};
 use crate::primitive::Primitive;
 use crate::sketch::Sketch;
 use dm_tree::Path;
@@ -40,6 +41,9 @@ impl<A: Allocator + Copy> Touched<A> {
         ensures { OnOk result (TouchesMore (prim_of prim.now) self.old self.new) }
     {
         prim.tells_valid();
+        if !prim.names_a_path() {
+            return Ok(());
+        }
         add_path(&mut self.paths, &mut self.sketch, prim.path())?;
         if let Some(target) = prim.target() {
             add_path(&mut self.paths, &mut self.sketch, target)?;
@@ -70,7 +74,7 @@ impl<A: Allocator> Touched<A> {
         if all_move_outside(prims) != self.moves_outside {
             return false;
         }
-        all_work(prims) == self.moves_nothing
+        all_move_nothing(prims) == self.moves_nothing
     }
 
     /// Whether neither of two lists that touch this has a move: where they commute, both go on touching what they did, and
@@ -143,6 +147,9 @@ fn is_recent<A: Allocator, B: Allocator>(path: &Path<A>, paths: &[Path<B>]) -> b
 fn names_among<A: Allocator, B: Allocator>(prim: &Primitive<A>, paths: &[Path<B>]) -> bool
     ensures { IsTrue result ↔ NamesAmong paths.now (prim_of prim.now) }
 {
+    if !prim.names_a_path() {
+        return true;
+    }
     if !is_among(prim.path(), paths) {
         return false;
     }
@@ -156,6 +163,9 @@ fn names_among<A: Allocator, B: Allocator>(prim: &Primitive<A>, paths: &[Path<B>
 fn names<A: Allocator, B: Allocator>(prim: &Primitive<A>, path: &Path<B>) -> bool
     ensures { IsTrue result ↔ IsTouched (prim_of prim.now ∷ []) path.now }
 {
+    if !prim.names_a_path() {
+        return false;
+    }
     if prim.path().same(path) {
         return true;
     }
@@ -189,17 +199,7 @@ fn are_all_named<A: Allocator, B: Allocator>(paths: &[Path<A>], prims: &[Primiti
     true
 }
 
-/// Whether a primitive is no move one of whose paths is, or contains, the other.
-fn moves_outside<A: Allocator>(prim: &Primitive<A>) -> bool
-    ensures { IsTrue result ↔ MovesOutside (prim_of prim.now) }
-{
-    match prim.target() {
-        Some(target) => are_apart(prim.path(), target),
-        None => true,
-    }
-}
-
-/// Whether no primitive of these is such a move.
+/// Whether no primitive of these is a move one of whose paths is, or contains, the other.
 fn all_move_outside<A: Allocator>(prims: &[Primitive<A>]) -> bool
     ensures { IsTrue result ↔ All MovesOutside (prims_of prims.now) }
 {
@@ -212,8 +212,8 @@ fn all_move_outside<A: Allocator>(prims: &[Primitive<A>]) -> bool
 }
 
 /// Whether a primitive is no move.
-fn is_work<A: Allocator>(prim: &Primitive<A>) -> bool
-    ensures { IsTrue result ↔ IsWork (prim_of prim.now) }
+fn moves_nothing<A: Allocator>(prim: &Primitive<A>) -> bool
+    ensures { IsTrue result ↔ MovesNothing (prim_of prim.now) }
 {
     match prim.target() {
         Some(_) => false,
@@ -222,11 +222,11 @@ fn is_work<A: Allocator>(prim: &Primitive<A>) -> bool
 }
 
 /// Whether no primitive of these is a move.
-fn all_work<A: Allocator>(prims: &[Primitive<A>]) -> bool
-    ensures { IsTrue result ↔ All IsWork (prims_of prims.now) }
+fn all_move_nothing<A: Allocator>(prims: &[Primitive<A>]) -> bool
+    ensures { IsTrue result ↔ All MovesNothing (prims_of prims.now) }
 {
     for prim in prims {
-        if !is_work(prim) {
+        if !moves_nothing(prim) {
             return false;
         }
     }

@@ -1,5 +1,5 @@
 use Rattle.std.proofs.Common.{refl}
-use Rattle.dm_prim.specs.Touch.{MovesOutside}
+use Rattle.dm_prim.specs.Table.{MovesOutside}
 use Rattle.dm_prim.proofs.TouchLemmas.{all_prims_more, all_prims_at, all_prims}
 use Rattle.dm_prim.proofs.touched.all_move_outside.Goals as goal
 

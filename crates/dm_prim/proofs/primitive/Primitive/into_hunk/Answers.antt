@@ -16,5 +16,11 @@ returns-in-RmDir g c = rw c.in-RmDir.is (λ h. h)
 pub returns-in-Move : goal.returns-in-Move
 returns-in-Move g c = rw c.in-Move.is (λ h. h)
 
+pub returns-in-Hunk : goal.returns-in-Hunk
+returns-in-Hunk g c = rw c.in-Hunk.is refl
+
+pub returns-in-Binary : goal.returns-in-Binary
+returns-in-Binary g c = rw c.in-Binary.is (λ h. h)
+
 pub returns : goal.returns
-returns g c = rw c.in-Hunk.is refl
+returns g c = rw c.in-ChangePref.is (λ h. h)

@@ -18,3 +18,6 @@ returns-in-Move g c = rw c.in-Move.is refl
 
 pub returns-in-Hunk : goal.returns-in-Hunk
 returns-in-Hunk g c = rw c.in-Hunk.is c.path.ensures.value
+
+pub returns-in-Binary : goal.returns-in-Binary
+returns-in-Binary g c = rw c.in-Binary.is c.path-in-Binary.ensures.value

@@ -17,3 +17,9 @@ returns-in-Move g c = rw c.in-Move.is (c.len-in-Move.ensures.valid, c.len-in-Mov
 
 pub returns-in-Hunk : goal.returns-in-Hunk
 returns-in-Hunk g c = rw c.in-Hunk.is c.line.ensures.valid
+
+pub returns-in-Binary : goal.returns-in-Binary
+returns-in-Binary g c = rw c.in-Binary.is c.path.ensures.valid
+
+pub returns-in-ChangePref : goal.returns-in-ChangePref
+returns-in-ChangePref g c = rw c.in-ChangePref.is c.name.ensures.valid

@@ -32,11 +32,11 @@ returns g c =
     let moves = c.self.inside.moves_outside in
     let out = c.all_move_outside.result in
     let still = c.self.inside.moves_nothing in
-    let work = c.all_work.result in
+    let work = c.all_move_nothing.result in
     let valid = all_prims IsValidPrim c.args.prims.now c.loop-prim.prim-index c.loop-prim-test.false c.loop-prim.invariant.0 in
     let among = all_prims (NamesAmong c.as_slice-paths.result.now) c.args.prims.now c.loop-prim.prim-index c.loop-prim-test.false c.loop-prim.invariant.1 in
     rw (← c.self.view_is) (
       λ t. touches_where ps paths moves out still work valid (rw c.as_slice-paths.ensures.value at among)
-          (rw c.as_slice-paths.ensures.value at (c.if-not-are_all_named.ensures.0 refl)) c.all_move_outside.ensures (beq_not out moves c.if-all_move_outside-self.false) c.all_work.ensures (beq_same work still t),
-      λ h. beq_true work still (same_truth work still c.all_work.ensures h.works),
+          (rw c.as_slice-paths.ensures.value at (c.if-not-are_all_named.ensures.0 refl)) c.all_move_outside.ensures (beq_not out moves c.if-all_move_outside-self.false) c.all_move_nothing.ensures (beq_same work still t),
+      λ h. beq_true work still (same_truth work still c.all_move_nothing.ensures h.works),
     )

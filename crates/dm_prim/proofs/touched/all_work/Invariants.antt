@@ -1,6 +1,0 @@
-use Rattle.std.proofs.Common.{take, All}
-use Rattle.dm_prim.specs.Prims.{IsWork, prims_of}
-use Rattle.dm_prim.proofs.touched.all_work.Given as goal
-
-abbrev pub invariant-loop-prim : goal.invariant-loop-prim
-invariant-loop-prim g l = All IsWork (take l.prim-index (prims_of l.prims))
