@@ -4,6 +4,7 @@ use Rattle.std.specs.List.{Contains, AllByRecursion}
 use Rattle.std.proofs.lemmas.List.Elements.{Contains-append_left, Contains-append_right, Contains-append_cases}
 use Rattle.dm_info.specs.PatchInfo.{PatchInfo}
 use Rattle.dm_named.specs.Patches.{Patch}
+use Rattle.dm_named.specs.declared.limits.Kinds.TheVariants as these
 use Rattle.dm_bundle.specs.Patches.{infos_of}
 use Rattle.dm_bundle.specs.Bundles.{Contents, BundleText}
 use Rattle.dm_bundle.proofs.OneBundle.{one_bundle}
@@ -14,7 +15,7 @@ use Rattle.dm_repo.proofs.Members.{here, more, one_of, none_of, infos_of-append}
 use Rattle.dm_scratch.specs.declared.verdict.Verdict.{Verdict}
 use Rattle.dm_scratch.specs.declared.verdict.Verdict.TheVariants.{Taken, TakenSome, NothingNew, Malformed, Refused}
 use Rattle.dm_scratch.specs.Taking.{TakesBundle, Takes, TakesEach, IsAccepted, bundle, malformed, no_memory}
-use Rattle.dm_converge.specs.Pools.{HasBundle, as_it_was}
+use Rattle.dm_converge.specs.Pools.{HasBundleIn, as_it_was}
 use Rattle.dm_converge.specs.Laws as laws
 use Rattle.dm_converge.proofs.Merged.{merged_new, merged_all}
 use Rattle.dm_converge.proofs.Networks.{comes_each, pools_converge}
@@ -56,7 +57,7 @@ accepted_just repo text policy v after a (no_memory e same) = absurd (rw e at a)
 
 -- a name of one of the texts' patches
 abbrev IsOf : List (List ℕ) → PatchInfo → Type 0
-IsOf texts i = (b : Contents) × HasBundle texts b × Holds b.patches i
+IsOf texts i = (b : Contents) × HasBundleIn these.Six texts b × Holds b.patches i
 
 in_more : (x : List ℕ) (xs : List (List ℕ)) (i : PatchInfo) → IsOf xs i → IsOf (x ∷ xs) i
 in_more x xs i (b, h, k) = (b, (h.0, more x xs h.1, h.2), k)
@@ -89,7 +90,7 @@ each_all repo (x ∷ xs) policy (v ∷ vs) after a (next, t, r) i (b, h, k) =
     let j = accepted_just repo x policy v next a.0 t in
     elim (one_of x xs h.1) [
       | inl e ↦ each_kept next xs policy vs after a.1 r i
-          (j.2.all i (subst (λ z. Holds z.patches i) (one_bundle x b j.0 (subst (λ z. BundleText z b) (sym e) h.2) j.1) k))
+          (j.2.all i (subst (λ z. Holds z.patches i) (one_bundle these.Six x b j.0 (subst (λ z. BundleText z b) (sym e) h.2) j.1) k))
       | inr c ↦ each_all next xs policy vs after a.1 r i (b, (h.0, c, h.2), k)
     ]
 
@@ -103,7 +104,7 @@ same_way base texts others policy other_policy vs ws one other f h k a b i c = e
 
 pub accepted_texts_converge : laws.AcceptedTextsConverge
 accepted_texts_converge base texts others policy other_policy vs ws one other ok one_patch same h k a b =
-    pools_converge texts base ok one_patch one other
+    pools_converge these.Six texts base ok one_patch one other
     (comes_each texts base base texts policy vs one (λ y c. c) as_it_was h)
     (comes_each texts base base others other_policy ws other (λ y c. (same y).1 c) as_it_was k)
     (λ i. (

@@ -14,7 +14,7 @@ use Rattle.dm_repo.specs.Repositories.{Holds}
 use Rattle.dm_repo.specs.Folds.{PatchLeads}
 use Rattle.dm_repo.proofs.Members.{here, more, one_of, none_of}
 use Rattle.dm_chain.specs.Chains as chains
-use Rattle.dm_facts.specs.Nodes.{Folder, Named, plain, IsTree}
+use Rattle.dm_facts.specs.Nodes.{Folder, NodeMap, plain, IsTree}
 use Rattle.dm_facts.specs.Facts.{Effect}
 use Rattle.dm_facts.specs.Identities.{subject, Introduces, IsIn, UsesOf}
 use Rattle.dm_facts.specs.Runs.{StepsAll, SharesNone, AllAddNew, enough_for_all}
@@ -48,7 +48,7 @@ counted_apart n zero = tt
 counted_apart n (suc k) = (λ c. let r = counted_within (n + 1) k n c in absurd (omega (arith, r.0)), counted_apart (n + 1) k)
 
 -- all identities in the tree are below n
-abbrev pub IsBelow : ℕ → Named ℕ → Type 0
+abbrev pub IsBelow : ℕ → NodeMap ℕ → Type 0
 IsBelow n s = (x : ℕ) → IsIn x s → x < n
 
 -- so is what the effects add facts about
@@ -59,14 +59,14 @@ pub root_below : (n r : ℕ) → r < n → IsBelow n (root_of r)
 root_below n r l x ([], y, e, i) = let k : Folder r ≡ y = cc in let j : r ≡ x = rw (← k) at i in omega (arith, l, j)
 root_below n r l x (m ∷ p, y, e, i) = absurd (cc)
 
-run_below : (n : ℕ) (ps : List Prim) (es : List (Effect ℕ)) (s t : Named ℕ) → StepsAll ps es s t → IsBelow n s → AddBelow n es → IsBelow n t
+run_below : (n : ℕ) (ps : List Prim) (es : List (Effect ℕ)) (s t : NodeMap ℕ) → StepsAll ps es s t → IsBelow n s → AddBelow n es → IsBelow n t
 run_below n [] [] s t h b a = rw h at b
 run_below n [] (e ∷ es) s t h b a = absurd h
 run_below n (p ∷ ps) [] s t h b a = absurd h
 run_below n (p ∷ ps) (e ∷ es) s t (u, h, r) b a =
     run_below n ps es u t r (λ x i. elim (in_after ℕ p e s u h x i) [ inl j ↦ b x j | inr j ↦ a e (here e es) x j ]) (λ d c. a d (more e es c))
 
-uses_below : (n : ℕ) (ids : List ℕ) (ps : List Prim) (es : List (Effect ℕ)) (s t : Named ℕ) → ((x : ℕ) → Contains ids x → x < n) → StepsAll ps es s t → IsBelow n s →
+uses_below : (n : ℕ) (ids : List ℕ) (ps : List Prim) (es : List (Effect ℕ)) (s t : NodeMap ℕ) → ((x : ℕ) → Contains ids x → x < n) → StepsAll ps es s t → IsBelow n s →
     ((e : Effect ℕ) → Contains es e → UsesOf ids e) → AddBelow n es
 uses_below n ids ps [] s t f h b u = λ e c. absurd (none_of c)
 uses_below n ids [] (e ∷ es) s t f h b u = absurd h
@@ -79,7 +79,7 @@ uses_below n ids (p ∷ ps) (e ∷ es) s t f (v, h, r) b u =
     all : AddBelow n es → AddBelow n (e ∷ es)
     all rest d c = elim (one_of e es c) [ inl k ↦ rw (← k) first | inr k ↦ rest d k ]
 
-run_tree : (ps : List Prim) (es : List (Effect ℕ)) (s t : Named ℕ) → StepsAll ps es s t → AllAddNew es s → IsTree s → IsTree t
+run_tree : (ps : List Prim) (es : List (Effect ℕ)) (s t : NodeMap ℕ) → StepsAll ps es s t → AllAddNew es s → IsTree s → IsTree t
 run_tree [] [] s t h a tree = rw h at tree
 run_tree [] (e ∷ es) s t h a tree = absurd h
 run_tree (p ∷ ps) [] s t h a tree = absurd h
@@ -117,20 +117,20 @@ with_agrees m x es = record {
   effects = λ i n. by_choice (λ z. z ≡ m.effects i) (info_told i x.info) es (m.effects i) (λ e. absurd (n (rw e (here x.info [])))) (λ h. refl);
 }
 
-leads_agree : {names : List PatchInfo} {m k : Meaning ℕ} {x : Patch} {s t : Named ℕ} → AgreeBut names m k → (Contains names x.info → ⊥) → LeadsAs m x s t → LeadsAs k x s t
+leads_agree : {names : List PatchInfo} {m k : Meaning ℕ} {x : Patch} {s t : NodeMap ℕ} → AgreeBut names m k → (Contains names x.info → ⊥) → LeadsAs m x s t → LeadsAs k x s t
 leads_agree {x} a n h = record { deps = h.deps ∙ sym (a.deps x.info n); steps = rw (a.effects x.info n) h.steps }
 
 -- patches of other names mean the same by both
-pub runs_agree : {names : List PatchInfo} {m k : Meaning ℕ} → AgreeBut names m k → (xs : List Patch) {s t : Named ℕ} → ((i : PatchInfo) → Holds xs i → Contains names i → ⊥) → Runs m xs s t → Runs k xs s t
+pub runs_agree : {names : List PatchInfo} {m k : Meaning ℕ} → AgreeBut names m k → (xs : List Patch) {s t : NodeMap ℕ} → ((i : PatchInfo) → Holds xs i → Contains names i → ⊥) → Runs m xs s t → Runs k xs s t
 runs_agree a [] n done = done
 runs_agree a (x ∷ xs) n (step h r) = step (leads_agree a (n x.info (here x.info (infos_of xs))) h) (runs_agree a xs (λ i c. n i (more x.info (infos_of xs) c)) r)
 
-pub builds_agree : {names : List PatchInfo} {m k : Meaning ℕ} → AgreeBut names m k → (xs : List Patch) {t : Named ℕ} → ((i : PatchInfo) → Holds xs i → Contains names i → ⊥) → Builds m xs t → Builds k xs t
+pub builds_agree : {names : List PatchInfo} {m k : Meaning ℕ} → AgreeBut names m k → (xs : List Patch) {t : NodeMap ℕ} → ((i : PatchInfo) → Holds xs i → Contains names i → ⊥) → Builds m xs t → Builds k xs t
 builds_agree {k} a xs {t} n h = subst (λ z. Runs k xs (root_of z) t) (sym a.root) (runs_agree a xs n h)
 
 -- effects whose new identities are from n on
 module _ (m : Meaning ℕ) (n : ℕ) (up : IsUpTo m n) (x : Patch) (es : List (Effect ℕ)) (above : (e : Effect ℕ) → Contains es e → (y : ℕ) → Introduces e y → n ≤ y) where
-  new_to_root : (s : Named ℕ) (ds : List (Effect ℕ)) → ((e : Effect ℕ) → Contains ds e → (y : ℕ) → Introduces e y → n ≤ y) → AllAddNew ds s → AllAddNew ds (root_of m.root)
+  new_to_root : (s : NodeMap ℕ) (ds : List (Effect ℕ)) → ((e : Effect ℕ) → Contains ds e → (y : ℕ) → Introduces e y → n ≤ y) → AllAddNew ds s → AllAddNew ds (root_of m.root)
   new_to_root s [] f h = tt
   new_to_root s (e ∷ ds) f h = (
     record { new = λ y i k. let l = root_below n m.root up.root y k in let g = f e (here e ds) y i in absurd (omega (arith, l, g)); apart = h.0.apart },
@@ -145,7 +145,7 @@ module _ (m : Meaning ℕ) (n : ℕ) (up : IsUpTo m n) (x : Patch) (es : List (E
   apart_back : (i : PatchInfo) (e : Effect ℕ) → Contains (m.effects i) e → SharesNone e es
   apart_back i e c d k y a b = let l = up.below i e c y a.0 in let g = above d k y b in absurd (omega (arith, l, g))
 
-  pub with_once : (s : Named ℕ) → AllAddNew es s → MakesOnce (meaning_with m x es)
+  pub with_once : (s : NodeMap ℕ) → AllAddNew es s → MakesOnce (meaning_with m x es)
   with_once s h = record {
     within = λ i. by_choice (λ z. AllAddNew z (root_of m.root)) (info_told i x.info) es (m.effects i) (λ e. new_to_root s es above h) (λ e. up.once.within i);
     between = λ i j n. by_choice (λ z. (e : Effect ℕ) → Contains z e → SharesNone e (choose (info_told j x.info) es (m.effects j))) (info_told i x.info) es (m.effects i)
@@ -157,18 +157,18 @@ module _ (m : Meaning ℕ) (n : ℕ) (up : IsUpTo m n) (x : Patch) (es : List (E
   with_below k l b i = by_choice (λ z. AddBelow k z) (info_told i x.info) es (m.effects i) (λ e. b) (λ h e c y a. let g = up.below i e c y a in omega (arith, l, g))
 
 -- a patch that leads from a tree is given effects, with the next numbers
-pub record Given (m : Meaning ℕ) (x : Patch) (s : Named ℕ) (b : LawfulMap) : Type 0 where
+pub record Given (m : Meaning ℕ) (x : Patch) (s : NodeMap ℕ) (b : LawfulMap) : Type 0 where
   pub next : Meaning ℕ
   pub bound : ℕ
   pub up : IsUpTo next bound
   pub agrees : AgreeBut (x.info ∷ []) m next
-  pub tree : Named ℕ
+  pub tree : NodeMap ℕ
   pub leads : LeadsAs next x s tree
   pub same : plain tree ≡ b.map
   pub is_tree : IsTree tree
   pub below : IsBelow bound tree
 
-pub give : (m : Meaning ℕ) (n : ℕ) → IsUpTo m n → (x : Patch) (s : Named ℕ) (a b : LawfulMap) → IsTree s → IsBelow n s → plain s ≡ a.map → LeadsAll x.prims a b → Given m x s b
+pub give : (m : Meaning ℕ) (n : ℕ) → IsUpTo m n → (x : Patch) (s : NodeMap ℕ) (a b : LawfulMap) → IsTree s → IsBelow n s → plain s ≡ a.map → LeadsAll x.prims a b → Given m x s b
 give m n up x s a b tree low same h =
     let k = enough_for_all x.prims in
     let ids = counted n k in
@@ -195,12 +195,12 @@ give m n up x s a b tree low same h =
     }
 
 -- so are patches of distinct names
-pub record GivenAll (m : Meaning ℕ) (xs : List Patch) (s : Named ℕ) (b : LawfulMap) : Type 0 where
+pub record GivenAll (m : Meaning ℕ) (xs : List Patch) (s : NodeMap ℕ) (b : LawfulMap) : Type 0 where
   pub next : Meaning ℕ
   pub bound : ℕ
   pub up : IsUpTo next bound
   pub agrees : AgreeBut (infos_of xs) m next
-  pub tree : Named ℕ
+  pub tree : NodeMap ℕ
   pub runs : Runs next xs s tree
   pub same : plain tree ≡ b.map
 
@@ -214,7 +214,7 @@ agree_on x xs a b = record {
     only : (i : PatchInfo) → (Contains (x ∷ xs) i → ⊥) → Contains (x ∷ []) i → ⊥
     only i n c = elim (one_of x [] c) [ inl e ↦ n (rw (← e) (here x xs)) | inr d ↦ none_of d ]
 
-pub give_all : (xs : List Patch) (m : Meaning ℕ) (n : ℕ) → IsUpTo m n → Distinct (infos_of xs) → (s : Named ℕ) {a b : LawfulMap} → IsTree s → IsBelow n s → plain s ≡ a.map → InTurn PatchLeads xs a b → GivenAll m xs s b
+pub give_all : (xs : List Patch) (m : Meaning ℕ) (n : ℕ) → IsUpTo m n → Distinct (infos_of xs) → (s : NodeMap ℕ) {a b : LawfulMap} → IsTree s → IsBelow n s → plain s ≡ a.map → InTurn PatchLeads xs a b → GivenAll m xs s b
 give_all [] m n up d s tree low same done =
     record { next = m; bound = n; up = up; agrees = record { root = refl; deps = λ i h. refl; effects = λ i h. refl }; tree = s; runs = done; same = same }
 give_all (x ∷ xs) m n up d s {a} tree low same (step {u} h r) =
@@ -231,7 +231,7 @@ give_all (x ∷ xs) m n up d s {a} tree low same (step {u} h r) =
     }
 
 -- what is built so far is a tree, and all in it is below n
-module _ (m : Meaning ℕ) (n : ℕ) (up : IsUpTo m n) (xs : List Patch) (s : Named ℕ) (d : Distinct (infos_of xs)) (h : Builds m xs s) where
+module _ (m : Meaning ℕ) (n : ℕ) (up : IsUpTo m n) (xs : List Patch) (s : NodeMap ℕ) (d : Distinct (infos_of xs)) (h : Builds m xs s) where
   effects_below : (is : List PatchInfo) → AddBelow n (effects_of ℕ m is)
   effects_below [] e c = absurd (none_of c)
   effects_below (i ∷ is) e c = elim (Contains-append_cases (m.effects i) (effects_of ℕ m is) e c) [ inl k ↦ up.below i e k | inr k ↦ effects_below is e k ]

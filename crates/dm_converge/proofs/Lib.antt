@@ -1,3 +1,4 @@
+pub mod Wider
 pub mod Patches
 pub mod Names
 pub mod Orders

@@ -12,7 +12,7 @@ use Rattle.dm_repo.specs.Squares.{Placed, patches, PlacedCommutes}
 use Rattle.dm_repo.specs.Repositories.{Holds}
 use Rattle.dm_repo.specs.CommonSets.{Closed, given, needed}
 use Rattle.dm_repo.proofs.Members.{here, more, one_of, none_of}
-use Rattle.dm_facts.specs.Nodes.{Named}
+use Rattle.dm_facts.specs.Nodes.{NodeMap}
 use Rattle.dm_converge.specs.Meanings.{Meaning, Runs}
 
 strip_infos : {x x' : Placed} {ys ys' : List Placed} → CellRow PlacedCommutes x ys ys' x' → infos_of (patches ys') ≡ infos_of (patches ys)
@@ -118,12 +118,12 @@ closed_more xs context others f i (needed {x} k c d) = needed k (closed_more xs 
 
 module _ (I : Type 0) (m : Meaning I) where
   -- each names as dependencies what its name means
-  pub deps_as : (xs : List Patch) {s t : Named I} {x : Patch} → Runs m xs s t → Contains xs x → x.deps ≡ m.deps x.info
+  pub deps_as : (xs : List Patch) {s t : NodeMap I} {x : Patch} → Runs m xs s t → Contains xs x → x.deps ≡ m.deps x.info
   deps_as [] r k = absurd (none_of k)
   deps_as (y ∷ ys) {x} (step h r) k = elim (one_of y ys k) [ inl e ↦ rw e at h.deps | inr c ↦ deps_as ys r c ]
 
   -- so a context is closed to the same names among patches of two mirrors
-  pub closed_same : (context : List PatchInfo) (xs ys : List Patch) {s t u v : Named I} → Runs m xs s t → Runs m ys u v →
+  pub closed_same : (context : List PatchInfo) (xs ys : List Patch) {s t u v : NodeMap I} → Runs m xs s t → Runs m ys u v →
       ((i : PatchInfo) → Closed ys context i → Holds ys i) → (i : PatchInfo) → Closed xs context i → Closed ys context i
   closed_same context xs ys r q f i (given k) = given k
   closed_same context xs ys r q f i (needed {x} k c d) =

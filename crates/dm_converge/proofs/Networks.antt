@@ -7,8 +7,10 @@ use Rattle.dm_info.specs.PatchInfo.{PatchInfo}
 use Rattle.dm_prim.specs.InTurn.{InTurn, done, step}
 use Rattle.dm_prim.specs.Primitives.{LawfulMap}
 use Rattle.dm_named.specs.Patches.{Patch}
+use Rattle.dm_named.specs.declared.limits.Kinds.{Kinds}
+use Rattle.dm_named.specs.declared.limits.Kinds.TheVariants as these
 use Rattle.dm_bundle.specs.Patches.{infos_of, Distinct}
-use Rattle.dm_bundle.specs.Bundles.{Contents, BundleText}
+use Rattle.dm_bundle.specs.Bundles.{Contents, BundleTextIn}
 use Rattle.dm_bundle.proofs.OneBundle.{one_bundle}
 use Rattle.dm_repo.specs.declared.policy.Policy.{Policy}
 use Rattle.dm_repo.specs.Squares.{Placed, placed, patches, PlacedCommutes}
@@ -24,11 +26,12 @@ use Rattle.dm_repo.proofs.Staircases.{runs_on, runs_part}
 use Rattle.dm_repo.proofs.Trees.{runs_lead, grows_fold}
 use Rattle.dm_scratch.specs.declared.verdict.Verdict.{Verdict}
 use Rattle.dm_scratch.specs.Taking.{TakesEach, bundle, malformed, no_memory}
-use Rattle.dm_facts.specs.Nodes.{Named, plain}
+use Rattle.dm_facts.specs.Nodes.{NodeMap, plain}
 use Rattle.dm_converge.specs.Meanings.{Meaning, Runs, root_of, Builds, MeansSo}
-use Rattle.dm_converge.specs.Pools.{HasBundle, BeginAlike, NamesStandForOne, ComesOf, as_it_was, took}
+use Rattle.dm_converge.specs.Pools.{HasBundleIn, BeginAlike, NamesStandForOneIn, ComesOfIn, as_it_was, took}
 use Rattle.dm_converge.specs.Networks.{StandsForSent, IsNew, Network, nobody, joins, takes, records, sends}
 use Rattle.dm_converge.specs.Laws as laws
+use Rattle.dm_converge.proofs.Wider.{among_stands}
 use Rattle.dm_converge.proofs.Names.{front_among, front_has, front_distinct, distinct_right, distinct_left, distinct_apart, distinct_part, beginnings, closed_more, closed_same}
 use Rattle.dm_converge.proofs.Orders.{names_make_the_tree, root_tree}
 use Rattle.dm_converge.proofs.Patches.{split_runs_as}
@@ -53,7 +56,7 @@ replaced_cases before x y behind z k = elim (Contains-append_cases before (y ∷
   | inr c ↦ elim (one_of y behind c) [ inl e ↦ inl e | inr d ↦ inr (Contains-append_right before (x ∷ behind) z (more x behind d)) ]
 ]
 
-module _ (pool : List (List ℕ)) (base : List Patch) (ok : IsRepo base) (one_patch : NamesStandForOne pool base) where
+module _ (kinds : Kinds) (pool : List (List ℕ)) (base : List Patch) (ok : IsRepo base) (one_patch : NamesStandForOneIn kinds pool base) where
   -- the names of the base, and of all repositories
   abbrev names_of : List (List Patch) → List PatchInfo
   names_of [] = infos_of base
@@ -99,7 +102,7 @@ module _ (pool : List (List ℕ)) (base : List Patch) (ok : IsRepo base) (one_pa
     | inr c ↦ Contains-append_right (infos_of r) (names_of (before ++ (repo ++ merged) ∷ behind)) i (named_on before repo merged behind i c)
   ]
 
-  distinct_new : (text : List ℕ) (b : Contents) → BundleText text b → Distinct (infos_of b.patches)
+  distinct_new : (text : List ℕ) (b : Contents) → BundleTextIn kinds text b → Distinct (infos_of b.patches)
   distinct_new text b h = h.sections.patches.distinct
 
   -- one meaning, for the base, for all repositories, for the first patches of each bundle of the pool of which a name is given, as those are that are
@@ -108,12 +111,12 @@ module _ (pool : List (List ℕ)) (base : List Patch) (ok : IsRepo base) (one_pa
     m : Meaning ℕ
     bound : ℕ
     up : IsUpTo m bound
-    base_tree : Named ℕ
+    base_tree : NodeMap ℕ
     base_builds : Builds m base base_tree
-    each : (r : List Patch) → Contains repos r → IsRepo r × ((t : Named ℕ) × Builds m r t)
+    each : (r : List Patch) → Contains repos r → IsRepo r × ((t : NodeMap ℕ) × Builds m r t)
     given : List PatchInfo
-    pooled : (b : Contents) → HasBundle pool b → (i : PatchInfo) → Holds b.patches i → Contains (names_of repos) i → Contains given i
-    bundles : (b : Contents) → HasBundle pool b → (i : PatchInfo) → Holds b.patches i → Contains given i → HasBegun m (names_of repos) given b
+    pooled : (b : Contents) → HasBundleIn kinds pool b → (i : PatchInfo) → Holds b.patches i → Contains (names_of repos) i → Contains given i
+    bundles : (b : Contents) → HasBundleIn kinds pool b → (i : PatchInfo) → Holds b.patches i → Contains given i → HasBegun m (names_of repos) given b
     sent_mean : (b : Contents) → Contains sent b → MeansOver m (names_of repos) b × ((i : PatchInfo) → Holds b.patches i → Contains (names_of repos) i)
 
   known_first : Known [] []
@@ -138,7 +141,7 @@ module _ (pool : List (List ℕ)) (base : List Patch) (ok : IsRepo base) (one_pa
     after_base : (i : PatchInfo) → Contains (names_of repos) i → Contains (names_of (base ∷ repos)) i
     after_base i c = Contains-append_right (infos_of base) (names_of repos) i c
 
-    joined_pooled : (b : Contents) → HasBundle pool b → (i : PatchInfo) → Holds b.patches i → Contains (names_of (base ∷ repos)) i → Contains k.given i
+    joined_pooled : (b : Contents) → HasBundleIn kinds pool b → (i : PatchInfo) → Holds b.patches i → Contains (names_of (base ∷ repos)) i → Contains k.given i
     joined_pooled b has i h c = elim (Contains-append_cases (infos_of base) (names_of repos) i c) [
       | inl d ↦ absurd (one_patch.beside b i has h d)
       | inr d ↦ k.pooled b has i h d
@@ -177,7 +180,7 @@ module _ (pool : List (List ℕ)) (base : List Patch) (ok : IsRepo base) (one_pa
     }
 
     -- a bundle of the pool is given its meaning
-    module _ (repo : List Patch) (mem : Contains repos repo) (b : Contents) (has : HasBundle pool b) (policy : Policy) (merged : List Patch) (skipped : ℕ) (g : IsMergeOf repo b policy merged skipped) where
+    module _ (repo : List Patch) (mem : Contains repos repo) (b : Contents) (has : HasBundleIn kinds pool b) (policy : Policy) (merged : List Patch) (skipped : ℕ) (g : IsMergeOf repo b policy merged skipped) where
       abbrev IsGiven : Type 0
       IsGiven = (n : Known repos sent) × MeansOver n.m (names_of repos) b × ((i : PatchInfo) → Holds b.patches i → Contains n.given i)
 
@@ -187,7 +190,7 @@ module _ (pool : List (List ℕ)) (base : List Patch) (ok : IsRepo base) (one_pa
       abbrev front : List Patch
       front = patches g.fits.front
 
-      abbrev whole : IsRepo repo × ((t : Named ℕ) × Builds k.m repo t)
+      abbrev whole : IsRepo repo × ((t : NodeMap ℕ) × Builds k.m repo t)
       whole = k.each repo mem
 
       in_names : (i : PatchInfo) → Holds repo i → Contains (names_of repos) i
@@ -205,7 +208,7 @@ module _ (pool : List (List ℕ)) (base : List Patch) (ok : IsRepo base) (one_pa
       front_distinct_names : Distinct (infos_of front)
       front_distinct_names = front_distinct (Common repo b) cut.repo_split.split (rw (patches_placed 0 repo) whole.0.distinct)
 
-      front_builds : (u : Named ℕ) × Builds k.m front u
+      front_builds : (u : NodeMap ℕ) × Builds k.m front u
       front_builds =
           let a = split_runs_as ℕ k.m (IsCommon repo b) repo g.fits.front g.rest cut.repo_split.split (root_of k.m.root) whole.1.0 whole.1.1 in
           (a.0, a.1)
@@ -299,7 +302,7 @@ module _ (pool : List (List ℕ)) (base : List Patch) (ok : IsRepo base) (one_pa
           abbrev all_given : List PatchInfo
           all_given = infos_of w.rest ++ k.given
 
-          builds_still : (xs : List Patch) (t : Named ℕ) → ((i : PatchInfo) → Holds xs i → Contains (names_of repos) i) → Builds k.m xs t → Builds n.next xs t
+          builds_still : (xs : List Patch) (t : NodeMap ℕ) → ((i : PatchInfo) → Holds xs i → Contains (names_of repos) i) → Builds k.m xs t → Builds n.next xs t
           builds_still xs t f h = builds_agree n.agrees xs (λ i l o. rest_unheld i (f i l) o) h
 
           author_builds : Builds n.next means.before means.tree
@@ -329,7 +332,7 @@ module _ (pool : List (List ℕ)) (base : List Patch) (ok : IsRepo base) (one_pa
           ]
 
           -- a bundle of the pool with a name of theirs begins alike
-          module _ (d : Contents) (is : HasBundle pool d) (x : PatchInfo) (in_d : Holds d.patches x) (in_rest : Holds w.rest x) where
+          module _ (d : Contents) (is : HasBundleIn kinds pool d) (x : PatchInfo) (in_d : Holds d.patches x) (in_rest : Holds w.rest x) where
             abbrev alike : BeginAlike b d
             alike = one_patch.among b d x has is (in_whole b w.first w.rest w.whole x (inr in_rest)) in_d
 
@@ -411,7 +414,7 @@ module _ (pool : List (List ℕ)) (base : List Patch) (ok : IsRepo base) (one_pa
             ];
           }
 
-          later_begun : (d : Contents) → HasBundle pool d → (i : PatchInfo) → Holds d.patches i → Contains all_given i → HasBegun n.next (names_of repos) all_given d
+          later_begun : (d : Contents) → HasBundleIn kinds pool d → (i : PatchInfo) → Holds d.patches i → Contains all_given i → HasBegun n.next (names_of repos) all_given d
           later_begun d is i h c = elim (some_told (infos_of d.patches) (infos_of w.rest)) [
             | inl r ↦ alike_begun d is r.0 r.1 r.2
             | inr apart ↦ other_begun d (k.bundles d is i h (elim (Contains-append_cases (infos_of w.rest) k.given i c) [ inl o ↦ absurd (apart i h o) | inr o ↦ o ])) apart
@@ -448,7 +451,7 @@ module _ (pool : List (List ℕ)) (base : List Patch) (ok : IsRepo base) (one_pa
   module _ (before : List (List Patch)) (repo : List Patch) (behind : List (List Patch)) (sent : List Contents) (k : Known (before ++ repo ∷ behind) sent)
       (b : Contents) (distinct : Distinct (infos_of b.patches)) (policy : Policy) (merged : List Patch) (skipped : ℕ) (g : IsMergeOf repo b policy merged skipped)
       (means : MeansSo k.m b)
-      (meant : (d : Contents) → HasBundle pool d → (i : PatchInfo) → Holds d.patches i → Holds b.patches i → Contains k.given i) where
+      (meant : (d : Contents) → HasBundleIn kinds pool d → (i : PatchInfo) → Holds d.patches i → Holds b.patches i → Contains k.given i) where
     abbrev was : List (List Patch)
     was = before ++ repo ∷ behind
 
@@ -458,12 +461,12 @@ module _ (pool : List (List ℕ)) (base : List Patch) (ok : IsRepo base) (one_pa
     still : (i : PatchInfo) → Contains (names_of was) i → Contains (names_of now) i
     still i c = named_on before repo merged behind i c
 
-    merged_builds : IsRepo (repo ++ merged) × ((t : Named ℕ) × Builds k.m (repo ++ merged) t)
+    merged_builds : IsRepo (repo ++ merged) × ((t : NodeMap ℕ) × Builds k.m (repo ++ merged) t)
     merged_builds =
         let w = k.each repo (middle_here before repo behind) in
         (merge_is_repo repo b policy merged skipped w.0 distinct g, taking_keeps_meaning ℕ k.m k.up.once repo b policy merged skipped w.0 means g w.1.0 w.1.1)
 
-    merged_pooled : (d : Contents) → HasBundle pool d → (i : PatchInfo) → Holds d.patches i → Contains (names_of now) i → Contains k.given i
+    merged_pooled : (d : Contents) → HasBundleIn kinds pool d → (i : PatchInfo) → Holds d.patches i → Contains (names_of now) i → Contains k.given i
     merged_pooled d has i h c = elim (named_cases before repo merged behind i c) [
       | inl r ↦ k.pooled d has i h r
       | inr r ↦ meant d has i h (merged_new repo b policy merged skipped distinct g i r)
@@ -485,14 +488,14 @@ module _ (pool : List (List ℕ)) (base : List Patch) (ok : IsRepo base) (one_pa
 
   -- a mirror records a patch of a new name
   module _ (before : List (List Patch)) (repo : List Patch) (behind : List (List Patch)) (sent : List Contents) (k : Known (before ++ repo ∷ behind) sent)
-      (x : Patch) (new : IsNew pool base (before ++ repo ∷ behind) x.info) (valid : IsRepo (repo ++ x ∷ [])) where
+      (x : Patch) (new : IsNew kinds pool base (before ++ repo ∷ behind) x.info) (valid : IsRepo (repo ++ x ∷ [])) where
     abbrev all : List (List Patch)
     all = before ++ repo ∷ behind
 
     abbrev later : List (List Patch)
     later = before ++ (repo ++ x ∷ []) ∷ behind
 
-    abbrev its : IsRepo repo × ((t : Named ℕ) × Builds k.m repo t)
+    abbrev its : IsRepo repo × ((t : NodeMap ℕ) × Builds k.m repo t)
     its = k.each repo (middle_here before repo behind)
 
     named_where : (rs : List (List Patch)) (i : PatchInfo) → Contains (names_of rs) i → (r : List Patch) × Contains (base ∷ rs) r × Holds r i
@@ -508,17 +511,17 @@ module _ (pool : List (List ℕ)) (base : List Patch) (ok : IsRepo base) (one_pa
       | inr n ↦ absurd (none_of n)
     ]
 
-    unpooled : (d : Contents) → HasBundle pool d → (i : PatchInfo) → Holds d.patches i → Contains (x.info ∷ []) i → ⊥
+    unpooled : (d : Contents) → HasBundleIn kinds pool d → (i : PatchInfo) → Holds d.patches i → Contains (x.info ∷ []) i → ⊥
     unpooled d has i h c = elim (one_of x.info [] c) [ inl e ↦ new.unpooled d has (subst (λ z. Holds d.patches z) (sym e) h) | inr n ↦ absurd (none_of n) ]
 
     module _ (u : LawfulMap) (g : Given k.m x its.1.0 u) where
-      builds_recorded : (xs : List Patch) (t : Named ℕ) → ((i : PatchInfo) → Holds xs i → Contains (names_of all) i) → Builds k.m xs t → Builds g.next xs t
+      builds_recorded : (xs : List Patch) (t : NodeMap ℕ) → ((i : PatchInfo) → Holds xs i → Contains (names_of all) i) → Builds k.m xs t → Builds g.next xs t
       builds_recorded xs t f h = builds_agree g.agrees xs (λ i l c. apart i (f i l) c) h
 
-      each_recorded : (r : List Patch) → Contains all r → IsRepo r × ((t : Named ℕ) × Builds g.next r t)
+      each_recorded : (r : List Patch) → Contains all r → IsRepo r × ((t : NodeMap ℕ) × Builds g.next r t)
       each_recorded r c = let w = k.each r c in (w.0, (w.1.0, builds_recorded r w.1.0 (λ i h. repo_named all r i c h) w.1.1))
 
-      this_recorded : IsRepo (repo ++ x ∷ []) × ((t : Named ℕ) × Builds g.next (repo ++ x ∷ []) t)
+      this_recorded : IsRepo (repo ++ x ∷ []) × ((t : NodeMap ℕ) × Builds g.next (repo ++ x ∷ []) t)
       this_recorded =
           let still = builds_recorded repo its.1.0 (λ i h. repo_named all repo i (middle_here before repo behind) h) its.1.1 in
           (valid, (g.tree, runs_on still (step g.leads done)))
@@ -552,28 +555,29 @@ module _ (pool : List (List ℕ)) (base : List Patch) (ok : IsRepo base) (one_pa
 
   -- a text is taken
   known_taken : (before : List (List Patch)) (repo : List Patch) (behind : List (List Patch)) (sent : List Contents) → Known (before ++ repo ∷ behind) sent →
-      (text : List ℕ) → Contains pool text ⊎ StandsForSent sent text → (b : Contents) → BundleText text b → (policy : Policy) (merged : List Patch) (skipped : ℕ) → IsMergeOf repo b policy merged skipped →
+      (text : List ℕ) → Contains pool text ⊎ StandsForSent kinds sent text → (b : Contents) → BundleTextIn kinds text b → (policy : Policy) (merged : List Patch) (skipped : ℕ) → IsMergeOf repo b policy merged skipped →
       Known (before ++ (repo ++ merged) ∷ behind) sent
   known_taken before repo behind sent k text (inl p) b stands policy merged skipped g =
-      let has : HasBundle pool b = (text, p, stands) in
+      let has : HasBundleIn kinds pool b = (text, p, stands) in
       let w = meaning_given (before ++ repo ∷ behind) sent k repo (middle_here before repo behind) b has policy merged skipped g in
       known_merged before repo behind sent w.0 b (distinct_new text b stands) policy merged skipped g w.1.0
       (λ d is i h l. w.2 i l)
   known_taken before repo behind sent k text (inr p) b stands policy merged skipped g =
-      let e : p.0 ≡ b = one_bundle text p.0 b p.2 stands in
+      let e : p.0 ≡ b = one_bundle kinds text p.0 b p.2 stands in
       let c : Contains sent b = rw e at p.1 in
       let w = k.sent_mean b c in
       known_merged before repo behind sent k b (distinct_new text b stands) policy merged skipped g w.0.0 (λ d is i h l. k.pooled d is i h (w.1 i l))
 
-  known : {repos : List (List Patch)} {sent : List Contents} → Network pool base repos sent → Known repos sent
+  known : {repos : List (List Patch)} {sent : List Contents} → Network kinds pool base repos sent → Known repos sent
   known nobody = known_first
   known (joins {repos} {sent} n) = known_joined repos sent (known n)
-  known (takes before repo behind n p (malformed fault at e same)) = rw same (known n)
-  known (takes before repo behind n p (no_memory e same)) = rw same (known n)
-  known (takes before repo behind {after} {sent} {text} {policy} {verdict} n p (bundle b r t)) =
+  known (takes before repo behind n p few (malformed fault at e same)) = rw same (known n)
+  known (takes before repo behind n p few (no_memory e same)) = rw same (known n)
+  known (takes before repo behind {after} {sent} {limits} {text} {policy} {verdict} n p few (bundle b r t)) =
       let k = known n in
+      let stands = among_stands limits.kinds kinds text b few r.stands in
       taken_or_kept (λ z. Known (before ++ z ∷ behind) sent) repo b policy verdict after k
-      (λ merged skipped g. known_taken before repo behind sent k text p b r.stands policy merged skipped g)
+      (λ merged skipped g. known_taken before repo behind sent k text p b stands policy merged skipped g)
       t
   known (records before repo behind x {sent} n new valid) = recorded before repo behind sent (known n) x new valid
   known (sends {repos} {repo} {sent} {b} n c h) =
@@ -582,32 +586,32 @@ module _ (pool : List (List ℕ)) (base : List Patch) (ok : IsRepo base) (one_pa
       known_sent repos sent k repo b c (sent_meant ℕ k.m repo w.1.0 w.0 w.1.1 b h)
 
 pub networks_converge : laws.NetworksConverge
-networks_converge pool base ok one_patch repos sent n one other c d =
-    let k = known pool base ok one_patch n in names_decide_tree ℕ k.m k.up.once one other (k.each one c) (k.each other d)
+networks_converge kinds pool base ok one_patch repos sent n one other c d =
+    let k = known kinds pool base ok one_patch n in names_decide_tree ℕ k.m k.up.once one other (k.each one c) (k.each other d)
 
 -- two mirrors are such a network
-comes_along : (pool : List (List ℕ)) (base : List Patch) (before behind : List (List Patch)) {sent : List Contents} {repo : List Patch} → Network pool base (before ++ base ∷ behind) sent →
-    ComesOf pool base repo → Network pool base (before ++ repo ∷ behind) sent
-comes_along pool base before behind n as_it_was = n
-comes_along pool base before behind n (took {repo} c p t) = takes before repo behind (comes_along pool base before behind n c) (inl p) t
+comes_along : (kinds : Kinds) (pool : List (List ℕ)) (base : List Patch) (before behind : List (List Patch)) {sent : List Contents} {repo : List Patch} → Network kinds pool base (before ++ base ∷ behind) sent →
+    ComesOfIn kinds pool base repo → Network kinds pool base (before ++ repo ∷ behind) sent
+comes_along kinds pool base before behind n as_it_was = n
+comes_along kinds pool base before behind n (took {repo} c p few t) = takes before repo behind (comes_along kinds pool base before behind n c) (inl p) few t
 
 pub pools_converge : laws.PoolsConverge
-pools_converge pool base ok one_patch one other h k =
-    let n = comes_along pool base (one ∷ []) [] (comes_along pool base [] (base ∷ []) (joins (joins nobody)) h) k in
-    networks_converge pool base ok one_patch (one ∷ other ∷ []) [] n one other (here one (other ∷ [])) (more one (other ∷ []) (here other []))
+pools_converge kinds pool base ok one_patch one other h k =
+    let n = comes_along kinds pool base (one ∷ []) [] (comes_along kinds pool base [] (base ∷ []) (joins (joins nobody)) h) k in
+    networks_converge kinds pool base ok one_patch (one ∷ other ∷ []) [] n one other (here one (other ∷ [])) (more one (other ∷ []) (here other []))
 
 -- texts that are taken in turn
 pub comes_each : (pool : List (List ℕ)) (base repo : List Patch) (texts : List (List ℕ)) (policy : Policy) (verdicts : List Verdict) (after : List Patch) →
-    ((text : List ℕ) → Contains texts text → Contains pool text) → ComesOf pool base repo → TakesEach repo texts policy verdicts after → ComesOf pool base after
+    ((text : List ℕ) → Contains texts text → Contains pool text) → ComesOfIn these.Six pool base repo → TakesEach repo texts policy verdicts after → ComesOfIn these.Six pool base after
 comes_each pool base repo [] policy [] after f c h = rw h c
 comes_each pool base repo [] policy (v ∷ vs) after f c h = absurd h
 comes_each pool base repo (x ∷ xs) policy [] after f c h = absurd h
 comes_each pool base repo (x ∷ xs) policy (v ∷ vs) after f c (next, h, r) =
-    comes_each pool base next xs policy vs after (λ y d. f y (more x xs d)) (took c (f x (here x xs)) h) r
+    comes_each pool base next xs policy vs after (λ y d. f y (more x xs d)) (took c (f x (here x xs)) tt h) r
 
 pub taken_texts_converge : laws.TakenTextsConverge
 taken_texts_converge base texts others policy other_policy verdicts other_verdicts one other ok one_patch h k =
     let pool = texts ++ others in
-    pools_converge pool base ok one_patch one other
+    pools_converge these.Six pool base ok one_patch one other
     (comes_each pool base base texts policy verdicts one (λ y c. Contains-append_left texts others y c) as_it_was h)
     (comes_each pool base base others other_policy other_verdicts other (λ y c. Contains-append_right texts others y c) as_it_was k)

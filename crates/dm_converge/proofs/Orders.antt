@@ -12,7 +12,7 @@ use Rattle.dm_named.specs.Patches.{Patch}
 use Rattle.dm_bundle.specs.Patches.{infos_of, Distinct, SameMembers}
 use Rattle.dm_repo.proofs.Members.{here, more, one_of, none_of}
 use Rattle.dm_chain.specs.Chains.{Token}
-use Rattle.dm_facts.specs.Nodes.{Node, Text, Named, IsTree}
+use Rattle.dm_facts.specs.Nodes.{Node, FileWith, NodeMap, IsTree}
 use Rattle.dm_facts.specs.Facts.{Effect}
 use Rattle.dm_facts.specs.Sums.{AreFacts}
 use Rattle.dm_facts.specs.Runs.{StepsAll, SharesNone, AllAddNew}
@@ -87,12 +87,12 @@ module _ (I : Type 0) (m : Meaning I) where
   prims_of [] = []
   prims_of (x ∷ xs) = x.prims ++ prims_of xs
 
-  pub runs_all : (xs : List Patch) {s t : Named I} → Runs m xs s t → StepsAll (prims_of xs) (effects_of (infos_of xs)) s t
+  pub runs_all : (xs : List Patch) {s t : NodeMap I} → Runs m xs s t → StepsAll (prims_of xs) (effects_of (infos_of xs)) s t
   runs_all [] done = refl
   runs_all (x ∷ xs) {s} {t} (step {u} h r) = steps_on I x.prims (prims_of xs) (m.effects x.info) (effects_of (infos_of xs)) s u t h.steps (runs_all xs r)
 
   -- all add what is new
-  new_on : (s : Named I) (es ds : List (Effect I)) → AllAddNew es s → AllAddNew ds s → ((e : Effect I) → Contains es e → SharesNone e ds) → AllAddNew (es ++ ds) s
+  new_on : (s : NodeMap I) (es ds : List (Effect I)) → AllAddNew es s → AllAddNew ds s → ((e : Effect I) → Contains es e → SharesNone e ds) → AllAddNew (es ++ ds) s
   new_on s [] ds h k apart = k
   new_on s (e ∷ es) ds h k apart = (
     h.0,
@@ -118,7 +118,7 @@ module _ (I : Type 0) (r : I) where
   root_none [] n = refl
   root_none (x ∷ p) n = refl
 
-  root_file : (p : Path) (x : I) (c : List (Token I)) → root_of r p ≡ Some (Text x c) → ⊥
+  root_file : (p : Path) (x : I) (c : List (Token I)) → root_of r p ≡ Some (FileWith x c) → ⊥
   root_file [] x c e = absurd (cc)
   root_file (n ∷ p) x c e = absurd (cc)
 

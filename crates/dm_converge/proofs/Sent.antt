@@ -20,7 +20,7 @@ use Rattle.dm_repo.proofs.Staircases.{runs_part}
 use Rattle.dm_send.specs.Sending.{IsDivided, IsShared, behind}
 use Rattle.dm_send.proofs.Parting.{in_reverse, to_reverse, are_apart, no_doubles}
 use Rattle.dm_send.proofs.Stairs.{Stair, nothing, stays, yields, heads, Steps, steps, in_stair, names_needed, rect_infos}
-use Rattle.dm_facts.specs.Nodes.{Named}
+use Rattle.dm_facts.specs.Nodes.{NodeMap}
 use Rattle.dm_converge.specs.Meanings.{Meaning, LeadsAs, Runs, root_of, Builds, MeansSo}
 use Rattle.dm_converge.specs.Networks.{IsSentBy}
 use Rattle.dm_converge.specs.Laws as laws
@@ -51,15 +51,15 @@ needed_held {need} s n i (given c) = in_reverse (infos_of need) c
 needed_held {need} s n i (needed h c d) = elim (names_needed [] s n (in_heads need h) d) [ inl k ↦ absurd (none_of k) | inr k ↦ k ]
 
 module _ (I : Type 0) (m : Meaning I) where
-  alone : {x : Patch} {s t : Named I} → Runs m (x ∷ []) s t → LeadsAs m x s t
+  alone : {x : Patch} {s t : NodeMap I} → Runs m (x ∷ []) s t → LeadsAs m x s t
   alone (step h done) = h
 
-  stair_runs : {xs need gone : List Patch} {s u : Named I} → Stair xs need gone → Runs m xs s u → (v : Named I) × Runs m need s v × Runs m gone v u
+  stair_runs : {xs need gone : List Patch} {s u : NodeMap I} → Stair xs need gone → Runs m xs s u → (v : NodeMap I) × Runs m need s v × Runs m gone v u
   stair_runs nothing done = (_, done, done)
   stair_runs (stays s) (step h r) = let a = stair_runs s r in (a.0, step h a.1, a.2)
   stair_runs (yields s t) (step h r) =
       let a = stair_runs s r in
-      let b = rectangle_runs Patch (Named I) NamedCommutes (LeadsAs m) (named_leads I m) (one Patch NamedCommutes t) (step h done) a.1 in
+      let b = rectangle_runs Patch (NodeMap I) NamedCommutes (LeadsAs m) (named_leads I m) (one Patch NamedCommutes t) (step h done) a.1 in
       (b.0, b.1, step (alone b.2) a.2)
 
   -- a bundle that means so, with names of a repository
@@ -68,11 +68,11 @@ module _ (I : Type 0) (m : Meaning I) where
     pub before_held : (i : PatchInfo) → Holds means.before i → Holds repo i
     pub new_held : (i : PatchInfo) → Holds b.patches i → Holds repo i
 
-  module _ (repo : List Patch) (s : Named I) (ok : IsRepo repo) (builds : Builds m repo s) where
+  module _ (repo : List Patch) (s : NodeMap I) (ok : IsRepo repo) (builds : Builds m repo s) where
     -- the repository in two parts, of which the first is one by itself
     record InParts (shared new : List Patch) : Type 0 where
-      mid : Named I
-      end : Named I
+      mid : NodeMap I
+      end : NodeMap I
       first : Builds m shared mid
       second : Runs m new mid end
       distinct : Distinct (infos_of new)
@@ -123,7 +123,7 @@ module _ (I : Type 0) (m : Meaning I) where
     minimal theirs most shared new need out gone d w =
         let p = in_parts theirs most shared new d in
         let a = stair_runs w.stair p.first in
-        let r = rectangle_runs Patch (Named I) NamedCommutes (LeadsAs m) (named_leads I m) w.past a.2 p.second in
+        let r = rectangle_runs Patch (NodeMap I) NamedCommutes (LeadsAs m) (named_leads I m) w.past a.2 p.second in
         let same : infos_of out ≡ infos_of new = rect_infos w.past in
         record {
           means = record {

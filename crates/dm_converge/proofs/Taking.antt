@@ -14,7 +14,7 @@ use Rattle.dm_repo.proofs.Members.{infos_of-append}
 use Rattle.dm_repo.proofs.Placed.{patches_placed}
 use Rattle.dm_repo.proofs.Keeps.{common_held}
 use Rattle.dm_repo.proofs.Staircases.{runs_on}
-use Rattle.dm_facts.specs.Nodes.{Named}
+use Rattle.dm_facts.specs.Nodes.{NodeMap}
 use Rattle.dm_converge.specs.Meanings.{Meaning, Builds}
 use Rattle.dm_converge.specs.Laws as laws
 use Rattle.dm_converge.proofs.Orders.{names_make_the_tree}
@@ -23,7 +23,7 @@ use Rattle.dm_converge.proofs.Patches.{split_runs_as, under_runs_as}
 
 -- the front of the repository, and the author's patches with those of the bundle that are held
 module _ (I : Type 0) (m : Meaning I) (repo : List Patch) (b : Contents) (ok : IsRepo repo) (before : List Patch)
-    (is_context : (i : PatchInfo) → Holds before i ↔ Closed before b.context i) (distinct : Distinct (infos_of (before ++ b.patches))) {tree s : Named I} (built : Builds m before tree)
+    (is_context : (i : PatchInfo) → Holds before i ↔ Closed before b.context i) (distinct : Distinct (infos_of (before ++ b.patches))) {tree s : NodeMap I} (built : Builds m before tree)
     (builds : Builds m repo s) {front rest new : List Placed} (c : IsBundleSplit repo b front rest new) where
   in_repo : (i : PatchInfo) → Common repo b i → Holds repo i
   in_repo i k = common_held repo b ok.earlier c.repo_split.prerequisites.knows i k

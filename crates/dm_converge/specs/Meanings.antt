@@ -8,7 +8,7 @@ use Rattle.dm_bundle.specs.Patches.{infos_of, Distinct}
 use Rattle.dm_bundle.specs.Bundles.{Contents}
 use Rattle.dm_repo.specs.Repositories.{Holds}
 use Rattle.dm_repo.specs.CommonSets.{Closed}
-use Rattle.dm_facts.specs.Nodes.{Named, Folder}
+use Rattle.dm_facts.specs.Nodes.{NodeMap, Folder}
 use Rattle.dm_facts.specs.Facts.{Effect}
 use Rattle.dm_facts.specs.Runs.{StepsAll, SharesNone, AllAddNew}
 
@@ -19,21 +19,21 @@ pub record Meaning (I : Type 0) : Type 0 where
   pub effects : PatchInfo → List (Effect I)
 
 -- the patch leads from s to t, as m says of its name
-pub record LeadsAs {I : Type 0} (m : Meaning I) (x : Patch) (s t : Named I) : Type 0 where
+pub record LeadsAs {I : Type 0} (m : Meaning I) (x : Patch) (s t : NodeMap I) : Type 0 where
   pub deps : x.deps ≡ m.deps x.info
   pub steps : StepsAll x.prims (m.effects x.info) s t
 
 -- so do the patches, in turn
-abbrev pub Runs : {I : Type 0} → Meaning I → List Patch → Named I → Named I → Type 0
+abbrev pub Runs : {I : Type 0} → Meaning I → List Patch → NodeMap I → NodeMap I → Type 0
 Runs m xs s t = InTurn (LeadsAs m) xs s t
 
 -- the root alone, with this identity
-abbrev pub root_of : {I : Type 0} → I → Named I
+abbrev pub root_of : {I : Type 0} → I → NodeMap I
 root_of r [] = Some (Folder r)
 root_of r (n ∷ p) = None
 
 -- the patches make t of the root alone, as m says of their names
-abbrev pub Builds : {I : Type 0} → Meaning I → List Patch → Named I → Type 0
+abbrev pub Builds : {I : Type 0} → Meaning I → List Patch → NodeMap I → Type 0
 Builds m xs t = Runs m xs (root_of m.root) t
 
 -- each identity is introduced once
@@ -49,7 +49,7 @@ pub record MeansSo {I : Type 0} (m : Meaning I) (b : Contents) : Type 0 where
   pub before : List Patch
   pub is_context : (i : PatchInfo) → Holds before i ↔ Closed before b.context i
   pub distinct : Distinct (infos_of (before ++ b.patches))
-  pub tree : Named I
-  pub after : Named I
+  pub tree : NodeMap I
+  pub after : NodeMap I
   pub builds : Builds m before tree
   pub runs : Runs m b.patches tree after

@@ -32,18 +32,19 @@ pub fn sent_means_so<I>()
     ensures { SentMeansSo I }
 {}
 
-/// If there is one meaning for the base and for all bundles of a pool, the names of what comes of them decide the tree.
+/// If there is one meaning for the base and for all bundles of a pool, of primitives of some kinds, the names of what comes of them
+/// decide the tree.
 pub fn meanings_converge<I>()
     ensures { MeaningsConverge I }
 {}
 
 /// If a name stands for one patch, the names of what comes of a base decide the tree: whatever the orders, what was refused in
-/// between, the policies and the limits.
+/// between, the policies, the limits, and the kinds of primitives that are read.
 pub fn pools_converge()
     ensures { PoolsConverge }
 {}
 
-/// So they do where two mirrors take texts in turn.
+/// So they do where two mirrors take texts of the six kinds in turn.
 pub fn taken_texts_converge()
     ensures { TakenTextsConverge }
 {}
@@ -53,7 +54,7 @@ pub fn accepted_texts_converge()
     ensures { AcceptedTextsConverge }
 {}
 
-/// And where mirrors also record patches of new names and send to each other.
+/// And where mirrors also record patches of new names and send to each other, with any kinds of primitives.
 pub fn networks_converge()
     ensures { NetworksConverge }
 {}

@@ -1,19 +1,19 @@
 -- A step that adds what is new leads from a tree to a tree.
-use Rattle.std.proofs.Common.{◌≡◌, ◌≢◌, ◌⊎◌, inl, inr, ℕ, List, [], ◌∷◌, ◌++◌, map, Some, None, Contains, refl, sym, ap, ◌∙◌}
+use Rattle.std.proofs.Common.{◌≡◌, ◌≢◌, ◌⊎◌, inl, inr, ℕ, List, [], ◌∷◌, ◌++◌, map, Some, None, Contains, refl, sym, ap, subst, ◌∙◌}
 use Rattle.std.proofs.lemmas.List.{map-append}
 use Rattle.std.proofs.lemmas.List.Elements.{Contains-append_left, Contains-append_right, Contains-append_cases}
 use Rattle.dm_tree.specs.Paths.{Name, Path}
 use Rattle.dm_tree.specs.Trees.{Lines, IsLawful}
 use Rattle.dm_tree.proofs.Paths.{swap, swap_inj}
-use Rattle.dm_prim.specs.Primitives.{Work, AddFile, RmFile, AddDir, RmDir, Hunk, Prim, At, Move}
+use Rattle.dm_prim.specs.Primitives.{Work, AddFile, RmFile, AddDir, RmDir, Hunk, Binary, Prim, At, Move, ChangePref}
 use Rattle.dm_prim.proofs.Maps.{path_dec}
 use Rattle.dm_prim.proofs.Undoing.{OffRoot, kept}
 use Rattle.dm_chain.specs.Chains.{Token, HunkSteps, lefts, Distinct, HasOnePortEach}
 use Rattle.dm_chain.proofs.Members.{none_in_nil, head_is_in, distinct-left, distinct-right, distinct-apart, distinct-append}
 use Rattle.dm_chain.proofs.Stepping.{steps_keep_chains}
-use Rattle.dm_facts.specs.Nodes.{Node, Folder, Text, Named, identity, plain, IsFile, IsFolder, IsEmptyFile, IsTree}
+use Rattle.dm_facts.specs.Nodes.{Node, Folder, FileWith, NodeMap, identity, plain, IsFile, IsFolder, IsEmptyFile, IsTree}
 use Rattle.dm_facts.specs.Facts.{TokenOf, facts_of, Effect}
-use Rattle.dm_facts.specs.Steps.{Creates, Edits, Makes, StepsAt, StepsMove, Steps}
+use Rattle.dm_facts.specs.Steps.{Creates, Edits, Rewrites, Makes, StepsAt, StepsMove, Steps}
 use Rattle.dm_facts.specs.Identities.{subject, IsOf, ports_of, AddsNew}
 use Rattle.dm_facts.specs.Laws.{StepsKeepTrees}
 use Rattle.dm_facts.proofs.TreeLemmas.{folder_of, none_of, tree_lawful}
@@ -23,26 +23,27 @@ use Rattle.dm_facts.proofs.Made.{subjects, ports}
 
 module _ (I : Type 0) where
   -- a name is no root
-  pub off_root : (p : Prim) (e : Effect I) (s t : Named I) → Steps p e s t → OffRoot p
+  pub off_root : (p : Prim) (e : Effect I) (s t : NodeMap I) → Steps p e s t → OffRoot p
   off_root (At p w) e s t h = λ i. never h.placed.parent h.name (sym i ∙ h.placed.is)
     where
       never : (q : Path) (n : Name) → [] ≡ q ++ n ∷ [] → ⊥
       never [] n i = cc
       never (x ∷ q) n i = cc
   off_root (Move a b) e s t h = tt
+  off_root (ChangePref name old new) e s t h = tt
 
-  lawful_after : (p : Prim) (e : Effect I) (s t : Named I) → IsTree s → Steps p e s t → IsLawful (plain t)
+  lawful_after : (p : Prim) (e : Effect I) (s t : NodeMap I) → IsTree s → Steps p e s t → IsLawful (plain t)
   lawful_after p e s t tree h = kept p (plain s) (plain t) (off_root p e s t h) (tree_lawful I s tree) (applies I p e s t h)
 
   -- a node's own identity is one of it
   pub own : (x : Node I) → IsOf (identity x) x
   own (Folder x) = refl
-  own (Text x c) = inl refl
+  own (FileWith x c) = inl refl
 
   -- the first fact of a node is about it
   about : (x : Node I) (d : I) (n : Name) → Contains (map subject (facts_of x d n)) (identity x)
   about (Folder x) d n = head_is_in x []
-  about (Text x c) d n = head_is_in x (map subject (map (TokenOf x) c))
+  about (FileWith x c) d n = head_is_in x (map subject (map (TokenOf x) c))
 
   -- gaps and lines replaced by others whose ports are new, or those of some replaced
   ports_apart : (f i j b : List I) → Distinct (f ++ (i ++ b)) → Distinct j → ((y : I) → Contains j y → (Contains i y → ⊥) → Contains (f ++ (i ++ b)) y → ⊥) → Distinct (f ++ (j ++ b))
@@ -57,14 +58,14 @@ module _ (I : Type 0) where
       rest : Distinct (i ++ b)
       rest = distinct-right f (i ++ b) h
 
-  module _ (p : Path) (e : Effect I) (s t : Named I) (tree : IsTree s) (new : AddsNew e s) where
+  module _ (p : Path) (e : Effect I) (s t : NodeMap I) (tree : IsTree s) (new : AddsNew e s) where
     -- a node that is added has an identity of its own
     created : (Is : Node I → Type 0) (d : I) (n : Name) → Creates Is d n (s p) (t p) e → (x y : Node I) (q : Path) → t p ≡ Some x → s q ≡ Some y → identity x ≡ identity y → p ≡ q
     created Is d n c x y q i j k =
         let same : c.node ≡ x = cc (c.there, i) in
         absurd (new.new (identity y) (rw c.effect ((rw (← k, ← same) (about c.node d n)), none_in_nil (identity y))) (q, y, j, own y))
 
-    hunk_apart : (l : ℕ) (old more : Lines) → Edits l old more (s p) (t p) e → (x : I) (c : List (Token I)) → t p ≡ Some (Text x c) → IsFile x c × HasOnePortEach c
+    hunk_apart : (l : ℕ) (old more : Lines) → Edits l old more (s p) (t p) e → (x : I) (c : List (Token I)) → t p ≡ Some (FileWith x c) → IsFile x c × HasOnePortEach c
     hunk_apart l old more h x c i = go h.replaced
       where
         go : HunkSteps l old more h.taken h.added h.tokens h.tokens' → IsFile x c × HasOnePortEach c
@@ -76,20 +77,28 @@ module _ (I : Type 0) where
             let added : Distinct (lefts h.added) = rw (h.effect, ports I h.file h.added) at new.apart in
             let after : Distinct (lefts r.front ++ (lefts h.added ++ lefts r.back)) = ports_apart (lefts r.front) (lefts h.taken) (lefts h.added) (lefts r.back) before added
             (λ y k n m. new.new y (rw (h.effect, subjects I h.file h.added, subjects I h.file h.taken) (k, n))
-            (p, Text h.file h.tokens, h.stood, inr (rw (r.before, map-append (λ z. z.left) r.front (h.taken ++ r.back), map-append (λ z. z.left) h.taken r.back) m))) in
+            (p, FileWith h.file h.tokens, h.stood, inr (rw (r.before, map-append (λ z. z.left) r.front (h.taken ++ r.back), map-append (λ z. z.left) h.taken r.back) m))) in
             let all : HasOnePortEach h.tokens' = rw (r.after, map-append (λ z. z.left) r.front (h.added ++ r.back), map-append (λ z. z.left) h.added r.back) after in
             (rw (← file, ← same) (was.0.0, steps_keep_chains I h.file was.0.0 l old more h.taken h.added h.tokens h.tokens' was.0.1 r), rw (← same) all)
 
-    file_after : (w : Work) (d : I) (n : Name) → Makes w d n (s p) (t p) e → (x : I) (c : List (Token I)) → t p ≡ Some (Text x c) → IsFile x c × HasOnePortEach c
+    rewrite_apart : (old more : Lines) → Rewrites old more (s p) (t p) e → (x : I) (c : List (Token I)) → t p ≡ Some (FileWith x c) → IsFile x c × HasOnePortEach c
+    rewrite_apart old more h x c i =
+        let file : h.file ≡ x = cc (h.there, i) in
+        let same : h.tokens' ≡ c = cc (h.there, i) in
+        let all : HasOnePortEach h.tokens' = rw (h.effect, ports I h.file h.tokens') at new.apart in
+        (rw (← file, ← same) h.is_file, rw (← same) all)
+
+    file_after : (w : Work) (d : I) (n : Name) → Makes w d n (s p) (t p) e → (x : I) (c : List (Token I)) → t p ≡ Some (FileWith x c) → IsFile x c × HasOnePortEach c
     file_after AddFile d n h x c i =
-        let same : h.node ≡ Text x c = cc (h.there, i) in
-        let is : IsEmptyFile (Text x c) = rw same at h.is in
+        let same : h.node ≡ FileWith x c = cc (h.there, i) in
+        let is : IsEmptyFile (FileWith x c) = rw same at h.is in
         let all : Distinct (ports_of (map (TokenOf x) c)) = rw (h.effect, same) at new.apart in
         (is.0, rw (ports I x c) at all)
     file_after RmFile d n h x c i = let k : t p ≡ None = h.nothing in absurd (cc)
-    file_after AddDir d n h x c i = let same : h.node ≡ Text x c = cc (h.there, i) in absurd (rw same at h.is)
+    file_after AddDir d n h x c i = let same : h.node ≡ FileWith x c = cc (h.there, i) in absurd (rw same at h.is)
     file_after RmDir d n h x c i = let k : t p ≡ None = h.nothing in absurd (cc)
     file_after (Hunk l old more) d n h x c i = hunk_apart l old more h x c i
+    file_after (Binary old more) d n h x c i = rewrite_apart old more h x c i
 
     only_one : (w : Work) (d : I) (n : Name) → Makes w d n (s p) (t p) e → (x y : Node I) (q : Path) → t p ≡ Some x → s q ≡ Some y → identity x ≡ identity y → p ≡ q
     only_one AddFile d n h x y q i j k = created IsEmptyFile d n h x y q i j k
@@ -97,8 +106,11 @@ module _ (I : Type 0) where
     only_one AddDir d n h x y q i j k = created IsFolder d n h x y q i j k
     only_one RmDir d n h x y q i j k = let z : t p ≡ None = h.nothing in absurd (cc)
     only_one (Hunk l old more) d n h x y q i j k =
-        let same : Text h.file h.tokens' ≡ x = cc (h.there, i) in
-        tree.unique p q (Text h.file h.tokens) y h.stood j (ap identity same ∙ k)
+        let same : FileWith h.file h.tokens' ≡ x = cc (h.there, i) in
+        tree.unique p q (FileWith h.file h.tokens) y h.stood j (ap identity same ∙ k)
+    only_one (Binary old more) d n h x y q i j k =
+        let same : FileWith h.file h.tokens' ≡ x = cc (h.there, i) in
+        tree.unique p q (FileWith h.file h.tokens) y h.stood j (ap identity same ∙ k)
 
     work_keeps : (w : Work) → StepsAt p w e s t → IsTree t
     work_keeps w h = record {
@@ -111,7 +123,7 @@ module _ (I : Type 0) where
         l : IsLawful (plain t)
         l = lawful_after (At p w) e s t tree h
 
-        file : (q : Path) (x : I) (c : List (Token I)) → t q ≡ Some (Text x c) → (q ≡ p) ⊎ (q ≢ p) → IsFile x c × HasOnePortEach c
+        file : (q : Path) (x : I) (c : List (Token I)) → t q ≡ Some (FileWith x c) → (q ≡ p) ⊎ (q ≢ p) → IsFile x c × HasOnePortEach c
         file q x c i (inl k) = file_after w h.directory h.name h.here x c (ap t (sym k) ∙ i)
         file q x c i (inr k) = tree.files q x c (sym (h.elsewhere q k) ∙ i)
 
@@ -121,7 +133,7 @@ module _ (I : Type 0) where
         one q r x y i j k (inr a) (inl b) = sym (only_one w h.directory h.name h.here y x q (ap t (sym b) ∙ j) (sym (h.elsewhere q a) ∙ i) (sym k)) ∙ sym b
         one q r x y i j k (inr a) (inr b) = tree.unique q r x y (sym (h.elsewhere q a) ∙ i) (sym (h.elsewhere r b) ∙ j) k
 
-  move_keeps : (a b : Path) (e : Effect I) (s t : Named I) → IsTree s → StepsMove a b e s t → IsTree t
+  move_keeps : (a b : Path) (e : Effect I) (s t : NodeMap I) → IsTree s → StepsMove a b e s t → IsTree t
   move_keeps a b e s t tree h =
       let sw = swaps_from I a b e s t h in
       let l : IsLawful (plain t) = lawful_after (Move a b) e s t tree h in
@@ -135,3 +147,4 @@ module _ (I : Type 0) where
   pub steps_keep_trees : StepsKeepTrees I
   steps_keep_trees (At p w) e s t tree h new = work_keeps p e s t tree new w h
   steps_keep_trees (Move a b) e s t tree h new = move_keeps a b e s t tree h
+  steps_keep_trees (ChangePref name old more) e s t tree h new = subst IsTree h.0 tree

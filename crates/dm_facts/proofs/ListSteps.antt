@@ -2,7 +2,7 @@
 use Rattle.std.proofs.Common.{◌≡◌, ◌↔◌, inl, inr, ℕ, zero, suc, ◌≤◌, List, [], ◌∷◌, ◌++◌, length, Some, None, Contains, refl, sym, ap, subst, ◌∙◌, append-nil, append_assoc, length-append, arith}
 use Rattle.std.proofs.lemmas.List.Elements.{Contains-append_left, Contains-append_right}
 use Rattle.dm_prim.specs.InTurn.{done, step}
-use Rattle.dm_prim.specs.Primitives.{AddFile, RmFile, AddDir, RmDir, Hunk, Prim, At, Move, inv, inv_all, Applies, LawfulMap, LeadsAll}
+use Rattle.dm_prim.specs.Primitives.{AddFile, RmFile, AddDir, RmDir, Hunk, Binary, Prim, At, Move, ChangePref, inv, inv_all, Applies, LawfulMap, LeadsAll}
 use Rattle.dm_prim.specs.Rectangles.{CellRow, none, next, empty, row}
 use Rattle.dm_tree.specs.Paths.{Name, Path}
 use Rattle.dm_tree.specs.Trees.{Dir, File, empty_file}
@@ -12,7 +12,7 @@ use Rattle.dm_prim.proofs.LawProofs.{inv_all-inv_all}
 use Rattle.dm_prim.proofs.TableRows.{square_from}
 use Rattle.dm_chain.specs.Chains.{Distinct}
 use Rattle.dm_chain.proofs.Members.{none_in_nil, head_is_in, next_is_in, in_cases, distinct-left, distinct-right, distinct-apart}
-use Rattle.dm_facts.specs.Nodes.{Named, plain, IsTree}
+use Rattle.dm_facts.specs.Nodes.{NodeMap, plain, IsTree}
 use Rattle.dm_facts.specs.Facts.{Effect, inverse}
 use Rattle.dm_facts.specs.Steps.{Steps}
 use Rattle.dm_facts.specs.Identities.{Introduces, IsIn, UsesOf, AddsNew, enough}
@@ -35,6 +35,8 @@ off_root_between (At p AddFile) a b h = λ e. absurd (no_name h.around.0 h.aroun
 off_root_between (At p AddDir) a b h = λ e. absurd (no_name h.around.0 h.around.1 (sym e ∙ h.around.2))
 off_root_between (At p RmFile) a b h = λ e. let k : a.map [] ≡ Some empty_file = rw e at h.here.0 in let r : a.map [] ≡ Some Dir = a.lawful.root in absurd (cc)
 off_root_between (At p RmDir) a b h = λ e. let k : b.map [] ≡ None = rw e at h.here.1 in let r : b.map [] ≡ Some Dir = b.lawful.root in absurd (cc)
+off_root_between (ChangePref name old new) a b h = tt
+off_root_between (At p (Binary old new)) a b h = λ e. let k : a.map [] ≡ Some (File old) = rw e at h.here.0 in let r : a.map [] ≡ Some Dir = a.lawful.root in absurd (cc)
 off_root_between (At p (Hunk l old new)) a b h = λ e. let k : a.map [] ≡ Some (File h.here.0) = rw e at h.here.2 in let r : a.map [] ≡ Some Dir = a.lawful.root in absurd (cc)
 
 -- what undoes all of es: the inverses, in reversed order
@@ -43,11 +45,11 @@ inverse_all [] = []
 inverse_all (e ∷ es) = inverse_all es ++ inverse e ∷ []
 
 module _ (I : Type 0) where
-  pair : (p q q' p' : Prim) → Commutes p q q' p' → (e f : Effect I) (s t u : Named I) → Steps p e s t → Steps q f t u → (m : Named I) × Steps q' f s m × Steps p' e m u
+  pair : (p q q' p' : Prim) → Commutes p q q' p' → (e f : Effect I) (s t u : NodeMap I) → Steps p e s t → Steps q f t u → (m : NodeMap I) × Steps q' f s m × Steps p' e m u
   pair p q q' p' c e f s t u h k = square_steps I (square_from c.row) e f s t u h k
 
-  cells : {x x' : Prim} {ys ys' : List Prim} → CellRow Commutes x ys ys' x' → (e : Effect I) (fs : List (Effect I)) (s t u : Named I) → Steps x e s t → StepsAll ys fs t u →
-      (m : Named I) × StepsAll ys' fs s m × Steps x' e m u
+  cells : {x x' : Prim} {ys ys' : List Prim} → CellRow Commutes x ys ys' x' → (e : Effect I) (fs : List (Effect I)) (s t u : NodeMap I) → Steps x e s t → StepsAll ys fs t u →
+      (m : NodeMap I) × StepsAll ys' fs s m × Steps x' e m u
   cells {x} none e [] s t u h k = (s, refl, subst (λ z. Steps x e s z) k h)
   cells none e (f ∷ fs) s t u h k = absurd k
   cells (next c r) e [] s t u h k = absurd k
@@ -56,8 +58,8 @@ module _ (I : Type 0) where
       let b = cells r e fs a.0 v u a.2 k in
       (b.0, (a.0, a.1, b.1), b.2)
 
-  rectangle : {xs ys ys' xs' : List Prim} → ListsCommute xs ys ys' xs' → (es fs : List (Effect I)) (s t u : Named I) → StepsAll xs es s t → StepsAll ys fs t u →
-      (m : Named I) × StepsAll ys' fs s m × StepsAll xs' es m u
+  rectangle : {xs ys ys' xs' : List Prim} → ListsCommute xs ys ys' xs' → (es fs : List (Effect I)) (s t u : NodeMap I) → StepsAll xs es s t → StepsAll ys fs t u →
+      (m : NodeMap I) × StepsAll ys' fs s m × StepsAll xs' es m u
   rectangle (empty {ys}) [] fs s t u h k = (u, subst (λ z. StepsAll ys fs z u) (sym h) k, refl)
   rectangle empty (e ∷ es) fs s t u h k = absurd h
   rectangle (row g r) [] fs s t u h k = absurd h
@@ -70,13 +72,13 @@ module _ (I : Type 0) where
   list_effects_stay xs ys ys' xs' g es fs s t u h k = rectangle g es fs s t u h k
 
   -- one list after another
-  pub steps_on : (ps qs : List Prim) (es fs : List (Effect I)) (s t u : Named I) → StepsAll ps es s t → StepsAll qs fs t u → StepsAll (ps ++ qs) (es ++ fs) s u
+  pub steps_on : (ps qs : List Prim) (es fs : List (Effect I)) (s t u : NodeMap I) → StepsAll ps es s t → StepsAll qs fs t u → StepsAll (ps ++ qs) (es ++ fs) s u
   steps_on [] qs [] fs s t u h k = subst (λ z. StepsAll qs fs z u) (sym h) k
   steps_on [] qs (e ∷ es) fs s t u h k = absurd h
   steps_on (p ∷ ps) qs [] fs s t u h k = absurd h
   steps_on (p ∷ ps) qs (e ∷ es) fs s t u (v, i, h) k = (v, i, steps_on ps qs es fs v t u h k)
 
-  all_back : (ps : List Prim) (es : List (Effect I)) (s t : Named I) → StepsAll ps es s t → StepsAll (inv_all ps) (inverse_all es) t s
+  all_back : (ps : List Prim) (es : List (Effect I)) (s t : NodeMap I) → StepsAll ps es s t → StepsAll (inv_all ps) (inverse_all es) t s
   all_back [] [] s t h = sym h
   all_back [] (e ∷ es) s t h = absurd h
   all_back (p ∷ ps) [] s t h = absurd h
@@ -90,7 +92,7 @@ module _ (I : Type 0) where
   inverse_all-inverse_all [] = refl
   inverse_all-inverse_all (e ∷ es) = inverse_all-append (inverse_all es) (inverse e ∷ []) ∙ ap (λ z. e ∷ z) (inverse_all-inverse_all es)
 
-  list_inverses_step_back : (ps : List Prim) (es : List (Effect I)) (s t : Named I) → StepsAll ps es s t ↔ StepsAll (inv_all ps) (inverse_all es) t s
+  list_inverses_step_back : (ps : List Prim) (es : List (Effect I)) (s t : NodeMap I) → StepsAll ps es s t ↔ StepsAll (inv_all ps) (inverse_all es) t s
   list_inverses_step_back ps es s t = (all_back ps es s t, λ h. rw (inv_all-inv_all ps, inverse_all-inverse_all es) at (all_back (inv_all ps) (inverse_all es) t s h))
 
   pub merged_effects_stay : MergedEffectsStay I
@@ -109,7 +111,7 @@ module _ (I : Type 0) where
   introduced ids e h x i = elim (h x i.0) [ inl k ↦ absurd (i.1 k) | inr k ↦ k ]
 
   -- effects that use identities that aren't in s add what is new to s
-  new_to : (ids : List I) (s t : Named I) → ((x : I) → Contains ids x → IsIn x s → ⊥) → (es : List (Effect I)) → ((e : Effect I) → Contains es e → UsesOf ids e) → AllAddNew es t → AllAddNew es s
+  new_to : (ids : List I) (s t : NodeMap I) → ((x : I) → Contains ids x → IsIn x s → ⊥) → (es : List (Effect I)) → ((e : Effect I) → Contains es e → UsesOf ids e) → AllAddNew es t → AllAddNew es s
   new_to ids s t new [] uses all = tt
   new_to ids s t new (e ∷ es) uses (here, apart, all) = (
     record { new = λ x i. new x (introduced ids e (uses e (head_is_in e es)) x i); apart = here.apart },
@@ -118,11 +120,11 @@ module _ (I : Type 0) where
   )
 
   -- what comes of a list: its effects, and the tree that it makes
-  abbrev pub Made : List Prim → Named I → LawfulMap → List I → Type 0
-  Made ps s b ids = (es : List (Effect I)) × (t : Named I) × StepsAll ps es s t × (plain t ≡ b.map) × AllAddNew es s × ((e : Effect I) → Contains es e → UsesOf ids e)
+  abbrev pub Made : List Prim → NodeMap I → LawfulMap → List I → Type 0
+  Made ps s b ids = (es : List (Effect I)) × (t : NodeMap I) × StepsAll ps es s t × (plain t ≡ b.map) × AllAddNew es s × ((e : Effect I) → Contains es e → UsesOf ids e)
 
   -- identities that were not needed for a step are still new after it
-  rest_new : (p : Prim) (e : Effect I) (s u : Named I) (xs ys : List I) → Steps p e s u → UsesOf xs e → Distinct (xs ++ ys) → ((x : I) → Contains (xs ++ ys) x → IsIn x s → ⊥) → (x : I) → Contains ys x → IsIn x u → ⊥
+  rest_new : (p : Prim) (e : Effect I) (s u : NodeMap I) (xs ys : List I) → Steps p e s u → UsesOf xs e → Distinct (xs ++ ys) → ((x : I) → Contains (xs ++ ys) x → IsIn x s → ⊥) → (x : I) → Contains ys x → IsIn x u → ⊥
   rest_new p e s u xs ys h uses apart new x c i = elim (in_after I p e s u h x i) [
     | inl j ↦ new x (Contains-append_right xs ys x c) j
     | inr j ↦ elim (uses x j) [
@@ -131,7 +133,7 @@ module _ (I : Type 0) where
     ]
   ]
 
-  one_more : (p : Prim) (ps : List Prim) (s u : Named I) (e : Effect I) (b : LawfulMap) (xs ys : List I) → Steps p e s u → AddsNew e s → UsesOf xs e → Distinct (xs ++ ys) →
+  one_more : (p : Prim) (ps : List Prim) (s u : NodeMap I) (e : Effect I) (b : LawfulMap) (xs ys : List I) → Steps p e s u → AddsNew e s → UsesOf xs e → Distinct (xs ++ ys) →
       ((x : I) → Contains (xs ++ ys) x → IsIn x s → ⊥) → Made ps u b ys → Made (p ∷ ps) s b (xs ++ ys)
   one_more p ps s u e b xs ys h here uses apart new (es, t, run, is, all, their) = (
     e ∷ es,
@@ -148,12 +150,12 @@ module _ (I : Type 0) where
       share : SharesNone e es
       share d c x i j = distinct-apart xs ys apart x (introduced xs e uses x i) (introduced ys d (their d c) x j)
 
-  made : {ps : List Prim} {a b : LawfulMap} → LeadsAll ps a b → (s : Named I) (ids : List I) → IsTree s → plain s ≡ a.map →
+  made : {ps : List Prim} {a b : LawfulMap} → LeadsAll ps a b → (s : NodeMap I) (ids : List I) → IsTree s → plain s ≡ a.map →
       Distinct ids → enough_for_all ps ≤ length ids → ((x : I) → Contains ids x → IsIn x s → ⊥) → Made ps s b ids
   made done s ids tree is apart k new = ([], s, refl, is, tt, λ e c. absurd (none_in_nil e c))
   made (step {p} {ps} {s = a} {u = m} {z = b} h r) s ids tree is apart k new = go (λ t ys tr i ap l n. made r t ys tr i ap l n) (cut (enough p) ids (omega arith))
     where
-      go : ((t : Named I) (ys : List I) → IsTree t → plain t ≡ m.map → Distinct ys → enough_for_all ps ≤ length ys → ((x : I) → Contains ys x → IsIn x t → ⊥) → Made ps t b ys) →
+      go : ((t : NodeMap I) (ys : List I) → IsTree t → plain t ≡ m.map → Distinct ys → enough_for_all ps ≤ length ys → ((x : I) → Contains ys x → IsIn x t → ⊥) → Made ps t b ys) →
           (xs : List I) × (ys : List I) × (ids ≡ xs ++ ys) × (length xs ≡ enough p) → Made (p ∷ ps) s b ids
       go again (xs, ys, i, n) =
           let parted : Distinct (xs ++ ys) = subst (λ z. Distinct z) i apart in

@@ -6,7 +6,7 @@ use Rattle.dm_tree.specs.Paths.{Name, Path}
 use Rattle.dm_tree.specs.Trees.{Lines, Dir, File, Map, IsLawful, empty_file}
 use Rattle.dm_tree.specs.Changes.{ReplacesLines}
 use Rattle.dm_tree.proofs.Paths.{swap}
-use Rattle.dm_prim.specs.Primitives.{Work, AddFile, RmFile, AddDir, RmDir, Hunk, Prim, At, Move, Changes, WorksAt, AppliesMove, Applies}
+use Rattle.dm_prim.specs.Primitives.{Work, AddFile, RmFile, AddDir, RmDir, Hunk, Binary, Prim, At, Move, ChangePref, Changes, WorksAt, AppliesMove, Applies}
 use Rattle.dm_prim.specs.Table.{IsDirectoryWork}
 use Rattle.dm_prim.proofs.Maps.{path_dec, below_absent, swaps_from}
 use Rattle.dm_prim.proofs.Undoing.{OffRoot, parent_of}
@@ -14,8 +14,9 @@ use Rattle.dm_prim.proofs.Single.{same_map}
 use Rattle.dm_chain.specs.Chains.{Token, Gap, Line, IsChain, HunkSteps, lefts, inner, lines_of, cuts_at, other, Distinct}
 use Rattle.dm_chain.proofs.Members.{none_in_nil, head_is_in, it_is_in, in_cases, distinct-left}
 use Rattle.dm_chain.proofs.Determined.{lefts-cons}
-use Rattle.dm_chain.proofs.Made.{replaced_step}
-use Rattle.dm_facts.specs.Nodes.{Node, Folder, Text, Named, entry_of, plain, IsFile, IsNameIn, IsTree}
+use Rattle.dm_chain.proofs.Made.{replaced_step, lines_have_a_chain}
+use Rattle.dm_chain.proofs.Once.{left_ports}
+use Rattle.dm_facts.specs.Nodes.{Node, Folder, FileWith, NodeMap, entry_of, plain, IsFile, IsNameIn, IsTree}
 use Rattle.dm_facts.specs.Facts.{TokenOf, stands, facts_of, Effect}
 use Rattle.dm_facts.specs.Steps.{Makes, Steps}
 use Rattle.dm_facts.specs.Identities.{subject, IsIn, UsesOf, ports_of, AddsNew, enough}
@@ -24,9 +25,9 @@ use Rattle.dm_facts.proofs.SquareLemmas.{put, put_same, put_other, moves_from}
 
 module _ (I : Type 0) where
   -- p steps from s to a tree that is m, with new identities of the list
-  pub record HasStep (p : Prim) (s : Named I) (m : Map) (ids : List I) : Type 0 where
+  pub record HasStep (p : Prim) (s : NodeMap I) (m : Map) (ids : List I) : Type 0 where
     pub effect : Effect I
-    pub end : Named I
+    pub end : NodeMap I
     pub steps : Steps p effect s end
     pub same : plain end ≡ m
     pub from_list : UsesOf ids effect
@@ -41,7 +42,7 @@ module _ (I : Type 0) where
   ports x [] = refl
   ports x (t ∷ ts) = ap (λ l. t.left ∷ l) (ports x ts)
 
-  module _ (p : Path) (w : Work) (s : Named I) (m : Map) (ids : List I) (tree : IsTree s) (off : p ≢ []) (h : WorksAt p w (plain s) m) where
+  module _ (p : Path) (w : Work) (s : NodeMap I) (m : Map) (ids : List I) (tree : IsTree s) (off : p ≢ []) (h : WorksAt p w (plain s) m) where
     -- p stands in a directory, where something is there
     named : plain s p ≢ None → (d : I) × (n : Name) × IsNameIn p d n s
     named k = name_of I p s (parent_of (plain s) (tree_lawful I s tree) p off k)
@@ -77,16 +78,16 @@ module _ (I : Type 0) where
   empty_chain x a b z = record { leads = (refl, (refl, (refl, refl))); has_lines = λ e. let k : [] ∷ [] ≡ [] = e in cc }
 
   -- the file is one of those in s, so its ports are identities there
-  in_file : (s : Named I) (p : Path) (x : I) (c front taken back : List (Token I)) (y : I) → s p ≡ Some (Text x c) → c ≡ front ++ (taken ++ back) → Contains (lefts taken) y → IsIn y s
+  in_file : (s : NodeMap I) (p : Path) (x : I) (c front taken back : List (Token I)) (y : I) → s p ≡ Some (FileWith x c) → c ≡ front ++ (taken ++ back) → Contains (lefts taken) y → IsIn y s
   in_file s p x c front taken back y is e k = (
     p,
-    Text x c,
+    FileWith x c,
     is,
     inr (rw (e, map-append (λ t. t.left) front (taken ++ back), map-append (λ t. t.left) taken back)
         (Contains-append_right (lefts front) (lefts taken ++ lefts back) y (Contains-append_left (lefts taken) (lefts back) y k))),
   )
 
-  module _ (p : Path) (s : Named I) (m : Map) (ids : List I) (tree : IsTree s) (off : p ≢ []) (apart : Distinct ids) (new : (x : I) → Contains ids x → IsIn x s → ⊥) where
+  module _ (p : Path) (s : NodeMap I) (m : Map) (ids : List I) (tree : IsTree s) (off : p ≢ []) (apart : Distinct ids) (new : (x : I) → Contains ids x → IsIn x s → ⊥) where
     adds_file : WorksAt p AddFile (plain s) m → (is : List I) → ids ≡ is → 4 ≤ length is → HasStep (At p AddFile) s m ids
     adds_file h [] i k = absurd (omega arith)
     adds_file h (x ∷ []) i k = absurd (omega arith)
@@ -94,7 +95,7 @@ module _ (I : Type 0) where
     adds_file h (x ∷ a ∷ b ∷ []) i k = absurd (omega arith)
     adds_file h (x ∷ a ∷ b ∷ z ∷ rest) i k =
         let r = name_of I p s h.around in
-        let node : Node I = Text x (empty_tokens x a b z) in
+        let node : Node I = FileWith x (empty_tokens x a b z) in
         work_step p AddFile s m ids tree off h r.0 r.1 (Some node) (record { taken = []; added = facts_of node r.0 r.1 }) r.2 (λ d. absurd d)
         (record { node = node; is = ((z, empty_chain x a b z), refl); nothing = none_of I (s p) h.here.0; there = refl; effect = refl })
         (sym h.here.1) (λ y c. inr (rw i (listed y c))) (distinct-left (x ∷ a ∷ b ∷ []) (z ∷ rest) (rw i at apart))
@@ -117,9 +118,9 @@ module _ (I : Type 0) where
     removes_file h =
         let r = named p RmFile s m ids tree off h (λ k. let z : plain s p ≡ Some empty_file = h.here.0 in cc) in
         let f = text_of I (s p) ([] ∷ []) h.here.0 in
-        let e : Effect I = record { taken = facts_of (Text f.0 f.1) r.0 r.1; added = [] } in
+        let e : Effect I = record { taken = facts_of (FileWith f.0 f.1) r.0 r.1; added = [] } in
         work_step p RmFile s m ids tree off h r.0 r.1 None e r.2 (λ d. absurd d)
-        (record { node = Text f.0 f.1; is = ((tree.files p f.0 f.1 f.2).0, f.3); nothing = refl; there = f.2; effect = refl })
+        (record { node = FileWith f.0 f.1; is = ((tree.files p f.0 f.1 f.2).0, f.3); nothing = refl; there = f.2; effect = refl })
         (sym h.here.1) (takes_alone e ids refl) tt
 
     removes_folder : WorksAt p RmDir (plain s) m → HasStep (At p RmDir) s m ids
@@ -141,11 +142,11 @@ module _ (I : Type 0) where
             let file = (tree.files p f.0 f.1 f.2).0 in
             made r.0 r.1 r.2 f.0 f.1 f.2 file ls' is' (replaced_step I f.0 file.0 l old more ls' f.1 ids file.1 (subst (λ z. ReplacesLines l old more z ls') (sym f.3) rep) k)
           where
-            made : (d : I) (n : Name) → IsNameIn p d n s → (x : I) (c : List (Token I)) → s p ≡ Some (Text x c) → IsFile x c → (ls' : Lines) → m p ≡ Some (File ls') →
+            made : (d : I) (n : Name) → IsNameIn p d n s → (x : I) (c : List (Token I)) → s p ≡ Some (FileWith x c) → IsFile x c → (ls' : Lines) → m p ≡ Some (File ls') →
                 (taken : List (Token I)) × (added : List (Token I)) × (c' : List (Token I)) × (rest : List I) ×
                 HunkSteps l old more taken added c c' × (lines_of c' ≡ ls') × (ids ≡ inner added ++ rest) → HasStep (At p (Hunk l old more)) s m ids
             made d n placed x c is file ls' is' (taken, added, c', rest, step, lines, all) =
-                work_step p (Hunk l old more) s m ids tree off h d n (Some (Text x c')) (record { taken = map (TokenOf x) taken; added = map (TokenOf x) added }) placed (λ i. absurd i)
+                work_step p (Hunk l old more) s m ids tree off h d n (Some (FileWith x c')) (record { taken = map (TokenOf x) taken; added = map (TokenOf x) added }) placed (λ i. absurd i)
                 (record { file = x; tokens = c; tokens' = c'; taken = taken; added = added; stood = is; there = refl; is_file = file; replaced = step; effect = refl })
                 (ap (λ z. Some (File z)) lines ∙ sym is') listed (rw (ports x added, of_added) (λ k. new step.from (from_inner step.from k) from_in, inner_apart))
               where
@@ -173,14 +174,46 @@ module _ (I : Type 0) where
                   | inr i ↦ inr (from_inner y i)
                 ]
 
-  moves : (a b : Path) (s : Named I) (m : Map) (ids : List I) → IsTree s → AppliesMove a b (plain s) m → HasStep (Move a b) s m ids
+    rewrites_file : (old more : Lines) → WorksAt p (Binary old more) (plain s) m → 2 * length more ≤ length ids → HasStep (At p (Binary old more)) s m ids
+    rewrites_file old more h k =
+        let r = named p (Binary old more) s m ids tree off h (λ k. let z : plain s p ≡ Some (File old) = h.here.0 in cc) in
+        let f = text_of I (s p) old h.here.0 in
+        let file = (tree.files p f.0 f.1 f.2).0 in
+        made r.0 r.1 r.2 f.0 f.1 file.0 f.2 file.1 f.3 (lines_have_a_chain I f.0 file.0 more ids h.here.2 k)
+      where
+        made : (d : I) (n : Name) → IsNameIn p d n s → (x : I) (c : List (Token I)) (last : I) → s p ≡ Some (FileWith x c) → IsChain x c last → lines_of c ≡ old →
+            (c' : List (Token I)) × (rest : List I) × IsChain x c' last × (lines_of c' ≡ more) × (ids ≡ inner c' ++ rest) → HasStep (At p (Binary old more)) s m ids
+        made d n placed x c last is chain was (c', rest, chain', lines, all) =
+            work_step p (Binary old more) s m ids tree off h d n (Some (FileWith x c')) (record { taken = map (TokenOf x) c; added = map (TokenOf x) c' }) placed (λ i. absurd i)
+            (record { file = x; tokens = c; tokens' = c'; stood = is; there = refl; was_file = (last, chain); is_file = (last, chain'); old_is = was; new_is = lines; effect = refl })
+            (ap (λ z. Some (File z)) lines ∙ sym h.here.1) listed (rw (ports x c', of_new) (λ k. new x (from_inner x k) (p, FileWith x c, is, inl refl), inner_apart))
+          where
+            of_new : lefts c' ≡ x ∷ inner c'
+            of_new = left_ports I x last c' chain'
+
+            of_old : lefts c ≡ x ∷ inner c
+            of_old = left_ports I x last c chain
+
+            from_inner : (y : I) → Contains (inner c') y → Contains ids y
+            from_inner y k = rw all (Contains-append_left (inner c') rest y k)
+
+            inner_apart : Distinct (inner c')
+            inner_apart = distinct-left (inner c') rest (rw all at apart)
+
+            listed : UsesOf ids (record { taken = map (TokenOf x) c; added = map (TokenOf x) c' })
+            listed y k = elim (in_cases x y (inner c') (rw (subjects x c', of_new) at k)) [
+              | inl e ↦ inl (rw (subjects x c, of_old, ← e) (head_is_in x (inner c)))
+              | inr i ↦ inr (from_inner y i)
+            ]
+
+  moves : (a b : Path) (s : NodeMap I) (m : Map) (ids : List I) → IsTree s → AppliesMove a b (plain s) m → HasStep (Move a b) s m ids
   moves a b s m ids tree h =
       let l : IsLawful (plain s) = tree_lawful I s tree in
       let sw = swaps_from a b (plain s) m l h in
       let node = some_of I (s a) (λ k. sw.present (ap (option_map entry_of) k)) in
       let from = name_of I a s (parent_of (plain s) l a (λ e. sw.apart.right (rw e (b, refl))) sw.present) in
       let to = name_of I b s sw.parent in
-      let t : Named I = λ q. s (swap a b q) in
+      let t : NodeMap I = λ q. s (swap a b q) in
       let e : Effect I = record { taken = stands node.0 from.0 from.1 ∷ []; added = stands node.0 to.0 to.1 ∷ [] } in
       record {
         effect = e;
@@ -206,24 +239,27 @@ module _ (I : Type 0) where
     where
       no_new : (x : Node I) (d d' : I) (n n' : Name) (y : I) → Contains (map subject (stands x d' n' ∷ [])) y → Contains (map subject (stands x d n ∷ [])) y
       no_new (Folder x) d d' n n' y k = k
-      no_new (Text x c) d d' n n' y k = k
+      no_new (FileWith x c) d d' n n' y k = k
 
       no_port : (x : Node I) (d : I) (n : Name) → Distinct (ports_of (stands x d n ∷ []))
       no_port (Folder x) d n = tt
-      no_port (Text x c) d n = tt
+      no_port (FileWith x c) d n = tt
 
-  pub has_step : (p : Prim) (s : Named I) (m : Map) (ids : List I) → OffRoot p → IsTree s → Applies p (plain s) m →
+  pub has_step : (p : Prim) (s : NodeMap I) (m : Map) (ids : List I) → OffRoot p → IsTree s → Applies p (plain s) m →
       Distinct ids → enough p ≤ length ids → ((x : I) → Contains ids x → IsIn x s → ⊥) → HasStep p s m ids
   has_step (At p AddFile) s m ids off tree h a k new = adds_file p s m ids tree off a new h ids refl k
   has_step (At p RmFile) s m ids off tree h a k new = removes_file p s m ids tree off a new h
   has_step (At p AddDir) s m ids off tree h a k new = adds_folder p s m ids tree off a new h ids refl k
   has_step (At p RmDir) s m ids off tree h a k new = removes_folder p s m ids tree off a new h
   has_step (At p (Hunk l old more)) s m ids off tree h a k new = edits_file p s m ids tree off a new l old more h k
+  has_step (At p (Binary old more)) s m ids off tree h a k new = rewrites_file p s m ids tree off a new old more h k
   has_step (Move a b) s m ids off tree h d k new = moves a b s m ids tree h
+  has_step (ChangePref name old new) s m ids off tree h a k more =
+      let e : Effect I = record { taken = []; added = [] } in record { effect = e; end = s; steps = (refl, refl); same = sym h; from_list = takes_alone e ids refl; apart = tt }
 
   -- what applies to a tree with its identities left out is a step of that tree
-  pub steps_off_root : (p : Prim) (s : Named I) (m : Map) (ids : List I) → OffRoot p → IsTree s → Applies p (plain s) m → Distinct ids → enough p ≤ length ids →
-      ((x : I) → Contains ids x → IsIn x s → ⊥) → (e : Effect I) × (t : Named I) × Steps p e s t × (plain t ≡ m) × AddsNew e s × UsesOf ids e
+  pub steps_off_root : (p : Prim) (s : NodeMap I) (m : Map) (ids : List I) → OffRoot p → IsTree s → Applies p (plain s) m → Distinct ids → enough p ≤ length ids →
+      ((x : I) → Contains ids x → IsIn x s → ⊥) → (e : Effect I) × (t : NodeMap I) × Steps p e s t × (plain t ≡ m) × AddsNew e s × UsesOf ids e
   steps_off_root p s m ids off tree h a k new =
       let r = has_step p s m ids off tree h a k new in
       (r.effect, r.end, r.steps, r.same, record { new = λ x i. new x (elim (r.from_list x i.0) [ inl k ↦ absurd (i.1 k) | inr k ↦ k ]); apart = r.apart }, r.from_list)

@@ -3,17 +3,17 @@ use Rattle.std.proofs.Common.{◌≡◌, ◌≢◌, ℕ, List, [], ◌∷◌, �
 use Rattle.dm_tree.specs.Paths.{Name, Path, Inside, Apart}
 use Rattle.dm_tree.specs.Trees.{Lines, Dir}
 use Rattle.dm_tree.proofs.Paths.{Place, in_left, in_right, outside, place, apart_sym, swap, swap-left, swap-right, swap-other, swap-swap, swap_inj, swap_turn, Clear, swap-append}
-use Rattle.dm_prim.specs.Primitives.{Work, AddFile, RmFile, AddDir, RmDir, Hunk, Prim, At, Move, inv_work}
-use Rattle.dm_prim.specs.Table.{IsHunk, WorkAndWork, TableRow}
+use Rattle.dm_prim.specs.Primitives.{Work, AddFile, RmFile, AddDir, RmDir, Hunk, Binary, Prim, At, Move, inv_work}
+use Rattle.dm_prim.specs.Table.{KeepsFile, WorkAndWork, TableRow}
 use Rattle.dm_prim.proofs.Maps.{path_dec, child_differs, swap_child}
 use Rattle.dm_prim.proofs.Undoing.{swap_left, swap_right}
-use Rattle.dm_prim.proofs.Squares.{Beside, Passing, Square, hunk_down, hunk_up, free, then_move, move_then, moves, beside_clear, beside_moved, beside_inv, passing_turn, passing_clear, passing_moved, same_under}
+use Rattle.dm_prim.proofs.Squares.{Beside, Passing, Square, hunk_down, hunk_up, free, then_move, move_then, moves, pref_then, then_pref, beside_clear, beside_moved, beside_inv, passing_turn, passing_clear, passing_moved, same_under}
 use Rattle.dm_prim.proofs.TableRows.{row_from}
 use Rattle.dm_prim.proofs.Ends.{dir_before, dir_after, passing_cross, inv_twice}
 use Rattle.dm_chain.specs.Chains.{Token, HunkSteps}
 use Rattle.dm_chain.proofs.Stepping.{steps_keep_chains}
 use Rattle.dm_chain.proofs.Commuted.{commuted_alike}
-use Rattle.dm_facts.specs.Nodes.{Node, Text, Named, entry_of, IsNameIn}
+use Rattle.dm_facts.specs.Nodes.{Node, FileWith, NodeMap, entry_of, IsNameIn}
 use Rattle.dm_facts.specs.Facts.{Effect, inverse, stands}
 use Rattle.dm_facts.specs.Steps.{Edits, Makes, StepsAt, StepsMove, Steps}
 use Rattle.dm_facts.proofs.StepLemmas.{changes}
@@ -41,11 +41,11 @@ put_other t p e q n = go (path_dec q p) refl
 
 module _ (I : Type 0) where
   -- q' then p' make u of s, with these effects
-  abbrev pub BothStep : Prim → Prim → Effect I → Effect I → Named I → Named I → Type 0
-  BothStep q' p' f e s u = (m : Named I) × Steps q' f s m × Steps p' e m u
+  abbrev pub BothStep : Prim → Prim → Effect I → Effect I → NodeMap I → NodeMap I → Type 0
+  BothStep q' p' f e s u = (m : NodeMap I) × Steps q' f s m × Steps p' e m u
 
   -- a move, seen as a swap
-  pub record Swaps (a b : Path) (e : Effect I) (s t : Named I) : Type 0 where
+  pub record Swaps (a b : Path) (e : Effect I) (s t : NodeMap I) : Type 0 where
     pub apart : Apart a b
     pub node : Node I
     pub stood : s a ≡ Some node
@@ -59,7 +59,7 @@ module _ (I : Type 0) where
     pub is : (p : Path) → t p ≡ s (swap a b p)
     pub effect : e ≡ record { taken = stands node from old_name ∷ []; added = stands node to new_name ∷ [] }
 
-  pub swaps_from : (a b : Path) (e : Effect I) (s t : Named I) → StepsMove a b e s t → Swaps a b e s t
+  pub swaps_from : (a b : Path) (e : Effect I) (s t : NodeMap I) → StepsMove a b e s t → Swaps a b e s t
   swaps_from a b e s t h = record {
     apart = h.apart;
     node = h.node;
@@ -80,7 +80,7 @@ module _ (I : Type 0) where
       go p (in_right r i) = rw (i, swap-right a b r h.apart) (h.there r)
       go p (outside x y) = rw (swap-other a b p x y) (h.elsewhere p x y)
 
-  pub moves_from : (a b : Path) (e : Effect I) (s t : Named I) → Swaps a b e s t → StepsMove a b e s t
+  pub moves_from : (a b : Path) (e : Effect I) (s t : NodeMap I) → Swaps a b e s t → StepsMove a b e s t
   moves_from a b e s t h = record {
     apart = h.apart;
     node = h.node;
@@ -99,7 +99,7 @@ module _ (I : Type 0) where
   }
 
   -- a name seen through a swap
-  pub name_swapped : (a b f : Path) (d : I) (n : Name) (s t : Named I) → Apart a b → f ≢ a → f ≢ b → ((p : Path) → t p ≡ s (swap a b p)) → IsNameIn f d n s → IsNameIn (swap a b f) d n t
+  pub name_swapped : (a b f : Path) (d : I) (n : Name) (s t : NodeMap I) → Apart a b → f ≢ a → f ≢ b → ((p : Path) → t p ≡ s (swap a b p)) → IsNameIn f d n s → IsNameIn (swap a b f) d n t
   name_swapped a b f d n s t ab na nb is h = record {
     parent = swap a b h.parent;
     is = rw h.is (swap_child a b h.parent n ab (λ k. na (h.is ∙ k)) (λ k. nb (h.is ∙ k)));
@@ -107,11 +107,11 @@ module _ (I : Type 0) where
   }
 
   -- what is at and inside a path that contains neither end, through a swap
-  free_swapped : (a b p : Path) (s t : Named I) → Apart a b → Clear a b p → ((q : Path) → t q ≡ s (swap a b q)) → ((r : Path) → s (p ++ r) ≡ None) → (r : Path) → t (swap a b p ++ r) ≡ None
+  free_swapped : (a b p : Path) (s t : NodeMap I) → Apart a b → Clear a b p → ((q : Path) → t q ≡ s (swap a b q)) → ((r : Path) → s (p ++ r) ≡ None) → (r : Path) → t (swap a b p ++ r) ≡ None
   free_swapped a b p s t ab c is bare r = is (swap a b p ++ r) ∙ rw (← swap-append a b p r ab c, swap-swap a b (p ++ r) ab) (bare r)
 
   -- two moves
-  moves_step : (a b c d : Path) → Passing a b c d → (e f : Effect I) (s t u : Named I) → StepsMove a b e s t → StepsMove (swap a b c) (swap a b d) f t u →
+  moves_step : (a b c d : Path) → Passing a b c d → (e f : Effect I) (s t u : NodeMap I) → StepsMove a b e s t → StepsMove (swap a b c) (swap a b d) f t u →
       BothStep (Move c d) (Move (swap c d a) (swap c d b)) f e s u
   moves_step a b c d p e f s t u h k = (m, moves_from c d f s m first, moves_from (swap c d a) (swap c d b) e m u second)
     where
@@ -121,7 +121,7 @@ module _ (I : Type 0) where
       y : Swaps (swap a b c) (swap a b d) f t u
       y = swaps_from (swap a b c) (swap a b d) f t u k
 
-      m : Named I
+      m : NodeMap I
       m = λ q. s (swap c d q)
 
       back : (q : Path) → t (swap a b q) ≡ s q
@@ -171,7 +171,7 @@ module _ (I : Type 0) where
   -- work on two paths
 
   -- a change at g leaves the name f where it is
-  name_carried : (f : Path) (d : I) (n : Name) (g : Path) (s t : Named I) → ((q : Path) → q ≢ g → t q ≡ s q) → (option_map entry_of (s g) ≡ Some Dir → Apart f g) → IsNameIn f d n s → IsNameIn f d n t
+  name_carried : (f : Path) (d : I) (n : Name) (g : Path) (s t : NodeMap I) → ((q : Path) → q ≢ g → t q ≡ s q) → (option_map entry_of (s g) ≡ Some Dir → Apart f g) → IsNameIn f d n s → IsNameIn f d n t
   name_carried f d n g s t same dir h = name_kept I f d n s t h (at (path_dec h.parent g))
     where
       at : (h.parent ≡ g) ⊎ (h.parent ≢ g) → t h.parent ≡ s h.parent
@@ -181,10 +181,10 @@ module _ (I : Type 0) where
   makes_at : (w : Work) (d : I) (n : Name) (x x' y y' : Option (Node I)) (e : Effect I) → Makes w d n x x' e → y ≡ x → y' ≡ x' → Makes w d n y y' e
   makes_at w d n x x' y y' e h i j = rw (i, j) h
 
-  works_step : (f : Path) (w : Work) (g : Path) (v : Work) → WorkAndWork f w g v → (x y : Effect I) (s t u : Named I) → StepsAt f w x s t → StepsAt g v y t u → BothStep (At g v) (At f w) y x s u
+  works_step : (f : Path) (w : Work) (g : Path) (v : Work) → WorkAndWork f w g v → (x y : Effect I) (s t u : NodeMap I) → StepsAt f w x s t → StepsAt g v y t u → BothStep (At g v) (At f w) y x s u
   works_step f w g v c x y s t u h k = (m, first, second)
     where
-      m : Named I
+      m : NodeMap I
       m = put s g (u g)
 
       en : g ≢ f
@@ -218,10 +218,10 @@ module _ (I : Type 0) where
 
   -- hunks of one file
 
-  module _ (f : Path) (l1 l2 m k : ℕ) (o1 n1 o2 n2 : Lines) (x y : Effect I) (s t u : Named I) (h : StepsAt f (Hunk l1 o1 n1) x s t) (j : StepsAt f (Hunk l2 o2 n2) y t u) where
+  module _ (f : Path) (l1 l2 m k : ℕ) (o1 n1 o2 n2 : Lines) (x y : Effect I) (s t u : NodeMap I) (h : StepsAt f (Hunk l1 o1 n1) x s t) (j : StepsAt f (Hunk l2 o2 n2) y t u) where
     -- the file with these gaps and lines between
-    abbrev between : I → List (Token I) → Named I
-    between file via = put s f (Some (Text file via))
+    abbrev between : I → List (Token I) → NodeMap I
+    between file via = put s f (Some (FileWith file via))
 
     hunks_via : (p : Edits l1 o1 n1 (s f) (t f) x) (q : Edits l2 o2 n2 (t f) (u f) y) → q.file ≡ p.file → (via : List (Token I)) →
         HunkSteps m o2 n2 q.taken q.added p.tokens via → HunkSteps k o1 n1 p.taken p.added via q.tokens' → BothStep (At f (Hunk m o2 n2)) (At f (Hunk k o1 n1)) y x s u
@@ -239,17 +239,17 @@ module _ (I : Type 0) where
           taken = q.taken;
           added = q.added;
           stood = p.stood;
-          there = put_same s f (Some (Text p.file via));
+          there = put_same s f (Some (FileWith p.file via));
           is_file = p.is_file;
           replaced = left;
           effect = rw (← one) q.effect;
         };
-        elsewhere = λ z n. put_other s f (Some (Text p.file via)) z n;
+        elsewhere = λ z n. put_other s f (Some (FileWith p.file via)) z n;
       },
       record {
         directory = h.directory;
         name = h.name;
-        placed = name_kept I f h.directory h.name s (between p.file via) h.placed (put_other s f (Some (Text p.file via)) h.placed.parent (λ i. child_differs f h.name (sym (rw i at h.placed.is))));
+        placed = name_kept I f h.directory h.name s (between p.file via) h.placed (put_other s f (Some (FileWith p.file via)) h.placed.parent (λ i. child_differs f h.name (sym (rw i at h.placed.is))));
         empty = λ i. absurd i;
         here = record {
           file = p.file;
@@ -257,13 +257,13 @@ module _ (I : Type 0) where
           tokens' = q.tokens';
           taken = p.taken;
           added = p.added;
-          stood = put_same s f (Some (Text p.file via));
-          there = q.there ∙ ap (λ z. Some (Text z q.tokens')) one;
+          stood = put_same s f (Some (FileWith p.file via));
+          there = q.there ∙ ap (λ z. Some (FileWith z q.tokens')) one;
           is_file = (p.is_file.0, steps_keep_chains I p.file p.is_file.0 m o2 n2 q.taken q.added p.tokens via p.is_file.1 left);
           replaced = right;
           effect = p.effect;
         };
-        elsewhere = λ z n. j.elsewhere z n ∙ h.elsewhere z n ∙ sym (put_other s f (Some (Text p.file via)) z n);
+        elsewhere = λ z n. j.elsewhere z n ∙ h.elsewhere z n ∙ sym (put_other s f (Some (FileWith p.file via)) z n);
       },
     )
 
@@ -279,23 +279,25 @@ module _ (I : Type 0) where
 
   -- work, then a move
 
-  any_name : (w : Work) (d d' : I) (n n' : Name) (o o' : Option (Node I)) (e : Effect I) → IsHunk w → Makes w d n o o' e → Makes w d' n' o o' e
+  any_name : (w : Work) (d d' : I) (n n' : Name) (o o' : Option (Node I)) (e : Effect I) → KeepsFile w → Makes w d n o o' e → Makes w d' n' o o' e
   any_name AddFile d d' n n' o o' e i h = absurd i
   any_name RmFile d d' n n' o o' e i h = absurd i
   any_name AddDir d d' n n' o o' e i h = absurd i
   any_name RmDir d d' n n' o o' e i h = absurd i
   any_name (Hunk l old new) d d' n n' o o' e i h = h
+  any_name (Binary old new) d d' n n' o o' e i h = h
 
-  -- what a hunk finds stands where what it leaves does
-  stands_alike : (w : Work) (d : I) (n : Name) (o o' : Option (Node I)) (e : Effect I) (x : Node I) → IsHunk w → Makes w d n o o' e → o' ≡ Some x →
+  -- what work finds that keeps the file stands where what it leaves does
+  stands_alike : (w : Work) (d : I) (n : Name) (o o' : Option (Node I)) (e : Effect I) (x : Node I) → KeepsFile w → Makes w d n o o' e → o' ≡ Some x →
       (y : Node I) × (o ≡ Some y) × ((d : I) (n : Name) → stands y d n ≡ stands x d n)
   stands_alike AddFile d n o o' e x i h j = absurd i
   stands_alike RmFile d n o o' e x i h j = absurd i
   stands_alike AddDir d n o o' e x i h j = absurd i
   stands_alike RmDir d n o o' e x i h j = absurd i
-  stands_alike (Hunk l old new) d n o o' e x i h j = let z : Text h.file h.tokens' ≡ x = (cc (h.there, j)) in (Text h.file h.tokens, h.stood, λ d n. rw (← z))
+  stands_alike (Hunk l old new) d n o o' e x i h j = let z : FileWith h.file h.tokens' ≡ x = (cc (h.there, j)) in (FileWith h.file h.tokens, h.stood, λ d n. rw (← z))
+  stands_alike (Binary old new) d n o o' e x i h j = let z : FileWith h.file h.tokens' ≡ x = (cc (h.there, j)) in (FileWith h.file h.tokens, h.stood, λ d n. rw (← z))
 
-  work_then_move : (f : Path) (w : Work) (a b : Path) → Beside f w a b → (x y : Effect I) (s t u : Named I) → StepsAt f w x s t → StepsMove a b y t u → BothStep (Move a b) (At (swap a b f) w) y x s u
+  work_then_move : (f : Path) (w : Work) (a b : Path) → Beside f w a b → (x y : Effect I) (s t u : NodeMap I) → StepsAt f w x s t → StepsMove a b y t u → BothStep (Move a b) (At (swap a b f) w) y x s u
   work_then_move f w a b c x y s t u h k = (m, moves_from a b y s m first, second (path_dec f a))
     where
       d : Apart a b
@@ -304,7 +306,7 @@ module _ (I : Type 0) where
       sw : Swaps a b y t u
       sw = swaps_from a b y t u k
 
-      m : Named I
+      m : NodeMap I
       m = λ p. s (swap a b p)
 
       -- no name of f's own ends above f
@@ -312,7 +314,7 @@ module _ (I : Type 0) where
       off p q n i out j = out (n, [], rw (← j) i)
 
       node : (a ≡ f) ⊎ (a ≢ f) → (z : Node I) × (s a ≡ Some z) × ((d : I) (n : Name) → stands z d n ≡ stands sw.node d n)
-      node (inl i) = let r = stands_alike w h.directory h.name (s f) (t f) x sw.node (c.hunk_at_a (sym i)) h.here (ap t (sym i) ∙ sw.stood) in (r.0, ap s i ∙ r.1, r.2)
+      node (inl i) = let r = stands_alike w h.directory h.name (s f) (t f) x sw.node (c.keeps_at_a (sym i)) h.here (ap t (sym i) ∙ sw.stood) in (r.0, ap s i ∙ r.1, r.2)
       node (inr i) = (sw.node, sym (h.elsewhere a i) ∙ sw.stood, λ d n. refl)
 
       z : (z : Node I) × (s a ≡ Some z) × ((d : I) (n : Name) → stands z d n ≡ stands sw.node d n)
@@ -360,11 +362,11 @@ module _ (I : Type 0) where
 
       second : (f ≡ a) ⊎ (f ≢ a) → StepsAt (swap a b f) w x m u
       second (inl i) = works sw.to sw.new_name (subst (λ p. IsNameIn p sw.to sw.new_name m) (sym (ap (swap a b) i ∙ swap_left a b)) there)
-          (any_name w h.directory sw.to h.name sw.new_name (m (swap a b f)) (u (swap a b f)) x (c.hunk_at_a i) here)
+          (any_name w h.directory sw.to h.name sw.new_name (m (swap a b f)) (u (swap a b f)) x (c.keeps_at_a i) here)
       second (inr i) = works h.directory h.name (name_swapped a b f h.directory h.name s m d i (λ j. c.target.left (same_under f b j)) (λ p. refl) h.placed) here
 
   -- a move, then work: what leads from u to s, undone
-  move_then_work : (f : Path) (w : Work) (a b : Path) → Beside f w a b → (x y : Effect I) (s t u : Named I) → StepsMove a b x s t → StepsAt (swap a b f) w y t u → BothStep (At f w) (Move a b) y x s u
+  move_then_work : (f : Path) (w : Work) (a b : Path) → Beside f w a b → (x y : Effect I) (s t u : NodeMap I) → StepsMove a b x s t → StepsAt (swap a b f) w y t u → BothStep (At f w) (Move a b) y x s u
   move_then_work f w a b c x y s t u h k =
       let d : Apart a b = c.move_apart in
       let near : Beside (swap a b f) (inv_work w) b a = beside_inv (swap a b f) w b a (beside_moved f w a b c) in
@@ -372,10 +374,12 @@ module _ (I : Type 0) where
       let v = works_back I (swap b a (swap a b f)) (inv_work w) (inverse y) r.0 s r.2 in
       (r.0, rw (swap_turn b a (swap a b f) (apart_sym d), swap-swap a b f d, inv_twice w) at v, moves_back I b a (inverse x) u r.0 r.1)
 
-  pub square_steps : {p q q' p' : Prim} → Square p q q' p' → (e f : Effect I) (s t u : Named I) → Steps p e s t → Steps q f t u → BothStep q' p' f e s u
+  pub square_steps : {p q q' p' : Prim} → Square p q q' p' → (e f : Effect I) (s t u : NodeMap I) → Steps p e s t → Steps q f t u → BothStep q' p' f e s u
   square_steps (hunk_down {f} {l1} {l2} {l2'} {o1} {n1} {o2} {n2} c e) x y s t u h k = hunks_step f l1 l2 l2' l1 o1 n1 o2 n2 x y s t u h k (row_from (hunk_down c e))
   square_steps (hunk_up {f} {l1} {l2} {l1'} {o1} {n1} {o2} {n2} c e) x y s t u h k = hunks_step f l1 l2 l2 l1' o1 n1 o2 n2 x y s t u h k (row_from (hunk_up c e))
   square_steps (free {f} {g} {w} {v} c) x y s t u h k = works_step f w g v c x y s t u h k
   square_steps (then_move {f} {f'} {a} {b} {w} c e) x y s t u h k = rw e (work_then_move f w a b c x y s t u h k)
   square_steps (move_then {f} {f'} {a} {b} {w} c e) x y s t u h k = move_then_work f w a b c x y s t u h (rw e at k)
   square_steps (moves {a} {b} {c} {d} {a'} {b'} {c'} {d'} p ec ed ea eb) x y s t u h k = rw (ea, eb) (moves_step a b c d p x y s t u h (rw (ec, ed) at k))
+  square_steps (pref_then {q = q} c) x y s t u h k = (u, subst (λ z. Steps q y z u) (sym h.0) k, (refl, h.1))
+  square_steps (then_pref {p = p} c) x y s t u h k = (s, (refl, k.1), subst (λ z. Steps p x s z) k.0 h)

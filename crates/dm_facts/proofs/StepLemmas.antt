@@ -1,16 +1,16 @@
 -- Steps of a tree with identities are steps of the tree with none.
-use Rattle.std.proofs.Common.{◌≡◌, [], Option, Some, None, option_map, refl, ap, ◌∙◌, append-nil}
+use Rattle.std.proofs.Common.{◌≡◌, [], Option, Some, None, option_map, refl, sym, ap, ◌∙◌, append-nil}
 use Rattle.dm_tree.specs.Paths.{Name, Path}
 use Rattle.dm_tree.specs.Trees.{Entry, Dir, File, HasParent, empty_file}
-use Rattle.dm_prim.specs.Primitives.{Work, AddFile, RmFile, AddDir, RmDir, Hunk, Prim, At, Move, Changes, Around, Applies}
+use Rattle.dm_prim.specs.Primitives.{Work, AddFile, RmFile, AddDir, RmDir, Hunk, Binary, Prim, At, Move, ChangePref, Changes, Around, Applies}
 use Rattle.dm_chain.specs.Chains.{lines_of}
 use Rattle.dm_chain.proofs.Stepping.{steps_replace}
-use Rattle.dm_facts.specs.Nodes.{Node, Folder, Text, Named, IsFolder, IsEmptyFile, entry_of, plain, IsNameIn}
+use Rattle.dm_facts.specs.Nodes.{Node, Folder, FileWith, NodeMap, IsFolder, IsEmptyFile, entry_of, plain, IsNameIn}
 use Rattle.dm_facts.specs.Facts.{Effect}
 use Rattle.dm_facts.specs.Steps.{Creates, Makes, StepsAt, Steps}
 
 module _ (I : Type 0) where
-  parent_of : (p : Path) (d : I) (n : Name) (s : Named I) → IsNameIn p d n s → HasParent p (plain s)
+  parent_of : (p : Path) (d : I) (n : Name) (s : NodeMap I) → IsNameIn p d n s → HasParent p (plain s)
   parent_of p d n s h = (h.parent, n, h.is, ap (option_map entry_of) h.folder)
 
   creates : (Is : Node I → Type 0) (k : Entry) → ((x : Node I) → Is x → entry_of x ≡ k) → (d : I) (n : Name) (o o' : Option (Node I)) (e : Effect I) →
@@ -19,11 +19,11 @@ module _ (I : Type 0) where
 
   empty_is : (x : Node I) → IsEmptyFile x → entry_of x ≡ empty_file
   empty_is (Folder x) h = absurd h
-  empty_is (Text x c) h = ap File h.1
+  empty_is (FileWith x c) h = ap File h.1
 
   folder_is : (x : Node I) → IsFolder x → entry_of x ≡ Dir
   folder_is (Folder x) h = refl
-  folder_is (Text x c) h = absurd h
+  folder_is (FileWith x c) h = absurd h
 
   pub changes : (w : Work) (d : I) (n : Name) (o o' : Option (Node I)) (e : Effect I) → Makes w d n o o' e → Changes w (option_map entry_of o) (option_map entry_of o')
   changes AddFile d n o o' e c = creates IsEmptyFile empty_file empty_is d n o o' e c
@@ -31,15 +31,17 @@ module _ (I : Type 0) where
   changes AddDir d n o o' e c = creates IsFolder Dir folder_is d n o o' e c
   changes RmDir d n o o' e c = let h = creates IsFolder Dir folder_is d n o' o (record { taken = e.added; added = e.taken }) c in (h.1, h.0)
   changes (Hunk l old new) d n o o' e c = (lines_of c.tokens, lines_of c.tokens', ap (option_map entry_of) c.stood, ap (option_map entry_of) c.there, steps_replace I l old new c.taken c.added c.tokens c.tokens' c.replaced)
+  changes (Binary old new) d n o o' e c = (ap (option_map entry_of) c.stood ∙ ap (λ z. Some (File z)) c.old_is, ap (option_map entry_of) c.there ∙ ap (λ z. Some (File z)) c.new_is, λ z. c.is_file.1.has_lines (c.new_is ∙ z))
 
-  around : (w : Work) (p : Path) (e : Effect I) (s t : Named I) → StepsAt p w e s t → Around w p (plain s)
+  around : (w : Work) (p : Path) (e : Effect I) (s t : NodeMap I) → StepsAt p w e s t → Around w p (plain s)
   around AddFile p e s t h = parent_of p h.directory h.name s h.placed
   around RmFile p e s t h = tt
   around AddDir p e s t h = parent_of p h.directory h.name s h.placed
   around RmDir p e s t h = λ n r. ap (option_map entry_of) (h.empty tt n r)
   around (Hunk l old new) p e s t h = tt
+  around (Binary old new) p e s t h = tt
 
-  pub applies : (p : Prim) (e : Effect I) (s t : Named I) → Steps p e s t → Applies p (plain s) (plain t)
+  pub applies : (p : Prim) (e : Effect I) (s t : NodeMap I) → Steps p e s t → Applies p (plain s) (plain t)
   applies (At p w) e s t h = record {
     around = around w p e s t h;
     here = changes w h.directory h.name (s p) (t p) e h.here;
@@ -58,3 +60,4 @@ module _ (I : Type 0) where
       elsewhere = λ q x y. ap (option_map entry_of) (h.elsewhere q x y);
     },
   )
+  applies (ChangePref name old new) e s t h = ap plain (sym h.0)

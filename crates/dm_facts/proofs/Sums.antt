@@ -1,22 +1,21 @@
 -- A step is a sum.
-use Rattle.std.proofs.Common.{◌≡◌, ◌≢◌, ◌⊎◌, inl, inr, ℕ, List, [], ◌∷◌, ◌++◌, map, Some, None, Contains, refl, sym, ap, subst, ◌∙◌, append-nil, append_assoc}
+use Rattle.std.proofs.Common.{◌≡◌, ◌≢◌, ◌⊎◌, inl, inr, List, [], ◌∷◌, ◌++◌, map, Some, None, Contains, refl, sym, ap, subst, ◌∙◌, append-nil, append_assoc}
 use Rattle.std.specs.List.Sorted.{IsPermutation}
 use Rattle.std.proofs.lemmas.List.{map-append}
 use Rattle.std.proofs.lemmas.List.Sorted.{IsPermutation-refl, IsPermutation-trans, IsPermutation-cons, IsPermutation-map, IsPermutation-append_comm, IsPermutation-append_left, IsPermutation-append_right}
 use Rattle.dm_tree.specs.Paths.{Name, Path}
-use Rattle.dm_tree.specs.Trees.{Lines}
 use Rattle.dm_tree.proofs.Paths.{swap, swap-swap, swap-other, swap_inj}
 use Rattle.dm_tree.proofs.Trees.{snoc_inj}
-use Rattle.dm_prim.specs.Primitives.{Work, AddFile, RmFile, AddDir, RmDir, Hunk, Prim, At, Move}
+use Rattle.dm_prim.specs.Primitives.{Work, AddFile, RmFile, AddDir, RmDir, Hunk, Binary, Prim, At, Move, ChangePref}
 use Rattle.dm_prim.proofs.Maps.{path_dec, child_differs}
 use Rattle.dm_prim.proofs.Undoing.{swap_left}
 use Rattle.dm_chain.specs.Chains.{Token, Distinct}
 use Rattle.dm_chain.proofs.Members.{none_in_nil, head_is_in, it_is_in, next_is_in, in_cases, map_is_in}
 use Rattle.dm_chain.proofs.Determined.{keep_the_sum}
 use Rattle.dm_chain.proofs.Adding.{last_exchanged}
-use Rattle.dm_facts.specs.Nodes.{Node, Folder, Text, Named, IsFolder, IsEmptyFile, IsNameIn}
+use Rattle.dm_facts.specs.Nodes.{Node, Folder, FileWith, NodeMap, IsFolder, IsEmptyFile, IsNameIn}
 use Rattle.dm_facts.specs.Facts.{Fact, FileIn, TokenOf, stands, facts_of, Effect, inverse}
-use Rattle.dm_facts.specs.Steps.{Creates, Edits, StepsAt, StepsMove}
+use Rattle.dm_facts.specs.Steps.{Creates, StepsAt, StepsMove}
 use Rattle.dm_facts.specs.Sums.{FactsAt, AreFacts}
 use Rattle.dm_facts.specs.Laws.{StepsKeepTheSum}
 use Rattle.dm_facts.proofs.Undoing.{name_kept, moved_node, moved_name}
@@ -39,7 +38,7 @@ module _ {X : Type 0} where
 
 module _ (I : Type 0) where
   -- a path has one directory and one name
-  pub name_one : (p : Path) (d d' : I) (n n' : Name) (s : Named I) → IsNameIn p d n s → IsNameIn p d' n' s → (d ≡ d') × (n ≡ n')
+  pub name_one : (p : Path) (d d' : I) (n n' : Name) (s : NodeMap I) → IsNameIn p d n s → IsNameIn p d' n' s → (d ≡ d') × (n ≡ n')
   name_one p d d' n n' s h k =
       let e = snoc_inj h.parent k.parent n n' (sym h.is ∙ k.is) in
       let same : s k.parent ≡ Some (Folder d) = ap s (sym e.0) ∙ h.folder in
@@ -50,7 +49,7 @@ module _ (I : Type 0) where
   same_facts x y d e n m p q r = λ i. facts_of (p i) (q i) (r i)
 
   -- what stands at the listed paths
-  pub listed_there : (s : Named I) (ps : List Path) (fs : List (Fact I)) → FactsAt s ps fs → (p : Path) → Contains ps p → (x : Node I) × (d : I) × (n : Name) × (s p ≡ Some x) × IsNameIn p d n s
+  pub listed_there : (s : NodeMap I) (ps : List Path) (fs : List (Fact I)) → FactsAt s ps fs → (p : Path) → Contains ps p → (x : Node I) × (d : I) × (n : Name) × (s p ≡ Some x) × IsNameIn p d n s
   listed_there s [] fs h p c = absurd (none_in_nil p c)
   listed_there s (q ∷ ps) fs (x, d, n, rest, i, k, e, h) p c = elim (in_cases q p ps c) [
     | inl j ↦ (x, d, n, ap s (sym j) ∙ i, subst (λ z. IsNameIn z d n s) j k)
@@ -58,7 +57,7 @@ module _ (I : Type 0) where
   ]
 
   -- what stands at other paths, seen as these are, has the same facts
-  pub listed_alike : (s t : Named I) (g : Path → Path) (ps : List Path) (fs : List (Fact I)) → FactsAt s ps fs →
+  pub listed_alike : (s t : NodeMap I) (g : Path → Path) (ps : List Path) (fs : List (Fact I)) → FactsAt s ps fs →
       ((q : Path) (x : Node I) (d : I) (n : Name) → Contains ps q → s q ≡ Some x → IsNameIn q d n s → (t (g q) ≡ s q) × IsNameIn (g q) d n t) → FactsAt t (map g ps) fs
   listed_alike s t g [] fs h same = h
   listed_alike s t g (q ∷ ps) fs (x, d, n, rest, i, k, e, h) same =
@@ -66,7 +65,7 @@ module _ (I : Type 0) where
       (x, d, n, rest, here.0 ∙ i, here.1, e, listed_alike s t g ps rest h (λ r y c m j. same r y c m (next_is_in q r ps j)))
 
   -- the facts of one path apart from those of the others
-  pub record Split (s : Named I) (p : Path) (ps : List Path) (fs : List (Fact I)) : Type 0 where
+  pub record Split (s : NodeMap I) (p : Path) (ps : List Path) (fs : List (Fact I)) : Type 0 where
     pub node : Node I
     pub directory : I
     pub name : Name
@@ -80,7 +79,7 @@ module _ (I : Type 0) where
     pub back : (q : Path) → Contains others q → Contains ps q
     pub apart : Distinct ps → Distinct others × (Contains others p → ⊥)
 
-  pub split : (s : Named I) (p : Path) (ps : List Path) (fs : List (Fact I)) → FactsAt s ps fs → Contains ps p → Split s p ps fs
+  pub split : (s : NodeMap I) (p : Path) (ps : List Path) (fs : List (Fact I)) → FactsAt s ps fs → Contains ps p → Split s p ps fs
   split s p [] fs h c = absurd (none_in_nil p c)
   split s p (q ∷ ps) fs (x, d, n, rest, i, k, e, h) c = elim (in_cases q p ps c) [
     | inl j ↦ record {
@@ -120,11 +119,11 @@ module _ (I : Type 0) where
       }
 
   -- all facts, where those of p come first
-  abbrev pub Result : Named I → Effect I → List (Fact I) → Type 0
+  abbrev pub Result : NodeMap I → Effect I → List (Fact I) → Type 0
   Result t e fs = (gs : List (Fact I)) × AreFacts t gs × IsPermutation (fs ++ e.added) (gs ++ e.taken)
 
   -- a name elsewhere stays
-  name_stays : (p q : Path) (d : I) (n : Name) (s t : Named I) → ((r : Path) → r ≢ p → t r ≡ s r) → (h : IsNameIn q d n s) → h.parent ≢ p → IsNameIn q d n t
+  name_stays : (p q : Path) (d : I) (n : Name) (s t : NodeMap I) → ((r : Path) → r ≢ p → t r ≡ s r) → (h : IsNameIn q d n s) → h.parent ≢ p → IsNameIn q d n t
   name_stays p q d n s t same h off = name_kept I q d n s t h (same h.parent off)
 
   map-same : (ps : List Path) → map (λ q. q) ps ≡ ps
@@ -132,11 +131,11 @@ module _ (I : Type 0) where
   map-same (p ∷ ps) = ap (λ z. p ∷ z) (map-same ps)
 
   edited_facts : (x d : I) (n : Name) (c c' taken added : List (Token I)) → IsPermutation (c ++ added) (c' ++ taken) →
-      IsPermutation (facts_of (Text x c) d n ++ map (TokenOf x) added) (facts_of (Text x c') d n ++ map (TokenOf x) taken)
+      IsPermutation (facts_of (FileWith x c) d n ++ map (TokenOf x) added) (facts_of (FileWith x c') d n ++ map (TokenOf x) taken)
   edited_facts x d n c c' taken added h = IsPermutation-cons (FileIn x d n) (map (TokenOf x) c ++ map (TokenOf x) added) (map (TokenOf x) c' ++ map (TokenOf x) taken)
       (rw (map-append (TokenOf x) c added, map-append (TokenOf x) c' taken) at (IsPermutation-map (TokenOf x) (c ++ added) (c' ++ taken) h))
 
-  module _ (p : Path) (s t : Named I) (elsewhere : (q : Path) → q ≢ p → t q ≡ s q) (fs : List (Fact I)) (all : AreFacts s fs) where
+  module _ (p : Path) (s t : NodeMap I) (elsewhere : (q : Path) → q ≢ p → t q ≡ s q) (fs : List (Fact I)) (all : AreFacts s fs) where
     -- where p isn't a directory that holds something, the facts of other paths stay
     others_stay : (ps : List Path) (gs : List (Fact I)) → FactsAt s ps gs → (Contains ps p → ⊥) → ((d : I) (q : Path) (n : Name) → Contains ps q → s p ≡ Some (Folder d) → q ≢ p ++ n ∷ []) → FactsAt t ps gs
     others_stay ps gs h off bare = rw (map-same ps) at (listed_alike s t (λ q. q) ps gs h (λ q x d n c i k. (
@@ -203,33 +202,34 @@ module _ (I : Type 0) where
             found q nr k (inl j) = absurd (k (ap t j ∙ c.nothing))
             found q nr k (inr j) = elim (r.cases q (all.all q nr (λ i. k (elsewhere q j ∙ i)))) [ inl a ↦ absurd (j a) | inr a ↦ a ]
 
-    -- a file whose lines are replaced
-    edits : (l : ℕ) (old new : Lines) (e : Effect I) → Edits l old new (s p) (t p) e → p ≢ [] → Result t e fs
-    edits l old new e h nr = go (there (Text h.file h.tokens) h.stood nr)
+    -- a file whose gaps and lines give way to others, as a sum
+    replaces : (x : I) (c c' taken added : List (Token I)) (e : Effect I) → s p ≡ Some (FileWith x c) → t p ≡ Some (FileWith x c') → IsPermutation (c ++ added) (c' ++ taken) →
+        e ≡ record { taken = map (TokenOf x) taken; added = map (TokenOf x) added } → p ≢ [] → Result t e fs
+    replaces x c c' taken added e stood after sum effect nr = go (there (FileWith x c) stood nr)
       where
         go : Split s p all.paths fs → Result t e fs
         go r =
             let apart = r.apart all.distinct in
-            let node : r.node ≡ Text h.file h.tokens = cc (r.there, h.stood) in (
-              facts_of (Text h.file h.tokens') r.directory r.name ++ r.rest,
+            let node : r.node ≡ FileWith x c = cc (r.there, stood) in (
+              facts_of (FileWith x c') r.directory r.name ++ r.rest,
               record {
                 paths = p ∷ r.others;
                 distinct = (apart.1, apart.0);
                 all = λ q nr k. found q nr k (path_dec q p);
                 listed = (
-                  Text h.file h.tokens',
+                  FileWith x c',
                   r.directory,
                   r.name,
                   r.rest,
-                  h.there,
+                  after,
                   name_stays p p r.directory r.name s t elsewhere r.placed (λ j. child_differs p r.name (sym (rw j at r.placed.is))),
                   refl,
-                  others_stay r.others r.rest r.listed apart.1 (λ d q n m i. let z : Some (Text h.file h.tokens) ≡ Some (Folder d) = sym h.stood ∙ i in absurd (cc)),
+                  others_stay r.others r.rest r.listed apart.1 (λ d q n m i. let z : Some (FileWith x c) ≡ Some (Folder d) = sym stood ∙ i in absurd (cc)),
                 );
               },
-              rw h.effect (beside_rest fs (facts_of (Text h.file h.tokens) r.directory r.name) (facts_of (Text h.file h.tokens') r.directory r.name) r.rest (map (TokenOf h.file) h.added) (map (TokenOf h.file) h.taken)
+              rw effect (beside_rest fs (facts_of (FileWith x c) r.directory r.name) (facts_of (FileWith x c') r.directory r.name) r.rest (map (TokenOf x) added) (map (TokenOf x) taken)
                   (subst (λ z. IsPermutation fs (facts_of z r.directory r.name ++ r.rest)) node r.parts)
-                  (edited_facts h.file r.directory r.name h.tokens h.tokens' h.taken h.added (keep_the_sum I l old new h.taken h.added h.tokens h.tokens' h.replaced))),
+                  (edited_facts x r.directory r.name c c' taken added sum)),
             )
           where
             found : (q : Path) → q ≢ [] → t q ≢ None → (q ≡ p) ⊎ (q ≢ p) → Contains (p ∷ r.others) q
@@ -239,7 +239,7 @@ module _ (I : Type 0) where
   -- where a node stands is one of its facts
   stands_exchanged : (x : Node I) (d d' : I) (n n' : Name) → IsPermutation (facts_of x d n ++ stands x d' n' ∷ []) (facts_of x d' n' ++ stands x d n ∷ [])
   stands_exchanged (Folder x) d d' n n' = IsPermutation-append_comm (facts_of (Folder x) d n) (stands (Folder x) d' n' ∷ [])
-  stands_exchanged (Text x c) d d' n n' =
+  stands_exchanged (FileWith x c) d d' n n' =
       let a = FileIn x d n in let b = FileIn x d' n' in let m = map (TokenOf x) c in
       IsPermutation-trans ((a ∷ m) ++ b ∷ []) ((b ∷ []) ++ (a ∷ m)) ((b ∷ m) ++ a ∷ []) (IsPermutation-append_comm (a ∷ m) (b ∷ []))
       (IsPermutation-cons b (a ∷ m) (m ++ a ∷ []) (IsPermutation-append_comm (a ∷ []) m))
@@ -256,7 +256,7 @@ module _ (I : Type 0) where
   nil_end [] r e = refl
   nil_end (x ∷ a) r e = cc
 
-  moves : (a b : Path) (e : Effect I) (s t : Named I) (fs : List (Fact I)) → AreFacts s fs → StepsMove a b e s t → Result t e fs
+  moves : (a b : Path) (e : Effect I) (s t : NodeMap I) (fs : List (Fact I)) → AreFacts s fs → StepsMove a b e s t → Result t e fs
   moves a b e s t fs all h = go (split s a all.paths fs all.listed (all.all a off_a (λ k. let z : Some h.node ≡ None = sym h.stood ∙ k in cc)))
     where
       off_a : a ≢ []
@@ -310,7 +310,7 @@ module _ (I : Type 0) where
           bare : (q : Path) (x : Node I) → s q ≡ Some x → q ≢ b
           bare q x i j = let z : Some x ≡ None = sym i ∙ ap s (j ∙ sym (append-nil b)) ∙ h.free [] in cc
 
-  works : (p : Path) (w : Work) (e : Effect I) (s t : Named I) (fs : List (Fact I)) → AreFacts s fs → StepsAt p w e s t → p ≢ [] → Result t e fs
+  works : (p : Path) (w : Work) (e : Effect I) (s t : NodeMap I) (fs : List (Fact I)) → AreFacts s fs → StepsAt p w e s t → p ≢ [] → Result t e fs
   works p AddFile e s t fs all h nr = adds p s t h.elsewhere fs all IsEmptyFile h.directory h.name e h.here h.placed
   works p RmFile e s t fs all h nr = removes p s t h.elsewhere fs all IsEmptyFile h.directory h.name e h.here h.placed nr (λ d i n r. absurd (no_folder h.here d i))
     where
@@ -318,8 +318,14 @@ module _ (I : Type 0) where
       no_folder c d i = let same : c.node ≡ Folder d = cc (c.there, i) in rw same at c.is
   works p AddDir e s t fs all h nr = adds p s t h.elsewhere fs all IsFolder h.directory h.name e h.here h.placed
   works p RmDir e s t fs all h nr = removes p s t h.elsewhere fs all IsFolder h.directory h.name e h.here h.placed nr (λ d i n r. h.empty tt n r)
-  works p (Hunk l old new) e s t fs all h nr = edits p s t h.elsewhere fs all l old new e h.here nr
+  works p (Hunk l old new) e s t fs all h nr =
+      let k = h.here in
+      replaces p s t h.elsewhere fs all k.file k.tokens k.tokens' k.taken k.added e k.stood k.there (keep_the_sum I l old new k.taken k.added k.tokens k.tokens' k.replaced) k.effect nr
+  works p (Binary old new) e s t fs all h nr =
+      let k = h.here in
+      replaces p s t h.elsewhere fs all k.file k.tokens k.tokens' k.tokens k.tokens' e k.stood k.there (IsPermutation-append_comm k.tokens k.tokens') k.effect nr
 
   pub steps_keep_the_sum : StepsKeepTheSum I
   steps_keep_the_sum (At p w) e s t fs all h = works p w e s t fs all h (off_root I (At p w) e s t h)
   steps_keep_the_sum (Move a b) e s t fs all h = moves a b e s t fs all h
+  steps_keep_the_sum (ChangePref name old new) e s t fs all h = (fs, subst (λ z. AreFacts z fs) h.0 all, rw h.1 (IsPermutation-refl (fs ++ [])))

@@ -3,18 +3,18 @@ use Rattle.std.proofs.Common.{◌≡◌, ◌≢◌, List, Option, Some, None, op
 use Rattle.dm_tree.specs.Paths.{Name, Path}
 use Rattle.dm_tree.specs.Trees.{Lines, Dir, File, HasParent, IsLawful}
 use Rattle.dm_chain.specs.Chains.{Token, lines_of}
-use Rattle.dm_facts.specs.Nodes.{Node, Folder, Text, Named, entry_of, plain, IsNameIn, IsTree}
+use Rattle.dm_facts.specs.Nodes.{Node, Folder, FileWith, NodeMap, entry_of, plain, IsNameIn, IsTree}
 
 module _ (I : Type 0) where
   pub folder_of : (o : Option (Node I)) → option_map entry_of o ≡ Some Dir → (d : I) × (o ≡ Some (Folder d))
   folder_of None h = let k : None ≡ Some Dir = h in absurd (cc)
   folder_of (Some (Folder d)) h = (d, refl)
-  folder_of (Some (Text x c)) h = let k : Some (File (lines_of c)) ≡ Some Dir = h in absurd (cc)
+  folder_of (Some (FileWith x c)) h = let k : Some (File (lines_of c)) ≡ Some Dir = h in absurd (cc)
 
-  pub text_of : (o : Option (Node I)) (ls : Lines) → option_map entry_of o ≡ Some (File ls) → (x : I) × (c : List (Token I)) × (o ≡ Some (Text x c)) × (lines_of c ≡ ls)
+  pub text_of : (o : Option (Node I)) (ls : Lines) → option_map entry_of o ≡ Some (File ls) → (x : I) × (c : List (Token I)) × (o ≡ Some (FileWith x c)) × (lines_of c ≡ ls)
   text_of None ls h = let k : None ≡ Some (File ls) = h in absurd (cc)
   text_of (Some (Folder d)) ls h = let k : Some Dir ≡ Some (File ls) = h in absurd (cc)
-  text_of (Some (Text x c)) ls h = let k : Some (File (lines_of c)) ≡ Some (File ls) = h in (x, c, refl, cc)
+  text_of (Some (FileWith x c)) ls h = let k : Some (File (lines_of c)) ≡ Some (File ls) = h in (x, c, refl, cc)
 
   pub none_of : (o : Option (Node I)) → option_map entry_of o ≡ None → o ≡ None
   none_of None h = refl
@@ -24,10 +24,10 @@ module _ (I : Type 0) where
   some_of None h = absurd (h refl)
   some_of (Some x) h = (x, refl)
 
-  pub name_of : (p : Path) (s : Named I) → HasParent p (plain s) → (d : I) × (n : Name) × IsNameIn p d n s
+  pub name_of : (p : Path) (s : NodeMap I) → HasParent p (plain s) → (d : I) × (n : Name) × IsNameIn p d n s
   name_of p s (q, n, e, h) = let r = folder_of (s q) h in (r.0, n, record { parent = q; is = e; folder = r.1 })
 
-  pub tree_lawful : (s : Named I) → IsTree s → IsLawful (plain s)
+  pub tree_lawful : (s : NodeMap I) → IsTree s → IsLawful (plain s)
   tree_lawful s t = record {
     root = ap (option_map entry_of) t.root.1;
     parents = λ p n h. ap (option_map entry_of) (t.parents p n (λ k. h (ap (option_map entry_of) k))).1;

@@ -3,11 +3,11 @@ use Rattle.std.proofs.Common.{◌≡◌, ◌≢◌, [], ◌∷◌, ◌++◌, Opt
 use Rattle.std.proofs.lemmas.List.{append_cancel_left}
 use Rattle.dm_tree.specs.Paths.{Name, Path, Under}
 use Rattle.dm_tree.proofs.Paths.{apart_sym, under_append, under_trans}
-use Rattle.dm_prim.specs.Primitives.{Work, AddFile, RmFile, AddDir, RmDir, Hunk, Prim, At, Move, inv_work, inv}
+use Rattle.dm_prim.specs.Primitives.{Work, AddFile, RmFile, AddDir, RmDir, Hunk, Binary, Prim, At, Move, ChangePref, inv_work, inv}
 use Rattle.dm_prim.proofs.Maps.{child_differs}
 use Rattle.dm_prim.proofs.Squares.{dir_inv}
 use Rattle.dm_chain.proofs.Stepping.{steps_keep_chains, inverses_step_back}
-use Rattle.dm_facts.specs.Nodes.{Node, Named, IsNameIn}
+use Rattle.dm_facts.specs.Nodes.{Node, NodeMap, IsNameIn}
 use Rattle.dm_facts.specs.Facts.{Effect, inverse}
 use Rattle.dm_facts.specs.Steps.{Makes, StepsAt, StepsMove, Steps}
 
@@ -32,7 +32,7 @@ inside_differs p n r e = let k : n ∷ r ≡ [] = append_cancel_left p (n ∷ r)
 
 module _ (I : Type 0) where
   -- a name stays one where its directory does
-  pub name_kept : (p : Path) (d : I) (n : Name) (s t : Named I) (h : IsNameIn p d n s) → t h.parent ≡ s h.parent → IsNameIn p d n t
+  pub name_kept : (p : Path) (d : I) (n : Name) (s t : NodeMap I) (h : IsNameIn p d n s) → t h.parent ≡ s h.parent → IsNameIn p d n t
   name_kept p d n s t h e = record { parent = h.parent; is = h.is; folder = e ∙ h.folder }
 
   makes_back : (w : Work) (d : I) (n : Name) (o o' : Option (Node I)) (e : Effect I) → Makes w d n o o' e → Makes (inv_work w) d n o' o (inverse e)
@@ -52,8 +52,20 @@ module _ (I : Type 0) where
     replaced = (inverses_step_back I l old new c.taken c.added c.tokens c.tokens').0 c.replaced;
     effect = ap inverse c.effect;
   }
+  makes_back (Binary old new) d n o o' e c = record {
+    file = c.file;
+    tokens = c.tokens';
+    tokens' = c.tokens;
+    stood = c.there;
+    there = c.stood;
+    was_file = c.is_file;
+    is_file = c.was_file;
+    old_is = c.new_is;
+    new_is = c.old_is;
+    effect = ap inverse c.effect;
+  }
 
-  pub works_back : (p : Path) (w : Work) (e : Effect I) (s t : Named I) → StepsAt p w e s t → StepsAt p (inv_work w) (inverse e) t s
+  pub works_back : (p : Path) (w : Work) (e : Effect I) (s t : NodeMap I) → StepsAt p w e s t → StepsAt p (inv_work w) (inverse e) t s
   works_back p w e s t h = record {
     directory = h.directory;
     name = h.name;
@@ -64,15 +76,15 @@ module _ (I : Type 0) where
   }
 
   -- where a node that moved stands
-  pub moved_node : (a b : Path) (e : Effect I) (s t : Named I) (h : StepsMove a b e s t) → t b ≡ Some h.node
+  pub moved_node : (a b : Path) (e : Effect I) (s t : NodeMap I) (h : StepsMove a b e s t) → t b ≡ Some h.node
   moved_node a b e s t h = rw (append-nil b, append-nil a) at (h.there []) ∙ h.stood
 
-  pub moved_name : (a b : Path) (e : Effect I) (s t : Named I) (h : StepsMove a b e s t) → IsNameIn b h.to h.new_name t
+  pub moved_name : (a b : Path) (e : Effect I) (s t : NodeMap I) (h : StepsMove a b e s t) → IsNameIn b h.to h.new_name t
   moved_name a b e s t h = name_kept b h.to h.new_name s t h.place (h.elsewhere h.place.parent
       (λ u. h.apart.right (name_under b h.place.parent a h.new_name h.place.is u))
       (parent_off b h.place.parent h.new_name h.place.is))
 
-  pub moves_back : (a b : Path) (e : Effect I) (s t : Named I) → StepsMove a b e s t → StepsMove b a (inverse e) t s
+  pub moves_back : (a b : Path) (e : Effect I) (s t : NodeMap I) → StepsMove a b e s t → StepsMove b a (inverse e) t s
   moves_back a b e s t h = record {
     apart = apart_sym h.apart;
     node = h.node;
@@ -92,6 +104,7 @@ module _ (I : Type 0) where
     effect = ap inverse h.effect;
   }
 
-  pub steps_back : (p : Prim) (e : Effect I) (s t : Named I) → Steps p e s t → Steps (inv p) (inverse e) t s
+  pub steps_back : (p : Prim) (e : Effect I) (s t : NodeMap I) → Steps p e s t → Steps (inv p) (inverse e) t s
   steps_back (At p w) e s t h = works_back p w e s t h
   steps_back (Move a b) e s t h = moves_back a b e s t h
+  steps_back (ChangePref name old new) e s t h = (sym h.0, ap inverse h.1)

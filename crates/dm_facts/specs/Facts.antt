@@ -4,7 +4,7 @@ use Rattle.std.specs.List.{Contains}
 use Rattle.dm_tree.specs.Paths.{Name, Path}
 use Rattle.dm_chain.specs.Chains.{Token}
 use Rattle.dm_chain.specs.Sums.{Change}
-use Rattle.dm_facts.specs.Nodes.{Node, Folder, Text, Named, IsNameIn}
+use Rattle.dm_facts.specs.Nodes.{Node, Folder, FileWith, NodeMap, IsNameIn}
 
 -- what can be true of a tree with identities
 pub data Fact (I : Type 0) : Type 0 where
@@ -18,18 +18,18 @@ pub data Fact (I : Type 0) : Type 0 where
 -- that a node stands in the directory d under the name n
 abbrev pub stands : {I : Type 0} → Node I → I → Name → Fact I
 stands (Folder x) d n = FolderIn x d n
-stands (Text x c) d n = FileIn x d n
+stands (FileWith x c) d n = FileIn x d n
 
 -- all facts of such a node: that it stands there, and each gap and line of a file
 abbrev pub facts_of : {I : Type 0} → Node I → I → Name → List (Fact I)
 facts_of (Folder x) d n = FolderIn x d n ∷ []
-facts_of (Text x c) d n = FileIn x d n ∷ map (TokenOf x) c
+facts_of (FileWith x c) d n = FileIn x d n ∷ map (TokenOf x) c
 
 -- the fact is one of s
-abbrev pub Holds : {I : Type 0} → Fact I → Named I → Type 0
-Holds (FolderIn x d n) s = (p : Path) × (s p ≡ Some (Folder x)) × IsNameIn p d n s
-Holds {I} (FileIn x d n) s = (p : Path) × (c : List (Token I)) × (s p ≡ Some (Text x c)) × IsNameIn p d n s
-Holds {I} (TokenOf x t) s = (p : Path) × (c : List (Token I)) × (s p ≡ Some (Text x c)) × Contains c t
+abbrev pub IsFactOf : {I : Type 0} → Fact I → NodeMap I → Type 0
+IsFactOf (FolderIn x d n) s = (p : Path) × (s p ≡ Some (Folder x)) × IsNameIn p d n s
+IsFactOf {I} (FileIn x d n) s = (p : Path) × (c : List (Token I)) × (s p ≡ Some (FileWith x c)) × IsNameIn p d n s
+IsFactOf {I} (TokenOf x t) s = (p : Path) × (c : List (Token I)) × (s p ≡ Some (FileWith x c)) × Contains c t
 
 -- what a primitive does to the facts: those that it takes away, and those that it adds
 abbrev pub Effect : Type 0 → Type 0

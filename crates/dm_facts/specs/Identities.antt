@@ -2,9 +2,9 @@
 use Rattle.std.specs.Prelude.{◌≡◌, ℕ, ◌*◌, ◌⊎◌, List, [], ◌∷◌, length, map, Some}
 use Rattle.std.specs.List.{Contains}
 use Rattle.dm_tree.specs.Paths.{Path}
-use Rattle.dm_prim.specs.Primitives.{Work, AddFile, RmFile, AddDir, RmDir, Hunk, Prim, At, Move}
+use Rattle.dm_prim.specs.Primitives.{Work, AddFile, RmFile, AddDir, RmDir, Hunk, Binary, Prim, At, Move, ChangePref}
 use Rattle.dm_chain.specs.Chains.{lefts, Distinct}
-use Rattle.dm_facts.specs.Nodes.{Node, Folder, Text, Named}
+use Rattle.dm_facts.specs.Nodes.{Node, Folder, FileWith, NodeMap}
 use Rattle.dm_facts.specs.Facts.{Fact, FolderIn, FileIn, TokenOf, Effect}
 
 -- what a fact is about: an entry, or the port where a gap or line begins
@@ -24,10 +24,10 @@ UsesOf {I} ids e = (x : I) → Contains (map subject e.added) x → Contains (ma
 -- x is the identity of the node, or the port where one of its gaps and lines begins
 abbrev pub IsOf : {I : Type 0} → I → Node I → Type 0
 IsOf x (Folder y) = y ≡ x
-IsOf x (Text y c) = (y ≡ x) ⊎ Contains (lefts c) x
+IsOf x (FileWith y c) = (y ≡ x) ⊎ Contains (lefts c) x
 
 -- x is an identity in s
-abbrev pub IsIn : {I : Type 0} → I → Named I → Type 0
+abbrev pub IsIn : {I : Type 0} → I → NodeMap I → Type 0
 IsIn {I} x s = (p : Path) × (y : Node I) × (s p ≡ Some y) × IsOf x y
 
 -- the ports where gaps and lines begin, of some facts
@@ -38,7 +38,7 @@ ports_of (FileIn x d n ∷ fs) = ports_of fs
 ports_of (TokenOf x t ∷ fs) = t.left ∷ ports_of fs
 
 -- what e introduces isn't in s, and no two gaps or lines that it adds begin at one port
-pub record AddsNew {I : Type 0} (e : Effect I) (s : Named I) : Type 0 where
+pub record AddsNew {I : Type 0} (e : Effect I) (s : NodeMap I) : Type 0 where
   pub new : (x : I) → Introduces e x → IsIn x s → ⊥
   pub apart : Distinct (ports_of e.added)
 
@@ -49,7 +49,9 @@ enough_for RmFile = 0
 enough_for AddDir = 1
 enough_for RmDir = 0
 enough_for (Hunk l old new) = 2 * length new
+enough_for (Binary old new) = 2 * length new
 
 abbrev pub enough : Prim → ℕ
 enough (At p w) = enough_for w
 enough (Move a b) = 0
+enough (ChangePref name old new) = 0

@@ -7,30 +7,30 @@ use Rattle.dm_chain.specs.Chains.{Token, IsChain, HasOnePortEach, lines_of}
 -- a directory, or a file with the gaps and lines that it consists of, each with its identity
 pub data Node (I : Type 0) : Type 0 where
   Folder : I → Node I
-  Text : I → List (Token I) → Node I
+  FileWith : I → List (Token I) → Node I
 
 -- what stands at each path of a tree with identities
-abbrev pub Named : Type 0 → Type 0
-Named I = Path → Option (Node I)
+abbrev pub NodeMap : Type 0 → Type 0
+NodeMap I = Path → Option (Node I)
 
 -- the entry that a node is, with no identity
 abbrev pub entry_of : {I : Type 0} → Node I → Entry
 entry_of (Folder x) = Dir
-entry_of (Text x c) = File (lines_of c)
+entry_of (FileWith x c) = File (lines_of c)
 
 -- the identity of a node
 abbrev pub identity : {I : Type 0} → Node I → I
 identity (Folder x) = x
-identity (Text x c) = x
+identity (FileWith x c) = x
 
 -- the tree with no identity
-abbrev pub plain : {I : Type 0} → Named I → Map
+abbrev pub plain : {I : Type 0} → NodeMap I → Map
 plain s p = option_map entry_of (s p)
 
 -- the node is a directory
 abbrev pub IsFolder : {I : Type 0} → Node I → Type 0
 IsFolder (Folder x) = Unit {0}
-IsFolder (Text x c) = ⊥
+IsFolder (FileWith x c) = ⊥
 
 -- the gaps and lines of a file lead from its identity to its last port
 abbrev pub IsFile : {I : Type 0} → I → List (Token I) → Type 0
@@ -39,17 +39,17 @@ IsFile {I} x c = (last : I) × IsChain x c last
 -- the node is a file with one line, which is empty
 abbrev pub IsEmptyFile : {I : Type 0} → Node I → Type 0
 IsEmptyFile (Folder x) = ⊥
-IsEmptyFile (Text x c) = IsFile x c × (lines_of c ≡ [] ∷ [])
+IsEmptyFile (FileWith x c) = IsFile x c × (lines_of c ≡ [] ∷ [])
 
 -- p is the name n in the directory d
-pub record IsNameIn {I : Type 0} (p : Path) (d : I) (n : Name) (s : Named I) : Type 0 where
+pub record IsNameIn {I : Type 0} (p : Path) (d : I) (n : Name) (s : NodeMap I) : Type 0 where
   pub parent : Path
   pub is : p ≡ parent ++ n ∷ []
   pub folder : s parent ≡ Some (Folder d)
 
 -- the root is a directory, and so is what holds something; a file is a chain, no two of its gaps and lines begin at one port; no two paths have one identity
-pub record IsTree {I : Type 0} (s : Named I) : Type 0 where
+pub record IsTree {I : Type 0} (s : NodeMap I) : Type 0 where
   pub root : (r : I) × (s [] ≡ Some (Folder r))
   pub parents : (p : Path) (n : Name) → s (p ++ n ∷ []) ≢ None → (d : I) × (s p ≡ Some (Folder d))
-  pub files : (p : Path) (x : I) (c : List (Token I)) → s p ≡ Some (Text x c) → IsFile x c × HasOnePortEach c
+  pub files : (p : Path) (x : I) (c : List (Token I)) → s p ≡ Some (FileWith x c) → IsFile x c × HasOnePortEach c
   pub unique : (p q : Path) (x y : Node I) → s p ≡ Some x → s q ≡ Some y → identity x ≡ identity y → p ≡ q

@@ -2,10 +2,10 @@
 use Rattle.std.specs.Prelude.{◌≡◌, ◌≢◌, ℕ, List, [], ◌∷◌, ◌++◌, map, Option, Some, None}
 use Rattle.dm_tree.specs.Paths.{Name, Path, Under, Apart}
 use Rattle.dm_tree.specs.Trees.{Lines}
-use Rattle.dm_prim.specs.Primitives.{Work, AddFile, RmFile, AddDir, RmDir, Hunk, Prim, At, Move}
+use Rattle.dm_prim.specs.Primitives.{Work, AddFile, RmFile, AddDir, RmDir, Hunk, Binary, Prim, At, Move, ChangePref}
 use Rattle.dm_prim.specs.Table.{IsDirectoryWork}
-use Rattle.dm_chain.specs.Chains.{Token, HunkSteps}
-use Rattle.dm_facts.specs.Nodes.{Node, Text, Named, IsFolder, IsFile, IsEmptyFile, IsNameIn}
+use Rattle.dm_chain.specs.Chains.{Token, HunkSteps, lines_of}
+use Rattle.dm_facts.specs.Nodes.{Node, FileWith, NodeMap, IsFolder, IsFile, IsEmptyFile, IsNameIn}
 use Rattle.dm_facts.specs.Facts.{TokenOf, stands, facts_of, Effect, inverse}
 
 -- where nothing stood, a node of this kind stands in the directory d under the name n, and its facts are added
@@ -23,11 +23,24 @@ pub record Edits {I : Type 0} (l : ℕ) (old new : Lines) (before after : Option
   pub tokens' : List (Token I)
   pub taken : List (Token I)
   pub added : List (Token I)
-  pub stood : before ≡ Some (Text file tokens)
-  pub there : after ≡ Some (Text file tokens')
+  pub stood : before ≡ Some (FileWith file tokens)
+  pub there : after ≡ Some (FileWith file tokens')
   pub is_file : IsFile file tokens
   pub replaced : HunkSteps l old new taken added tokens tokens'
   pub effect : e ≡ record { taken = map (TokenOf file) taken; added = map (TokenOf file) added }
+
+-- a file keeps its identity while all its lines are replaced: all its gaps and lines give way to others
+pub record Rewrites {I : Type 0} (old new : Lines) (before after : Option (Node I)) (e : Effect I) : Type 0 where
+  pub file : I
+  pub tokens : List (Token I)
+  pub tokens' : List (Token I)
+  pub stood : before ≡ Some (FileWith file tokens)
+  pub there : after ≡ Some (FileWith file tokens')
+  pub was_file : IsFile file tokens
+  pub is_file : IsFile file tokens'
+  pub old_is : lines_of tokens ≡ old
+  pub new_is : lines_of tokens' ≡ new
+  pub effect : e ≡ record { taken = map (TokenOf file) tokens; added = map (TokenOf file) tokens' }
 
 -- what work finds under the name n of the directory d, and what it leaves there
 abbrev pub Makes : {I : Type 0} → Work → I → Name → Option (Node I) → Option (Node I) → Effect I → Type 0
@@ -36,9 +49,10 @@ Makes RmFile d n before after e = Creates IsEmptyFile d n after before (inverse 
 Makes AddDir d n before after e = Creates IsFolder d n before after e
 Makes RmDir d n before after e = Creates IsFolder d n after before (inverse e)
 Makes (Hunk l old new) d n before after e = Edits l old new before after e
+Makes (Binary old new) d n before after e = Rewrites old new before after e
 
 -- work w at p makes t of s: the directory of p is there, and nothing is in a directory that is added or removed
-pub record StepsAt {I : Type 0} (p : Path) (w : Work) (e : Effect I) (s t : Named I) : Type 0 where
+pub record StepsAt {I : Type 0} (p : Path) (w : Work) (e : Effect I) (s t : NodeMap I) : Type 0 where
   pub directory : I
   pub name : Name
   pub placed : IsNameIn p directory name s
@@ -47,7 +61,7 @@ pub record StepsAt {I : Type 0} (p : Path) (w : Work) (e : Effect I) (s t : Name
   pub elsewhere : (q : Path) → q ≢ p → t q ≡ s q
 
 -- `move a b` makes t of s: one node changes its directory and its name, and all inside it goes along
-pub record StepsMove {I : Type 0} (a b : Path) (e : Effect I) (s t : Named I) : Type 0 where
+pub record StepsMove {I : Type 0} (a b : Path) (e : Effect I) (s t : NodeMap I) : Type 0 where
   pub apart : Apart a b
   pub node : Node I
   pub stood : s a ≡ Some node
@@ -63,7 +77,8 @@ pub record StepsMove {I : Type 0} (a b : Path) (e : Effect I) (s t : Named I) : 
   pub elsewhere : (q : Path) → (Under q a → ⊥) → (Under q b → ⊥) → t q ≡ s q
   pub effect : e ≡ record { taken = stands node from old_name ∷ []; added = stands node to new_name ∷ [] }
 
--- p makes t of s with this effect
-abbrev pub Steps : {I : Type 0} → Prim → Effect I → Named I → Named I → Type 0
+-- p makes t of s with this effect; another value for a preference has none
+abbrev pub Steps : {I : Type 0} → Prim → Effect I → NodeMap I → NodeMap I → Type 0
 Steps (At p w) e s t = StepsAt p w e s t
 Steps (Move a b) e s t = StepsMove a b e s t
+Steps (ChangePref name old new) e s t = (s ≡ t) × (e ≡ record { taken = []; added = [] })
