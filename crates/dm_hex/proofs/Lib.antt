@@ -1,0 +1,3 @@
+pub mod ContentLemmas
+pub mod DigitLemmas
+pub mod StarLemmas
