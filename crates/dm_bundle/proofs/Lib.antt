@@ -7,4 +7,6 @@ pub mod OneBundle
 pub mod OneFault
 pub mod NoBundle
 pub mod WithinLimits
+pub mod ChosenKinds
+pub mod SixFaults
 pub mod RoundTrips

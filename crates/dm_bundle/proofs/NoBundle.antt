@@ -8,7 +8,7 @@ use Rattle.dm_info.specs.Spelling.{Stands}
 use Rattle.dm_info.proofs.SpellingLemmas.{one_info, stands_opens}
 use Rattle.dm_named.specs.Words.{skipped, Word, Begins}
 use Rattle.dm_named.specs.Many.{Many}
-use Rattle.dm_named.specs.Patches.{Patch, PatchText, NextInfo}
+use Rattle.dm_named.specs.Patches.{Patch, PatchTextIn, NextInfo}
 use Rattle.dm_named.specs.Faults.{ExcludesPatch}
 use Rattle.dm_named.specs.declared.fault.FaultKind.{FaultKind}
 use Rattle.dm_named.specs.declared.limits.Limits.{Limits}
@@ -17,14 +17,14 @@ use Rattle.dm_named.proofs.ManyLemmas.{many_follows}
 use Rattle.dm_named.proofs.NoPatch.{no_info, no_patch}
 use Rattle.dm_bundle.specs.Patches.{infos_of, Distinct, NextPatch}
 use Rattle.dm_bundle.specs.Context.{context_word, ContextWord, AreDisjoint, Context}
-use Rattle.dm_bundle.specs.Bundles.{Contents, Sections, BundleText}
+use Rattle.dm_bundle.specs.Bundles.{Contents, Sections, BundleTextIn}
 use Rattle.dm_bundle.specs.Faults.{DueFaultWithin, no_context, too_many, doubled, in_patch, no_memory, NewPatchesFaultWithin, ContextInfoFaultAt, in_info, ContextFaultAt, AfterHeadingFaultWithin, in_new, in_context, FaultWithin, too_large, no_new_patches, after_heading, ExcludesBundle}
 use Rattle.dm_bundle.proofs.Members.{here, distinct_at}
 use Rattle.dm_bundle.proofs.OneBundle.{one_heading, word_opens, patches_follow, one_patches}
 
 -- what is at fault is neither a further patch nor the word of the context
 no_due : (limits : Limits) (kind : FaultKind) (ps : List Patch) (text here : List ℕ) → ExcludesPatch kind → DueFaultWithin limits kind (infos_of ps) text here
-    → ((rest : List ℕ) → Word text context_word rest → ⊥) × ((p : Patch) (after : List ℕ) → PatchText text p after → (Contains (infos_of ps) p.info → ⊥) → ⊥)
+    → ((rest : List ℕ) → Word text context_word rest → ⊥) × ((p : Patch) (after : List ℕ) → PatchTextIn limits.kinds text p after → (Contains (infos_of ps) p.info → ⊥) → ⊥)
 no_due limits kind ps text here k (no_context e h info word) = (word, λ p after t none. info (stands_opens text p.info t.after t.info))
 no_due limits kind ps text here k (too_many e h b n) = absurd (k.count e)
 no_due limits kind ps text here k (doubled e h room d) = (
@@ -37,14 +37,14 @@ no_due limits kind ps text here k (in_patch b room none f) = (
 )
 no_due limits kind ps text here k (no_memory e) = absurd (k.memory e)
 
-no_further : (limits : Limits) (kind : FaultKind) (ps more : List Patch) (mid rest after_word here : List ℕ) → ExcludesPatch kind → DueFaultWithin limits kind (infos_of ps) (skipped mid) here → Many NextPatch mid more rest → ContextWord rest after_word → Distinct (infos_of (ps ++ more)) → ⊥
+no_further : (limits : Limits) (kind : FaultKind) (ps more : List Patch) (mid rest after_word here : List ℕ) → ExcludesPatch kind → DueFaultWithin limits kind (infos_of ps) (skipped mid) here → Many (NextPatch limits.kinds) mid more rest → ContextWord rest after_word → Distinct (infos_of (ps ++ more)) → ⊥
 no_further limits kind ps [] mid rest after_word here k f r w d = (no_due limits kind ps (skipped mid) here k f).0 after_word (subst (λ (t : List ℕ). ContextWord t after_word) (sym r) w)
 no_further limits kind ps (p ∷ more) mid rest after_word here k f r w d =
     (no_due limits kind ps (skipped mid) here k f).1 p r.0 r.1 (λ h. distinct_at (infos_of ps) p.info (infos_of more) (subst Distinct (map-append (λ (q : Patch). q.info) ps (p ∷ more)) d) h)
 
-no_new : (limits : Limits) (kind : FaultKind) (text here : List ℕ) → ExcludesPatch kind → NewPatchesFaultWithin limits kind text here → (b : Contents) → Sections text b → ⊥
+no_new : (limits : Limits) (kind : FaultKind) (text here : List ℕ) → ExcludesPatch kind → NewPatchesFaultWithin limits kind text here → (b : Contents) → Sections limits.kinds text b → ⊥
 no_new limits kind text here k f b s =
-    let m = patches_follow text f.patches b.patches f.mid s.between s.after_word f.read.read s.patches.read s.word in
+    let m = patches_follow limits.kinds text f.patches b.patches f.mid s.between s.after_word f.read.read s.patches.read s.word in
     no_further limits kind f.patches m.0 f.mid s.between s.after_word here k f.wrong m.2 s.word (subst (λ (ps : List Patch). Distinct (infos_of ps)) m.1 s.patches.distinct)
 
 -- ---- the context
@@ -66,14 +66,14 @@ no_context_text kind new text here k f context c =
     let m = many_follows NextInfo (λ t i j r u x y. one_info (skipped t) i j r u x y) text f.infos context f.mid c.rest f.read c.read (λ i after x. c.ends (stands_opens (skipped c.rest) i after x)) in
     no_more kind new f.infos m.0 f.mid c.rest here k f.wrong m.2 c.ends (subst (AreDisjoint new) m.1 c.apart)
 
-pub no_sections : (limits : Limits) (kind : FaultKind) (text here : List ℕ) → ExcludesPatch kind → AfterHeadingFaultWithin limits kind text here → (b : Contents) → Sections text b → ⊥
+pub no_sections : (limits : Limits) (kind : FaultKind) (text here : List ℕ) → ExcludesPatch kind → AfterHeadingFaultWithin limits kind text here → (b : Contents) → Sections limits.kinds text b → ⊥
 no_sections limits kind text here k (in_new f) b s = no_new limits kind text here k f b s
 no_sections limits kind text here k (in_context patches between after_word read few word f) b s =
-    let same = one_patches text patches b.patches between s.between after_word s.after_word read.read s.patches.read word s.word in
+    let same = one_patches limits.kinds text patches b.patches between s.between after_word s.after_word read.read s.patches.read word s.word in
     let words = one_word (skipped s.between) context_word context_word after_word s.after_word (subst (λ (t : List ℕ). ContextWord t after_word) same.1 word) s.word in
     no_context_text kind (infos_of b.patches) s.after_word here k (subst (λ (t : List ℕ). ContextFaultAt kind (infos_of b.patches) t here) words.1 (subst (λ (ps : List Patch). ContextFaultAt kind (infos_of ps) after_word here) same.0 f)) b.context s.context
 
-pub fault_excludes_bundle : (limits : Limits) (text : List ℕ) (kind : FaultKind) (at : ℕ) → ExcludesBundle kind → FaultWithin limits text kind at → (b : Contents) → BundleText text b → ⊥
+pub fault_excludes_bundle : (limits : Limits) (text : List ℕ) (kind : FaultKind) (at : ℕ) → ExcludesBundle kind → FaultWithin limits text kind at → (b : Contents) → BundleTextIn limits.kinds text b → ⊥
 fault_excludes_bundle limits text kind at k (too_large e h n) b t = k.size e
 fault_excludes_bundle limits text kind at k (no_new_patches e h n none) b t = none t.new t.heading
-fault_excludes_bundle limits text kind at k (after_heading m le n new heading f) b t = no_sections limits kind new (drop at text) (record { memory = k.memory; count = k.count }) f b (subst (λ (u : List ℕ). Sections u b) (one_heading text t.new new t.heading heading) t.sections)
+fault_excludes_bundle limits text kind at k (after_heading m le n new heading f) b t = no_sections limits kind new (drop at text) (record { memory = k.memory; count = k.count }) f b (subst (λ (u : List ℕ). Sections limits.kinds u b) (one_heading text t.new new t.heading heading) t.sections)

@@ -7,7 +7,7 @@ use Rattle.dm_info.specs.Spelling.{Stands}
 use Rattle.dm_info.proofs.SpellingLemmas.{one_info, stands_opens}
 use Rattle.dm_named.specs.Many.{Many}
 use Rattle.dm_named.specs.Words.{skipped, Word}
-use Rattle.dm_named.specs.Patches.{Patch, PatchText, NextInfo}
+use Rattle.dm_named.specs.Patches.{Patch, PatchTextIn, NextInfo}
 use Rattle.dm_named.specs.declared.fault.FaultKind.{FaultKind}
 use Rattle.dm_named.specs.declared.fault.FaultKind.TheVariants as K
 use Rattle.dm_named.specs.declared.limits.Limits.{Limits}
@@ -48,7 +48,7 @@ one_due_fault limits k l known text x y m n (no_memory e) g = absurd (m e)
 one_due_fault limits k l known text x y m n f (no_memory e) = absurd (n e)
 
 -- a further patch, within the limits and new, is not at fault
-no_further_patch : (limits : Limits) (k : FaultKind) (ps more : List Patch) (p : Patch) (text after x : List ℕ) → k ≢ K.NoMemory → DueFaultWithin limits k (infos_of ps) text x → PatchText text p after → Distinct (infos_of (ps ++ p ∷ more)) → AreFewWithin limits (ps ++ p ∷ more) → ⊥
+pub no_further_patch : (limits : Limits) (k : FaultKind) (ps more : List Patch) (p : Patch) (text after x : List ℕ) → k ≢ K.NoMemory → DueFaultWithin limits k (infos_of ps) text x → PatchTextIn limits.kinds text p after → Distinct (infos_of (ps ++ p ∷ more)) → AreFewWithin limits (ps ++ p ∷ more) → ⊥
 no_further_patch limits k ps more p text after x m (no_context e h none word) t d few = none (stands_opens text p.info t.after t.info)
 no_further_patch limits k ps more p text after x m (too_many e h b c) t d few = let count = few.count in omega (arith, c, count, count_map ps, length-append ps (p ∷ more))
 no_further_patch limits k ps more p text after x m (doubled e h room dbl) t d few =
@@ -66,13 +66,13 @@ no_due_at_context limits k known text rest x m (in_patch b room new f) w = word_
 no_due_at_context limits k known text rest x m (no_memory e) w = m e
 
 -- other patches don't go on past those before a fault
-no_patch_further : (limits : Limits) (k : FaultKind) (text x : List ℕ) (qs : List Patch) → k ≢ K.NoMemory → (f : NewPatchesFaultWithin limits k text x) → Distinct (infos_of qs) → AreFewWithin limits qs → GoesOn NextPatch f.patches qs f.mid → ⊥
+no_patch_further : (limits : Limits) (k : FaultKind) (text x : List ℕ) (qs : List Patch) → k ≢ K.NoMemory → (f : NewPatchesFaultWithin limits k text x) → Distinct (infos_of qs) → AreFewWithin limits qs → GoesOn (NextPatch limits.kinds) f.patches qs f.mid → ⊥
 no_patch_further limits k text x qs m f d few g =
     no_further_patch limits k f.patches g.more g.next (skipped f.mid) g.after x m f.wrong g.stands (subst (λ (ps : List Patch). Distinct (infos_of ps)) g.longer d) (subst (AreFewWithin limits) g.longer few)
 
 one_new_fault : (limits : Limits) (k l : FaultKind) (text x y : List ℕ) → k ≢ K.NoMemory → l ≢ K.NoMemory → NewPatchesFaultWithin limits k text x → NewPatchesFaultWithin limits l text y → Same k l x y
 one_new_fault limits k l text x y m n f g =
-    elim (meet NextPatch one_next text f.patches g.patches f.mid g.mid f.read.read g.read.read) [
+    elim (meet (NextPatch limits.kinds) (one_next limits.kinds) text f.patches g.patches f.mid g.mid f.read.read g.read.read) [
       | inl e ↦
           let here : DueFaultWithin limits k (infos_of g.patches) (skipped g.mid) x = subst (λ (t : List ℕ). DueFaultWithin limits k (infos_of g.patches) (skipped t) x) e.1 (subst (λ (ps : List Patch). DueFaultWithin limits k (infos_of ps) (skipped f.mid) x) e.0 f.wrong) in
           one_due_fault limits k l (infos_of g.patches) (skipped g.mid) x y m n here g.wrong
@@ -80,11 +80,11 @@ one_new_fault limits k l text x y m n f g =
     ]
 
 -- new patches that the context follows have no fault
-new_or_context : (limits : Limits) (k : FaultKind) (text x : List ℕ) (qs : List Patch) (between after_word : List ℕ) → k ≢ K.NoMemory → NewPatchesFaultWithin limits k text x → Many NextPatch text qs between → Distinct (infos_of qs) → AreFewWithin limits qs → ContextWord between after_word → ⊥
+new_or_context : (limits : Limits) (k : FaultKind) (text x : List ℕ) (qs : List Patch) (between after_word : List ℕ) → k ≢ K.NoMemory → NewPatchesFaultWithin limits k text x → Many (NextPatch limits.kinds) text qs between → Distinct (infos_of qs) → AreFewWithin limits qs → ContextWord between after_word → ⊥
 new_or_context limits k text x qs between after_word m f read d few word =
-    elim (meet NextPatch one_next text f.patches qs f.mid between f.read.read read) [
+    elim (meet (NextPatch limits.kinds) (one_next limits.kinds) text f.patches qs f.mid between f.read.read read) [
       | inl e ↦ no_due_at_context limits k (infos_of f.patches) (skipped f.mid) after_word x m f.wrong (subst (λ (t : List ℕ). ContextWord t after_word) (sym e.1) word)
-      | inr o ↦ elim o [ inl a ↦ no_patch_further limits k text x qs m f d few a | inr a ↦ no_patch_at_context between after_word word a.next a.after a.stands ]
+      | inr o ↦ elim o [ inl a ↦ no_patch_further limits k text x qs m f d few a | inr a ↦ no_patch_at_context limits.kinds between after_word word a.next a.after a.stands ]
     ]
 
 -- ---- the context
@@ -116,7 +116,7 @@ one_after_heading limits k l text x y m n (in_new f) (in_new g) = one_new_fault 
 one_after_heading limits k l text x y m n (in_new f) (in_context qs between after_word read few word g) = absurd (new_or_context limits k text x qs between after_word m f read.read read.distinct few word)
 one_after_heading limits k l text x y m n (in_context ps between after_word read few word f) (in_new g) = absurd (new_or_context limits l text y ps between after_word n g read.read read.distinct few word)
 one_after_heading limits k l text x y m n (in_context ps between after_word read few word f) (in_context qs between' after_word' read' few' word' g) =
-    let same = one_patches text ps qs between between' after_word after_word' read.read read'.read word word' in
+    let same = one_patches limits.kinds text ps qs between between' after_word after_word' read.read read'.read word word' in
     let words = one_word (skipped between') context_word context_word after_word after_word' (subst (λ (t : List ℕ). ContextWord t after_word) same.1 word) word' in
     let start : ContextFaultAt k (infos_of qs) after_word' x = subst (λ (t : List ℕ). ContextFaultAt k (infos_of qs) t x) words.1 (subst (λ (rs : List Patch). ContextFaultAt k (infos_of rs) after_word x) same.0 f) in
     one_context_fault k l (infos_of qs) after_word' x y m n start g

@@ -12,7 +12,7 @@ use Rattle.dm_named.specs.declared.limits.Limits.{Limits}
 use Rattle.dm_named.proofs.WithinCount.{past_patch}
 use Rattle.dm_bundle.specs.Patches.{infos_of, NextPatch, AreFewWithin}
 use Rattle.dm_bundle.specs.Context.{ContextWord}
-use Rattle.dm_bundle.specs.Bundles.{Contents, Sections, BundleText}
+use Rattle.dm_bundle.specs.Bundles.{Contents, Sections, BundleTextIn}
 use Rattle.dm_bundle.specs.Faults.{IsWithinSizeOf, DueFaultWithin, no_context, too_many, doubled, in_patch, no_memory, ContextInfoFaultAt, in_info, AfterHeadingFaultWithin, in_new, in_context, FaultWithin, too_large, no_new_patches, after_heading}
 use Rattle.dm_bundle.proofs.OneBundle.{one_heading, word_opens, patches_follow}
 use Rattle.dm_bundle.proofs.PatchesLemmas.{count_map}
@@ -23,7 +23,7 @@ few_at limits [] p more a = a.0
 few_at limits (q ∷ ps) p more a = few_at limits ps p more a.1
 
 -- what is one too many goes past what may be there
-not_due : (limits : Limits) (ps more : List Patch) (mid rest after_word here : List ℕ) → DueFaultWithin limits K.TooMany (infos_of ps) (skipped mid) here → Many NextPatch mid more rest → ContextWord rest after_word → AreFewWithin limits (ps ++ more) → ⊥
+not_due : (limits : Limits) (ps more : List Patch) (mid rest after_word here : List ℕ) → DueFaultWithin limits K.TooMany (infos_of ps) (skipped mid) here → Many (NextPatch limits.kinds) mid more rest → ContextWord rest after_word → AreFewWithin limits (ps ++ more) → ⊥
 not_due limits ps more mid rest after_word here (no_context e h i w) r c few = cc e
 not_due limits ps [] mid rest after_word here (too_many e h b n) r c few = word_opens (skipped mid) after_word (subst (λ (t : List ℕ). ContextWord t after_word) (sym r) c) b
 not_due limits ps (p ∷ more) mid rest after_word here (too_many e h b n) r c few = let count = few.count in omega (arith, n, count, count_map ps, length-append ps (p ∷ more))
@@ -39,29 +39,29 @@ not_known : (known : List PatchInfo) (text here : List ℕ) → ContextInfoFault
 not_known known text here (doubled e h d) = cc e
 not_known known text here (in_info b f) = f
 
-not_after_heading : (limits : Limits) (text here : List ℕ) → AfterHeadingFaultWithin limits K.TooMany text here → (b : Contents) → Sections text b → AreFewWithin limits b.patches → ⊥
+not_after_heading : (limits : Limits) (text here : List ℕ) → AfterHeadingFaultWithin limits K.TooMany text here → (b : Contents) → Sections limits.kinds text b → AreFewWithin limits b.patches → ⊥
 not_after_heading limits text here (in_new f) b s few =
-    let m = patches_follow text f.patches b.patches f.mid s.between s.after_word f.read.read s.patches.read s.word in
+    let m = patches_follow limits.kinds text f.patches b.patches f.mid s.between s.after_word f.read.read s.patches.read s.word in
     not_due limits f.patches m.0 f.mid s.between s.after_word here f.wrong m.2 s.word (subst (AreFewWithin limits) m.1 few)
 not_after_heading limits text here (in_context patches between after_word read count word f) b s few = not_known (infos_of patches) (skipped f.mid) here f.wrong
 
-not_too_many : (limits : Limits) (text : List ℕ) (at : ℕ) → FaultWithin limits text K.TooMany at → (b : Contents) → BundleText text b → AreFewWithin limits b.patches → ⊥
+not_too_many : (limits : Limits) (text : List ℕ) (at : ℕ) → FaultWithin limits text K.TooMany at → (b : Contents) → BundleTextIn limits.kinds text b → AreFewWithin limits b.patches → ⊥
 not_too_many limits text at (too_large e h n) b t few = cc e
 not_too_many limits text at (no_new_patches e h n none) b t few = cc e
-not_too_many limits text at (after_heading m le n new heading f) b t few = not_after_heading limits new (drop at text) f b (subst (λ (u : List ℕ). Sections u b) (one_heading text t.new new t.heading heading) t.sections) few
+not_too_many limits text at (after_heading m le n new heading f) b t few = not_after_heading limits new (drop at text) f b (subst (λ (u : List ℕ). Sections limits.kinds u b) (one_heading text t.new new t.heading heading) t.sections) few
 
-not_too_large : (limits : Limits) (text : List ℕ) (at : ℕ) → FaultWithin limits text K.TooLarge at → (b : Contents) → BundleText text b → IsWithinSizeOf limits text → ⊥
+not_too_large : (limits : Limits) (text : List ℕ) (at : ℕ) → FaultWithin limits text K.TooLarge at → (b : Contents) → BundleTextIn limits.kinds text b → IsWithinSizeOf limits text → ⊥
 not_too_large limits text at (too_large e h n) b t fits = omega (arith, n, fits)
 not_too_large limits text at (no_new_patches e h n none) b t fits = cc e
 not_too_large limits text at (after_heading m le n new heading f) b t fits =
-    no_sections limits K.TooLarge new (drop at text) (record { memory = λ e. cc; count = λ e. cc }) f b (subst (λ (u : List ℕ). Sections u b) (one_heading text t.new new t.heading heading) t.sections)
+    no_sections limits K.TooLarge new (drop at text) (record { memory = λ e. cc; count = λ e. cc }) f b (subst (λ (u : List ℕ). Sections limits.kinds u b) (one_heading text t.new new t.heading heading) t.sections)
 
 not_memory : (limits : Limits) (text : List ℕ) (at : ℕ) → FaultWithin limits text K.NoMemory at → ⊥
 not_memory limits text at (too_large e h n) = cc e
 not_memory limits text at (no_new_patches e h n none) = cc e
 not_memory limits text at (after_heading m le n new heading f) = m refl
 
-pub no_fault : (limits : Limits) (text : List ℕ) (kind : FaultKind) (at : ℕ) → FaultWithin limits text kind at → (b : Contents) → BundleText text b → IsWithinSizeOf limits text → AreFewWithin limits b.patches → ⊥
+pub no_fault : (limits : Limits) (text : List ℕ) (kind : FaultKind) (at : ℕ) → FaultWithin limits text kind at → (b : Contents) → BundleTextIn limits.kinds text b → IsWithinSizeOf limits text → AreFewWithin limits b.patches → ⊥
 no_fault limits text K.TooLarge at f b t fits few = not_too_large limits text at f b t fits
 no_fault limits text K.TooMany at f b t fits few = not_too_many limits text at f b t few
 no_fault limits text K.NoMemory at f b t fits few = not_memory limits text at f
@@ -71,5 +71,5 @@ memory_unless : (kind : FaultKind) → (kind ≢ K.NoMemory → ⊥) → kind �
 memory_unless K.NoMemory h = refl
 memory_unless kind h = absurd (h (λ e. cc))
 
-pub memory_alone : (limits : Limits) (text : List ℕ) (kind : FaultKind) (at : ℕ) → (kind ≢ K.NoMemory → FaultWithin limits text kind at) → (b : Contents) → BundleText text b → IsWithinSizeOf limits text → AreFewWithin limits b.patches → kind ≡ K.NoMemory
+pub memory_alone : (limits : Limits) (text : List ℕ) (kind : FaultKind) (at : ℕ) → (kind ≢ K.NoMemory → FaultWithin limits text kind at) → (b : Contents) → BundleTextIn limits.kinds text b → IsWithinSizeOf limits text → AreFewWithin limits b.patches → kind ≡ K.NoMemory
 memory_alone limits text kind at f b t fits few = memory_unless kind (λ other. no_fault limits text kind at (f other) b t fits few)

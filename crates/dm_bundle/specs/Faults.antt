@@ -49,11 +49,11 @@ pub data DueFaultWithin (limits : Limits) (kind : FaultKind) (known : List Patch
       → DueFaultWithin limits kind known text here
   no_memory : kind ≡ NoMemory → DueFaultWithin limits kind known text here
 
--- after new patches, no more than the limits allow, there is a fault in the next one, or in what is there instead
+-- after new patches, of the kinds that the limits allow and no more, there is a fault in the next one, or in what is there instead
 pub record NewPatchesFaultWithin (limits : Limits) (kind : FaultKind) (text here : List ℕ) : Type 0 where
   pub patches : List Patch
   pub mid : List ℕ
-  pub read : NewPatches text patches mid
+  pub read : NewPatches limits.kinds text patches mid
   pub few : AreFewWithin limits patches
   pub wrong : DueFaultWithin limits kind (infos_of patches) (skipped mid) here
 
@@ -73,7 +73,7 @@ pub record ContextFaultAt (kind : FaultKind) (new : List PatchInfo) (text here :
 -- a fault after the heading: among the new patches, or after them and the word `Context:`
 pub data AfterHeadingFaultWithin (limits : Limits) (kind : FaultKind) (text here : List ℕ) : Type 0 where
   in_new : NewPatchesFaultWithin limits kind text here → AfterHeadingFaultWithin limits kind text here
-  in_context : (patches : List Patch) (between after_word : List ℕ) → NewPatches text patches between → AreFewWithin limits patches
+  in_context : (patches : List Patch) (between after_word : List ℕ) → NewPatches limits.kinds text patches between → AreFewWithin limits patches
       → ContextWord between after_word → ContextFaultAt kind (infos_of patches) after_word here → AfterHeadingFaultWithin limits kind text here
 
 -- the fault of a text read within these limits, and its place: too many bytes, else no heading, else a fault after the heading; that

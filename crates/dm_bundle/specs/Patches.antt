@@ -5,8 +5,10 @@ use Rattle.dm_info.specs.PatchInfo.{PatchInfo}
 use Rattle.dm_named.specs.Limits.{standard}
 use Rattle.dm_named.specs.Many.{Many}
 use Rattle.dm_named.specs.Words.{skipped}
-use Rattle.dm_named.specs.Patches.{Patch, PatchText}
+use Rattle.dm_named.specs.Kinds.{AreOf, AreWritable}
+use Rattle.dm_named.specs.Patches.{Patch, PatchTextIn}
 use Rattle.dm_named.specs.declared.limits.Limits.{Limits}
+use Rattle.dm_named.specs.declared.limits.Kinds.{Kinds}
 
 -- the patch infos of patches
 abbrev pub infos_of : List Patch → List PatchInfo
@@ -21,13 +23,13 @@ Distinct (i ∷ is) = (Contains is i → ⊥) × Distinct is
 abbrev pub SameMembers : List PatchInfo → List PatchInfo → Type 0
 SameMembers xs ys = (i : PatchInfo) → Contains xs i ↔ Contains ys i
 
--- a named patch after white space
-abbrev pub NextPatch : List ℕ → Patch → List ℕ → Type 0
-NextPatch text p rest = PatchText (skipped text) p rest
+-- a named patch of primitives of these kinds after white space
+abbrev pub NextPatch : Kinds → List ℕ → Patch → List ℕ → Type 0
+NextPatch kinds text p rest = PatchTextIn kinds (skipped text) p rest
 
--- named patches one after the other, none with the patch info of another
-pub record NewPatches (text : List ℕ) (patches : List Patch) (rest : List ℕ) : Type 0 where
-  pub read : Many NextPatch text patches rest
+-- named patches of primitives of these kinds one after the other, none with the patch info of another
+pub record NewPatches (kinds : Kinds) (text : List ℕ) (patches : List Patch) (rest : List ℕ) : Type 0 where
+  pub read : Many (NextPatch kinds) text patches rest
   pub distinct : Distinct (infos_of patches)
 
 -- no more new patches than these limits allow, each of no more primitives
@@ -38,3 +40,11 @@ pub record AreFewWithin (limits : Limits) (patches : List Patch) : Type 0 where
 -- no more than the standard limits allow
 abbrev pub AreFew : List Patch → Type 0
 AreFew patches = AreFewWithin standard patches
+
+-- the primitives of each patch are of these kinds
+abbrev pub AreAllOf : Kinds → List Patch → Type 0
+AreAllOf kinds patches = AllByRecursion (λ p. AreOf kinds p.prims) patches
+
+-- the primitives of each patch are of these kinds and can be written
+abbrev pub AreAllWritable : Kinds → List Patch → Type 0
+AreAllWritable kinds patches = AllByRecursion (λ p. AreWritable kinds p.prims) patches

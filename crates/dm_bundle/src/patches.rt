@@ -3,7 +3,7 @@
 ghost use Rattle.std.specs.Prelude.{◌≡◌, ◌≤◌, ◌<◌, [], ◌∷◌, ◌++◌, length, drop, Contains, IfOk, IfErr, OnOk};
 ghost use Rattle.dm_info.specs.Spelling.{open_bracket};
 ghost use Rattle.dm_named.specs.Words.{skipped, Begins};
-ghost use Rattle.dm_named.specs.Patches.{PatchText};
+ghost use Rattle.dm_named.specs.Patches.{PatchTextIn};
 ghost use Rattle.dm_bundle.specs.Patches.{infos_of, SameMembers, NewPatches, AreFewWithin};
 ghost use Rattle.dm_bundle.specs.Faults.{DueFaultWithin, NewPatchesFaultWithin};
 
@@ -33,7 +33,7 @@ fn patch_at<A: Allocator + Copy>(
     requires begins { Begins open_bracket (drop here text.now) }
     requires counted { length patches.now ≤ limits.patches }
     requires known { SameMembers known.old (infos_of patches.now) }
-    ensures ok { IfOk result (λ x. PatchText (drop here text.now) x.0 (drop x.1 text.now)) }
+    ensures ok { IfOk result (λ x. PatchTextIn limits.kinds (drop here text.now) x.0 (drop x.1 text.now)) }
     ensures within { IfOk result (λ x. x.1 ≤ length text.now) }
     ensures room { OnOk result (length patches.now < limits.patches) }
     ensures few { IfOk result (λ x. length x.0.prims ≤ limits.prims) }
@@ -72,7 +72,7 @@ pub(crate) fn patches_at<A: Allocator + Copy>(
     limits: Limits,
 ) -> Result<Start<A>, ReadFault>
     requires { start ≤ length text.now }
-    ensures ok { IfOk result (λ s. NewPatches (drop start text.now) s.patches.items (drop s.end text.now)) }
+    ensures ok { IfOk result (λ s. NewPatches limits.kinds (drop start text.now) s.patches.items (drop s.end text.now)) }
     ensures known { IfOk result (λ s. SameMembers s.known (infos_of s.patches.items)) }
     ensures few { IfOk result (λ s. AreFewWithin limits s.patches.items) }
     ensures closed { IfOk result (λ s. Begins open_bracket (skipped (drop s.end text.now)) → ⊥) }

@@ -1,8 +1,8 @@
 //! Reading a bundle.
 
 ghost use Rattle.std.specs.Prelude.{◌≡◌, ◌≢◌, ◌≤◌, ◌<◌, length, drop, MatchResult, IfOk, IfErr, IsErrOf};
-ghost use Rattle.dm_bundle.specs.Patches.{AreFew, AreFewWithin};
-ghost use Rattle.dm_bundle.specs.Bundles.{Contents, IsValidBundle, SectionsEndAt, BundleText, EndsAt};
+ghost use Rattle.dm_bundle.specs.Patches.{AreFew, AreFewWithin, AreAllWritable};
+ghost use Rattle.dm_bundle.specs.Bundles.{Contents, IsValidBundle, SectionsEndAt, BundleText, BundleTextIn, EndsAtIn};
 ghost use Rattle.dm_bundle.specs.Canonical.{bundle_text};
 ghost use Rattle.dm_bundle.specs.Faults.{most_bytes, IsWithinSize, IsWithinSizeOf, HasNoHeading, AfterHeadingFaultWithin, FaultAt, FaultWithin, ExcludesBundle};
 
@@ -22,7 +22,7 @@ fn sections_at<A: Allocator + Copy>(
     limits: Limits,
 ) -> Result<(Bundle<A>, usize), ReadFault>
     requires { new ≤ length text.now }
-    ensures ok { IfOk result (λ x. SectionsEndAt (drop new text.now) x.0 (drop x.1 text.now)) }
+    ensures ok { IfOk result (λ x. SectionsEndAt limits.kinds (drop new text.now) x.0 (drop x.1 text.now)) }
     ensures within { IfOk result (λ x. x.1 ≤ length text.now) }
     ensures few { IfOk result (λ x. AreFewWithin limits x.0.patches) }
     ensures err { IfErr result (λ e. AfterHeadingFaultWithin limits e.kind (drop new text.now) (drop e.at text.now)) }
@@ -51,7 +51,7 @@ fn bundle_of<A: Allocator + Copy>(
     text: &[u8],
     limits: Limits,
 ) -> Result<(Bundle<A>, usize), ReadFault>
-    ensures ok { IfOk result (λ x. EndsAt text.now x.0 (drop x.1 text.now)) }
+    ensures ok { IfOk result (λ x. EndsAtIn limits.kinds text.now x.0 (drop x.1 text.now)) }
     ensures within { IfOk result (λ x. x.1 ≤ length text.now) }
     ensures few { IfOk result (λ x. AreFewWithin limits x.0.patches) }
     ensures err { IfErr result (λ e. e.kind ≢ FaultKind.NoMemory → FaultWithin limits text.now e.kind e.at) }
@@ -86,23 +86,23 @@ pub fn read_bundle_to<A: Allocator + Copy>(
     limits: Limits,
 ) -> Result<(Bundle<A>, usize), ReadFault>
     // The text stands for the bundle that is returned, and for no other.
-    ensures ok { IfOk result (λ x. BundleText text.now x.0) }
-    ensures only { IfOk result (λ x. (c : Contents) → BundleText text.now c → x.0 ≡ c) }
+    ensures ok { IfOk result (λ x. BundleTextIn limits.kinds text.now x.0) }
+    ensures only { IfOk result (λ x. (c : Contents) → BundleTextIn limits.kinds text.now c → x.0 ≡ c) }
     // Past the white space behind the context stands what begins at the place.
-    ensures end { IfOk result (λ x. EndsAt text.now x.0 (drop x.1 text.now)) }
+    ensures end { IfOk result (λ x. EndsAtIn limits.kinds text.now x.0 (drop x.1 text.now)) }
     ensures within { IfOk result (λ x. x.1 ≤ length text.now) }
     // It has no more new patches than the limits allow, each of no more primitives.
     ensures few { IfOk result (λ x. AreFewWithin limits x.0.patches) }
     // A bundle is read if it and its text are within the limits, unless memory runs out.
-    ensures within_limits { (b : Contents) → BundleText text.now b → IsWithinSizeOf limits text.now → AreFewWithin limits b.patches
+    ensures within_limits { (b : Contents) → BundleTextIn limits.kinds text.now b → IsWithinSizeOf limits text.now → AreFewWithin limits b.patches
         → MatchResult result (λ found. found.0 ≡ b) (λ e. e.kind ≡ FaultKind.NoMemory) }
-    // So is a valid bundle from its canonical text.
-    ensures canonical { (b : Contents) → IsValidBundle b → text.now ≡ bundle_text b → IsWithinSizeOf limits text.now → AreFewWithin limits b.patches
+    // So is a valid bundle from its canonical text, if its primitives are of the kinds that are read and can be written.
+    ensures canonical { (b : Contents) → IsValidBundle b → AreAllWritable limits.kinds b.patches → text.now ≡ bundle_text b → IsWithinSizeOf limits text.now → AreFewWithin limits b.patches
         → MatchResult result (λ found. found.0 ≡ b) (λ e. e.kind ≡ FaultKind.NoMemory) }
     // What is wrong, and where.
     ensures err { IfErr result (λ e. e.kind ≢ FaultKind.NoMemory → FaultWithin limits text.now e.kind e.at) }
     // A text with a fault stands for no bundle, unless it is too large, has too many parts, or memory ran out.
-    ensures none { IfErr result (λ e. ExcludesBundle e.kind → (b : Contents) → BundleText text.now b → ⊥) }
+    ensures none { IfErr result (λ e. ExcludesBundle e.kind → (b : Contents) → BundleTextIn limits.kinds text.now b → ⊥) }
     // To find these two faults takes no memory.
     ensures too_large { limits.bytes < length text.now → IsErrOf result (record { kind = FaultKind.TooLarge; at = limits.bytes }) }
     ensures no_heading { IsWithinSizeOf limits text.now → HasNoHeading text.now
@@ -124,20 +124,20 @@ pub fn read_bundle_within<A: Allocator + Copy>(
     limits: Limits,
 ) -> Result<Bundle<A>, ReadFault>
     // The text stands for the bundle that is returned, and for no other.
-    ensures ok { IfOk result (λ b. BundleText text.now b) }
-    ensures only { IfOk result (λ b. (c : Contents) → BundleText text.now c → b ≡ c) }
+    ensures ok { IfOk result (λ b. BundleTextIn limits.kinds text.now b) }
+    ensures only { IfOk result (λ b. (c : Contents) → BundleTextIn limits.kinds text.now c → b ≡ c) }
     // It has no more new patches than the limits allow, each of no more primitives.
     ensures few { IfOk result (λ b. AreFewWithin limits b.patches) }
     // A bundle is read if it and its text are within the limits, unless memory runs out.
-    ensures within_limits { (b : Contents) → BundleText text.now b → IsWithinSizeOf limits text.now → AreFewWithin limits b.patches
+    ensures within_limits { (b : Contents) → BundleTextIn limits.kinds text.now b → IsWithinSizeOf limits text.now → AreFewWithin limits b.patches
         → MatchResult result (λ found. found ≡ b) (λ e. e.kind ≡ FaultKind.NoMemory) }
-    // So is a valid bundle from its canonical text.
-    ensures canonical { (b : Contents) → IsValidBundle b → text.now ≡ bundle_text b → IsWithinSizeOf limits text.now → AreFewWithin limits b.patches
+    // So is a valid bundle from its canonical text, if its primitives are of the kinds that are read and can be written.
+    ensures canonical { (b : Contents) → IsValidBundle b → AreAllWritable limits.kinds b.patches → text.now ≡ bundle_text b → IsWithinSizeOf limits text.now → AreFewWithin limits b.patches
         → MatchResult result (λ found. found ≡ b) (λ e. e.kind ≡ FaultKind.NoMemory) }
     // What is wrong, and where.
     ensures err { IfErr result (λ e. e.kind ≢ FaultKind.NoMemory → FaultWithin limits text.now e.kind e.at) }
     // A text with a fault stands for no bundle, unless it is too large, has too many parts, or memory ran out.
-    ensures none { IfErr result (λ e. ExcludesBundle e.kind → (b : Contents) → BundleText text.now b → ⊥) }
+    ensures none { IfErr result (λ e. ExcludesBundle e.kind → (b : Contents) → BundleTextIn limits.kinds text.now b → ⊥) }
     // To find these two faults takes no memory.
     ensures too_large { limits.bytes < length text.now → IsErrOf result (record { kind = FaultKind.TooLarge; at = limits.bytes }) }
     ensures no_heading { IsWithinSizeOf limits text.now → HasNoHeading text.now

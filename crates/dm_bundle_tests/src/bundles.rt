@@ -2,7 +2,7 @@
 
 use bumpalo::Bump;
 use dm_bundle::{Bundle, read_bundle, read_bundle_within, write_bundle};
-use dm_named::{FaultKind, Limits, ReadFault};
+use dm_named::{FaultKind, Kinds, Limits, ReadFault};
 use std::alloc::Global;
 
 /// The canonical text of a bundle of two new patches and a context.
@@ -14,6 +14,7 @@ const MET: Limits = Limits {
     bytes: 82,
     patches: 2,
     prims: 1,
+    kinds: Kinds::Six,
 };
 
 /// Whether its text is written in the arena.

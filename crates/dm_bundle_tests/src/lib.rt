@@ -18,3 +18,5 @@ mod primitives;
 mod rows;
 #[cfg(test)]
 mod trees;
+#[cfg(test)]
+mod wider;

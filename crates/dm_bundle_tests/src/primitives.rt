@@ -2,8 +2,9 @@
 //! answer where memory is ample, and what a commute takes of an arena.
 use crate::asking::{do_commute, is_twice};
 use crate::rows::{HUNKS, MOVE_THEN_WORK, MOVES, WORK_THEN_MOVE, WORKS};
+use crate::wider::PAIRS;
 use bumpalo::Bump;
-use dm_named::{Named, read_named, write_named};
+use dm_named::{Kinds, Limits, Named, read_named, read_named_within, write_named};
 use dm_prim::{Prim, apply_all, commute};
 use dm_tree::Tree;
 use std::alloc::{AllocError, Global};
@@ -38,7 +39,8 @@ fn write_both(alloc: Global, row: &mut Named<Global>, out: &mut Vec<u8>) -> Resu
 
 /// Whether the first two primitives of the row commute to the others.
 fn is_as_told(alloc: Global, row: &str) -> bool {
-    let Ok((mut patch, _)) = read_named(alloc, row.as_bytes(), 0) else {
+    let limits = Limits::STANDARD.with_kinds(Kinds::All);
+    let Ok((mut patch, _)) = read_named_within(alloc, row.as_bytes(), 0, limits) else {
         return false;
     };
     let mut out = Vec::new(alloc);
@@ -62,6 +64,7 @@ fn pairs_commute_by_the_table(rt: HostRuntime) {
     assert_eq!(rt; first_wrong(rt.alloc(), WORK_THEN_MOVE), "");
     assert_eq!(rt; first_wrong(rt.alloc(), MOVE_THEN_WORK), "");
     assert_eq!(rt; first_wrong(rt.alloc(), MOVES), "");
+    assert_eq!(rt; first_wrong(rt.alloc(), PAIRS), "");
 }
 
 /// Appends a primitive a thousand times.

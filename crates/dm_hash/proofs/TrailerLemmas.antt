@@ -6,7 +6,9 @@ use Rattle.dm_named.specs.Words.{skipped, Begins, Word}
 use Rattle.dm_named.specs.Patches.{Patch}
 use Rattle.dm_named.proofs.WordLemmas.{one_word}
 use Rattle.dm_named.proofs.PatchRoundTrip.{front_same}
-use Rattle.dm_bundle.specs.Bundles.{Contents, IsValidBundle, EndsAt}
+use Rattle.dm_named.specs.declared.limits.Kinds.{Kinds}
+use Rattle.dm_bundle.specs.Patches.{AreAllWritable}
+use Rattle.dm_bundle.specs.Bundles.{Contents, IsValidBundle, EndsAtIn}
 use Rattle.dm_bundle.specs.Canonical.{bundle_text}
 use Rattle.dm_bundle.proofs.RoundTrips.{round_trip_before}
 use Rattle.dm_hash.specs.Kept.{darcs1_text}
@@ -46,5 +48,5 @@ written_right patches =
 no_bracket : (patches : List Patch) → Begins 91 (trailer_text patches) → ⊥
 no_bracket patches b = omega (arith, front_same 80 91 (codes "atch bundle hash:" ++ 10 ∷ (hash_text (darcs1_text patches) ++ 10 ∷ [])) b.0 b.1)
 
-pub written_ends : (b : Contents) → IsValidBundle b → EndsAt (bundle_text b ++ trailer_text b.patches) b (trailer_text b.patches)
-written_ends b valid = round_trip_before b (trailer_text b.patches) valid (no_bracket b.patches)
+pub written_ends : (kinds : Kinds) (b : Contents) → IsValidBundle b → AreAllWritable kinds b.patches → EndsAtIn kinds (bundle_text b ++ trailer_text b.patches) b (trailer_text b.patches)
+written_ends kinds b valid can = round_trip_before kinds b (trailer_text b.patches) valid can (no_bracket b.patches)

@@ -1,7 +1,9 @@
 -- Laws of trailers.
 use Rattle.std.specs.Prelude.{◌≡◌, ℕ, List, ◌++◌}
 use Rattle.dm_named.specs.Patches.{Patch}
-use Rattle.dm_bundle.specs.Bundles.{Contents, IsValidBundle, EndsAt}
+use Rattle.dm_named.specs.declared.limits.Kinds.{Kinds}
+use Rattle.dm_bundle.specs.Patches.{AreAllWritable}
+use Rattle.dm_bundle.specs.Bundles.{Contents, IsValidBundle, EndsAtIn}
 use Rattle.dm_bundle.specs.Canonical.{bundle_text}
 use Rattle.dm_hash.specs.Trailers.{TrailerSays, trailer_text}
 use Rattle.dm_hash.specs.declared.trailer.Trailer.{Trailer}
@@ -12,7 +14,8 @@ abbrev pub OneTrailer : Type 0
 OneTrailer = (patches : List Patch) (rest : List ℕ) (one other : Trailer) → TrailerSays patches rest one → TrailerSays patches rest other →
     one ≡ other
 
--- the canonical text of a valid bundle and its trailer stand for the bundle, the trailer is where the bundle ends, and it is right
+-- The canonical text of a valid bundle, whose primitives are of these kinds and can be written, and its trailer stand for the bundle; the trailer is where
+-- the bundle ends, and it is right.
 abbrev pub WrittenHashIsRight : Type 0
-WrittenHashIsRight = (b : Contents) → IsValidBundle b →
-    EndsAt (bundle_text b ++ trailer_text b.patches) b (trailer_text b.patches) × TrailerSays b.patches (trailer_text b.patches) Right
+WrittenHashIsRight = (kinds : Kinds) (b : Contents) → IsValidBundle b → AreAllWritable kinds b.patches →
+    EndsAtIn kinds (bundle_text b ++ trailer_text b.patches) b (trailer_text b.patches) × TrailerSays b.patches (trailer_text b.patches) Right

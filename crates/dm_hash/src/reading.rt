@@ -3,7 +3,7 @@
 ghost use Rattle.std.specs.Prelude.{◌≡◌, ◌≢◌, ◌≤◌, ◌<◌, ◌++◌, ℕ, List, length, drop, MatchBool, MatchResult, IfOk, IfErr, IfSome, IfNone, IsErrOf};
 ghost use Rattle.hex.specs.Hex.{encode_lower};
 ghost use Rattle.dm_bundle.specs.Patches.{AreFewWithin};
-ghost use Rattle.dm_bundle.specs.Bundles.{Contents, BundleText, EndsAt};
+ghost use Rattle.dm_bundle.specs.Bundles.{Contents, BundleTextIn, EndsAtIn};
 ghost use Rattle.dm_bundle.specs.Faults.{IsWithinSizeOf, HasNoHeading, FaultWithin, ExcludesBundle};
 ghost use Rattle.dm_hash.specs.Trailers.{trailer_mark, TrailerSays};
 
@@ -70,20 +70,20 @@ pub fn read_hashed<A: Allocator + Copy>(
     limits: Limits,
 ) -> Result<Hashed<A>, ReadFault>
     // The text stands for the bundle that is returned, and for no other; the bundle ends at the place.
-    ensures ok { IfOk result (λ h. EndsAt text.now h.bundle (drop h.at text.now)) }
-    ensures only { IfOk result (λ h. (c : Contents) → BundleText text.now c → h.bundle ≡ c) }
+    ensures ok { IfOk result (λ h. EndsAtIn limits.kinds text.now h.bundle (drop h.at text.now)) }
+    ensures only { IfOk result (λ h. (c : Contents) → BundleTextIn limits.kinds text.now c → h.bundle ≡ c) }
     ensures place { IfOk result (λ h. h.at ≤ length text.now) }
     // What stands at the place says this of the new patches.
     ensures trailer { IfOk result (λ h. TrailerSays h.bundle.patches (drop h.at text.now) h.trailer) }
     // It has no more new patches than the limits allow, each of no more primitives.
     ensures few { IfOk result (λ h. AreFewWithin limits h.bundle.patches) }
     // A bundle is read if it and its text are within the limits, whatever its trailer says, unless memory runs out.
-    ensures within_limits { (b : Contents) → BundleText text.now b → IsWithinSizeOf limits text.now → AreFewWithin limits b.patches
+    ensures within_limits { (b : Contents) → BundleTextIn limits.kinds text.now b → IsWithinSizeOf limits text.now → AreFewWithin limits b.patches
         → MatchResult result (λ found. found.bundle ≡ b) (λ e. e.kind ≡ FaultKind.NoMemory) }
     // What is wrong, and where.
     ensures err { IfErr result (λ e. e.kind ≢ FaultKind.NoMemory → FaultWithin limits text.now e.kind e.at) }
     // A text with a fault stands for no bundle, unless it is too large, has too many parts, or memory ran out.
-    ensures none { IfErr result (λ e. ExcludesBundle e.kind → (b : Contents) → BundleText text.now b → ⊥) }
+    ensures none { IfErr result (λ e. ExcludesBundle e.kind → (b : Contents) → BundleTextIn limits.kinds text.now b → ⊥) }
     // To find these two faults takes no memory.
     ensures too_large { limits.bytes < length text.now → IsErrOf result (record { kind = FaultKind.TooLarge; at = limits.bytes }) }
     ensures no_heading { IsWithinSizeOf limits text.now → HasNoHeading text.now

@@ -1,14 +1,15 @@
 //! Writing a bundle and its trailer.
 
 ghost use Rattle.std.specs.Prelude.{◌≡◌, ◌++◌, IfOk, OnOk};
-ghost use Rattle.dm_bundle.specs.Bundles.{IsValidBundle, BundleText, EndsAt};
+ghost use Rattle.dm_bundle.specs.Patches.{AreAllOf};
+ghost use Rattle.dm_bundle.specs.Bundles.{IsValidBundle, BundleTextIn, EndsAtIn};
 ghost use Rattle.dm_bundle.specs.Canonical.{bundle_text};
 ghost use Rattle.dm_hash.specs.Trailers.{trailer_text, TrailerSays};
 ghost use Rattle.dm_hash.specs.declared.trailer.Trailer.TheVariants.{Right};
 
 use crate::kept::hashes_of;
 use dm_bundle::{Bundle, write_bundle};
-use dm_named::Named;
+use dm_named::{Kinds, Named};
 use std::alloc::{AllocError, Allocator};
 
 fn push_trailer<A: Allocator, B: Allocator + Copy>(
@@ -34,10 +35,11 @@ pub fn write_hashed<A: Allocator, B: Allocator + Copy>(
 ) -> Result<Vec<u8, B>, AllocError>
     ensures text { IfOk result (λ text. text.items ≡ bundle_text bundle.now ++ trailer_text bundle.now.patches) }
     ensures valid { OnOk result (IsValidBundle bundle.now) }
-    // The text stands for the bundle, so it is read back as the same if it is within the limits.
-    ensures stands { IfOk result (λ text. BundleText text.items bundle.now) }
+    // The text stands for the bundle, so it is read back as the same if it and its primitives are within the limits.
+    ensures stands { IfOk result (λ text. (kinds : Kinds) → AreAllOf kinds bundle.now.patches → BundleTextIn kinds text.items bundle.now) }
     // The bundle ends at the trailer, and the trailer is right.
-    ensures ends { IfOk result (λ text. EndsAt text.items bundle.now (trailer_text bundle.now.patches)) }
+    ensures ends { IfOk result (λ text. (kinds : Kinds) → AreAllOf kinds bundle.now.patches
+        → EndsAtIn kinds text.items bundle.now (trailer_text bundle.now.patches)) }
     ensures right { OnOk result (TrailerSays bundle.now.patches (trailer_text bundle.now.patches) Right) }
 {
     let mut text = write_bundle(alloc, bundle)?;

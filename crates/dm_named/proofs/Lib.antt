@@ -3,6 +3,13 @@ pub mod NameLemmas
 pub mod ManyLemmas
 pub mod PathLemmas
 pub mod GroupLemmas
+pub mod KindLemmas
+pub mod BinaryLemmas
+pub mod PreferenceLemmas
+pub mod ChosenKinds
+pub mod Lengths
+pub mod Places
+pub mod SixFaults
 pub mod PrimLemmas
 pub mod BodyLemmas
 pub mod OneFault

@@ -1,7 +1,8 @@
 -- Lists of which elements are compared or copied one after the other.
-use Rattle.std.proofs.Common.{Option, Some, None, ◌≡◌, ◌<◌, ◌+◌, ℕ, List, [], ◌∷◌, ◌++◌, length, get_or, take, map, refl, sym, ap, ◌∙◌, append_assoc}
-use Rattle.std.proofs.lemmas.List.{take_more, map_push}
-use Rattle.std.specs.List.{AllByRecursion}
+use Rattle.std.proofs.Common.{Option, Some, None, ◌≡◌, ◌<◌, ◌+◌, ℕ, List, [], ◌∷◌, ◌++◌, length, get_or, take, map, refl, sym, ap, subst, ◌∙◌, arith, append_assoc}
+use Rattle.std.proofs.lemmas.List.{take_more, map_push, append-nil}
+use Rattle.std.specs.List.{AllByRecursion, flat_map}
+use Rattle.std.specs.Prelude.{Result, Ok, Err, OnOk}
 use Rattle.dm_prim.specs.Primitives.{Prim, inv_all}
 use Rattle.dm_prim.specs.Touch.{TouchedPaths}
 use Rattle.dm_prim.proofs.TouchLemmas.{inverses_touch_the_same}
@@ -55,3 +56,27 @@ known_undone ps qs (Some t) e h = rw e (inverses_touch_the_same ps t h)
 -- three texts are appended, one after the other
 pub three_more : (a b c d e f h : List ℕ) → e ≡ a ++ b → f ≡ e ++ c → h ≡ f ++ d → h ≡ a ++ (b ++ (c ++ d))
 three_more a b c d e f h x y z = rw (z, y, x) (simp append_assoc refl)
+
+-- the text of one more element is appended
+flat_push : {V : Type 0} (text : V → List ℕ) (vs : List V) (v : V) → flat_map text (vs ++ v ∷ []) ≡ flat_map text vs ++ text v
+flat_push text [] v = append-nil (text v)
+flat_push text (w ∷ vs) v = ap (λ t. text w ++ t) (flat_push text vs v) ∙ sym (append_assoc (text w) (flat_map text vs) (text v))
+
+pub text_more : {X V : Type 0} (text : V → List ℕ) (f : X → V) (xs : List X) (i : ℕ) (x : X) (start before after : List ℕ) → i < length xs → x ≡ get_or xs i x → before ≡ start ++ flat_map text (map f (take i xs)) → after ≡ before ++ text (f x) → after ≡ start ++ flat_map text (map f (take (i + 1) xs))
+text_more text f xs i x start before after lt is so new =
+    let next : take (i + 1) xs ≡ take i xs ++ x ∷ [] = take_more xs i x lt ∙ ap (λ z. take i xs ++ z ∷ []) (sym is) in
+    rw (next, map_push f (take i xs) x, flat_push text (map f (take i xs)) (f x), new, so) (append_assoc start (flat_map text (map f (take i xs))) (text (f x)))
+
+-- one element alone
+pub all_alone : {X V : Type 0} (P : V → Type 0) (f : X → V) (xs : List X) (x : X) → length xs ≡ 1 → x ≡ get_or xs 0 x → P (f x) → AllByRecursion P (map f xs)
+all_alone P f [] x one is here = absurd (omega (arith, one))
+all_alone P f (y ∷ []) x one is here = (subst P (ap f is) here, tt)
+all_alone P f (y ∷ z ∷ xs) x one is here = absurd (omega (arith, one))
+
+pub on_ok : {T E A B : Type 0} (r : Result T E) → (A → B) → OnOk r A → OnOk r B
+on_ok (Ok x) into a = into a
+on_ok (Err e) into a = tt
+
+-- a word and three lines are appended, one after the other
+pub lines_more : (out word name old new a b c d : List ℕ) → a ≡ out ++ word → b ≡ a ++ (name ++ 10 ∷ []) → c ≡ b ++ (old ++ 10 ∷ []) → d ≡ c ++ (new ++ 10 ∷ []) → d ≡ out ++ (word ++ (name ++ 10 ∷ (old ++ 10 ∷ (new ++ 10 ∷ []))))
+lines_more out word name old new a b c d e f g h = rw (h, g, f, e) (simp append_assoc refl)

@@ -1,25 +1,27 @@
 -- A text has at most one fault of a named patch.
-use Rattle.std.proofs.Common.{◌≡◌, ◌<◌, ℕ, List, ◌∷◌, length, refl, sym, ap, subst, ◌∙◌, arith, inl, inr}
-use Rattle.std.specs.Prelude.{◌≢◌, ◌⊎◌, [], codes}
-use Rattle.std.specs.Cmp.Lexicographic.{other_text}
+use Rattle.std.proofs.Common.{◌≡◌, ◌<◌, ℕ, List, ◌∷◌, length, refl, sym, ap, subst, ◌∙◌, arith, inl, inr, false}
+use Rattle.std.specs.Prelude.{◌≢◌, ◌⊎◌, [], codes, nat_eq}
+use Rattle.std.specs.Cmp.Lexicographic.{other_text, pointwise}
 use Rattle.std.proofs.lemmas.List.{length-append}
 use Rattle.dm_info.proofs.SpellingLemmas.{one_info, stands_opens}
 use Rattle.dm_info.specs.PatchInfo.{PatchInfo}
 use Rattle.dm_info.specs.Spelling.{Stands, NoneStands, StandsInverted}
-use Rattle.dm_tree.specs.Paths.{Path}
 use Rattle.dm_prim.specs.Primitives.{Prim}
-use Rattle.dm_named.specs.Words.{skipped, WordAmong, Begins, NumberLine}
-use Rattle.dm_named.specs.Paths.{NextPath}
+use Rattle.dm_named.specs.Kinds.{IsOf}
+use Rattle.dm_named.specs.Words.{skipped, Word, WordAmong, Begins, NumberLine}
 use Rattle.dm_named.specs.Many.{Many}
-use Rattle.dm_named.specs.Patches.{WordAndPath, PrimText, NextPrim, NextInfo, Dependencies, prim_words, unsupported_words, RunEnds}
-use Rattle.dm_named.specs.Faults.{InfoFaultAt, PathFaultAt, NoChange, HunkFaultAt, PrimFaultAt, path, second, hunk, CountFaultWithin, BraceFaultAt, RunFaultAt, DependsFaultAt, AfterPrimsWithin, PrimsFaultWithin, BodyFaultWithin, in_braces, in_run, InfosFaultAt, OpenFaultAt, DepsFaultAt, PatchFaultWithin, info, deps, body}
+use Rattle.dm_named.specs.Patches.{PrimText, NextPrim, NextInfo, Dependencies, prim_words_of, unsupported_words_of, RunEnds}
+use Rattle.dm_named.specs.Faults.{InfoFaultAt, PathFaultAt, NoChange, HunkFaultAt, HexFaultAt, old_hex, new_hex, BinaryFaultAt, PreferenceFaultAt, PrimFaultAt, path, second, hunk, binary, preference, PrimFaultOf, CountFaultWithin, BraceFaultAt, RunFaultAt, DependsFaultAt, AfterPrimsWithin, PrimsFaultWithin, BodyFaultWithin, in_braces, in_run, InfosFaultAt, OpenFaultAt, DepsFaultAt, PatchFaultWithin, info, deps, body}
 use Rattle.dm_named.specs.declared.fault.FaultKind.{FaultKind}
 use Rattle.dm_named.specs.declared.fault.FaultKind.TheVariants as K
 use Rattle.dm_named.specs.declared.limits.Limits.{Limits}
+use Rattle.dm_named.specs.declared.limits.Kinds.{Kinds}
 use Rattle.dm_named.proofs.WordLemmas.{one_word}
+use Rattle.dm_named.proofs.KindLemmas.{no_refused_at_end, no_refused_ends}
+use Rattle.dm_named.proofs.BinaryLemmas.{one_word_and_stars, stars_or_none}
 use Rattle.dm_named.proofs.ManyLemmas.{meet}
 use Rattle.dm_named.proofs.OnePatch.{one_single, one_next, one_depends, prim_a_word}
-use Rattle.dm_named.proofs.NoPatch.{no_info, no_path, no_prim, prim_due, not_prim, run_no_prim, no_deps, no_more_infos, no_word_end, tail_same}
+use Rattle.dm_named.proofs.NoPatch.{no_info, path_stands, no_path_word, no_prim, not_prim, run_no_prim, no_deps, no_more_infos, tail_same}
 
 -- the same fault at the same place
 abbrev pub Same : FaultKind → FaultKind → List ℕ → List ℕ → Type 0
@@ -31,7 +33,7 @@ both a b = (a.0 ∙ sym b.0, a.1 ∙ sym b.1)
 
 -- ---- patch infos
 
-info_kind : (k : FaultKind) (text x : List ℕ) → k ≢ K.NoMemory → InfoFaultAt k text x → (x ≡ text) × (((k ≡ K.BadInfo) × NoneStands text) ⊎ ((k ≡ K.Inverted) × StandsInverted text))
+pub info_kind : (k : FaultKind) (text x : List ℕ) → k ≢ K.NoMemory → InfoFaultAt k text x → (x ≡ text) × (((k ≡ K.BadInfo) × NoneStands text) ⊎ ((k ≡ K.Inverted) × StandsInverted text))
 info_kind K.BadInfo text x m f = (f.0, inl (refl, f.1))
 info_kind K.Inverted text x m f = (f.0, inr (refl, f.1))
 info_kind K.NoMemory text x m f = absurd (m refl)
@@ -76,17 +78,37 @@ one_hunk_fault k l start text x y m n f g =
       | inr p ↦ elim (hunk_kind l start text y n g) [ inl q ↦ absurd (a_number text q.2 p.2) | inr q ↦ both (p.0, p.1) (q.0, q.1) ]
     ]
 
+-- ---- contents in hex and preferences
+
+one_hex_place : (text x y : List ℕ) → HexFaultAt text x → HexFaultAt text y → x ≡ y
+one_hex_place text x y (old_hex f) (old_hex g) = f.place ∙ sym g.place
+one_hex_place text x y (old_hex f) (new_hex lines mid a g) = absurd (stars_or_none (codes "oldhex") text x lines mid f a)
+one_hex_place text x y (new_hex lines mid a f) (old_hex g) = absurd (stars_or_none (codes "oldhex") text y lines mid g a)
+one_hex_place text x y (new_hex lines mid a f) (new_hex lines' mid' b g) =
+    let one = (one_word_and_stars (codes "oldhex") (skipped text) lines lines' mid mid' a b).1 in
+    f.place ∙ ap skipped one ∙ sym g.place
+
+binary_kind : (k : FaultKind) (text x : List ℕ) → k ≢ K.NoMemory → BinaryFaultAt k text x → (k ≡ K.BadHex) × HexFaultAt text x
+binary_kind K.BadHex text x m f = (refl, f)
+binary_kind K.NoMemory text x m f = absurd (m refl)
+binary_kind k text x m f = absurd f
+
+one_binary_fault : (k l : FaultKind) (text x y : List ℕ) → k ≢ K.NoMemory → l ≢ K.NoMemory → BinaryFaultAt k text x → BinaryFaultAt l text y → Same k l x y
+one_binary_fault k l text x y m n f g =
+    let a = binary_kind k text x m f in
+    let b = binary_kind l text y n g in
+    (a.0 ∙ sym b.0, one_hex_place text x y a.1 b.1)
+
+preference_kind : (k : FaultKind) (text x : List ℕ) → k ≢ K.NoMemory → PreferenceFaultAt k text x → (k ≡ K.BadPreference) × (x ≡ skipped text)
+preference_kind K.BadPreference text x m f = (refl, f.0)
+preference_kind K.NoMemory text x m f = absurd (m refl)
+preference_kind k text x m f = absurd f
+
 -- ---- one primitive
 
--- a path that stands after a primitive's word is not at fault
-path_stands : (k : FaultKind) (w text mid x : List ℕ) (p : Path) (stands : WordAmong prim_words text) → k ≢ K.NoMemory → PathFaultAt k stands.rest x → WordAndPath w text p mid → ⊥
-path_stands k w text mid x p stands m f s =
-    let one = one_word text w stands.word s.after stands.rest s.named stands.stands in
-    no_path k stands.rest x m f p mid (subst (λ (t : List ℕ). NextPath t p mid) one.1 s.path)
-
 -- no word is two words
-two_words : (text mid mid' : List ℕ) (p q : Path) → WordAndPath (codes "move") text p mid → WordAndPath (codes "hunk") text q mid' → ⊥
-two_words text mid mid' p q a b = other_text (codes "move") (codes "hunk") refl (one_word text (codes "move") (codes "hunk") a.after b.after a.named b.named).0
+two_words : (v w text after after' : List ℕ) → false ≡ pointwise nat_eq v w → Word text v after → Word text w after' → ⊥
+two_words v w text after after' differ a b = other_text v w differ (one_word text v w after after' a b).0
 
 one_prim_fault : (k l : FaultKind) (text x y : List ℕ) → k ≢ K.NoMemory → l ≢ K.NoMemory → PrimFaultAt k text x → PrimFaultAt l text y → Same k l x y
 one_prim_fault k l text x y m n (path a f) (path b g) =
@@ -94,16 +116,36 @@ one_prim_fault k l text x y m n (path a f) (path b g) =
     one_path_fault k l b.rest x y m n (subst (λ (t : List ℕ). PathFaultAt k t x) one.1 f) g
 one_prim_fault k l text x y m n (path a f) (second q mid t g) = absurd (path_stands k (codes "move") text mid x q a m f t)
 one_prim_fault k l text x y m n (path a f) (hunk q mid t g) = absurd (path_stands k (codes "hunk") text mid x q a m f t)
+one_prim_fault k l text x y m n (path a f) (binary q mid t g) = absurd (path_stands k (codes "binary") text mid x q a m f t)
+one_prim_fault k l text x y m n (path a f) (preference mid t g) = absurd (no_path_word text mid t a)
 one_prim_fault k l text x y m n (second p mid s f) (path b g) = absurd (path_stands l (codes "move") text mid y p b n g s)
 one_prim_fault k l text x y m n (second p mid s f) (second q mid' t g) =
     let one = one_single (codes "move") text p q mid mid' s t in
     one_path_fault k l mid' x y m n (subst (λ (u : List ℕ). PathFaultAt k u x) one.1 f) g
-one_prim_fault k l text x y m n (second p mid s f) (hunk q mid' t g) = absurd (two_words text mid mid' p q s t)
+one_prim_fault k l text x y m n (second p mid s f) (hunk q mid' t g) = absurd (two_words (codes "move") (codes "hunk") text s.after t.after refl s.named t.named)
+one_prim_fault k l text x y m n (second p mid s f) (binary q mid' t g) = absurd (two_words (codes "move") (codes "binary") text s.after t.after refl s.named t.named)
+one_prim_fault k l text x y m n (second p mid s f) (preference mid' t g) = absurd (two_words (codes "move") (codes "changepref") text s.after mid' refl s.named t)
 one_prim_fault k l text x y m n (hunk p mid s f) (path b g) = absurd (path_stands l (codes "hunk") text mid y p b n g s)
-one_prim_fault k l text x y m n (hunk p mid s f) (second q mid' t g) = absurd (two_words text mid' mid q p t s)
+one_prim_fault k l text x y m n (hunk p mid s f) (second q mid' t g) = absurd (two_words (codes "hunk") (codes "move") text s.after t.after refl s.named t.named)
 one_prim_fault k l text x y m n (hunk p mid s f) (hunk q mid' t g) =
     let one = one_single (codes "hunk") text p q mid mid' s t in
     one_hunk_fault k l text mid' x y m n (subst (λ (u : List ℕ). HunkFaultAt k text u x) one.1 f) g
+one_prim_fault k l text x y m n (hunk p mid s f) (binary q mid' t g) = absurd (two_words (codes "hunk") (codes "binary") text s.after t.after refl s.named t.named)
+one_prim_fault k l text x y m n (hunk p mid s f) (preference mid' t g) = absurd (two_words (codes "hunk") (codes "changepref") text s.after mid' refl s.named t)
+one_prim_fault k l text x y m n (binary p mid s f) (path b g) = absurd (path_stands l (codes "binary") text mid y p b n g s)
+one_prim_fault k l text x y m n (binary p mid s f) (second q mid' t g) = absurd (two_words (codes "binary") (codes "move") text s.after t.after refl s.named t.named)
+one_prim_fault k l text x y m n (binary p mid s f) (hunk q mid' t g) = absurd (two_words (codes "binary") (codes "hunk") text s.after t.after refl s.named t.named)
+one_prim_fault k l text x y m n (binary p mid s f) (binary q mid' t g) =
+    let one = one_single (codes "binary") text p q mid mid' s t in
+    one_binary_fault k l mid' x y m n (subst (λ (u : List ℕ). BinaryFaultAt k u x) one.1 f) g
+one_prim_fault k l text x y m n (binary p mid s f) (preference mid' t g) = absurd (two_words (codes "binary") (codes "changepref") text s.after mid' refl s.named t)
+one_prim_fault k l text x y m n (preference mid s f) (path b g) = absurd (no_path_word text mid s b)
+one_prim_fault k l text x y m n (preference mid s f) (second q mid' t g) = absurd (two_words (codes "changepref") (codes "move") text mid t.after refl s t.named)
+one_prim_fault k l text x y m n (preference mid s f) (hunk q mid' t g) = absurd (two_words (codes "changepref") (codes "hunk") text mid t.after refl s t.named)
+one_prim_fault k l text x y m n (preference mid s f) (binary q mid' t g) = absurd (two_words (codes "changepref") (codes "binary") text mid t.after refl s t.named)
+one_prim_fault k l text x y m n (preference mid s f) (preference mid' t g) =
+    let one = (one_word text (codes "changepref") (codes "changepref") mid mid' s t).1 in
+    both (preference_kind k mid' x m (subst (λ (u : List ℕ). PreferenceFaultAt k u x) one f)) (preference_kind l mid' y n g)
 
 -- ---- after primitives
 
@@ -112,34 +154,34 @@ abbrev pub Wrongs : Type 1
 Wrongs = ℕ → List ℕ → List ℕ → Type 0
 
 -- it leaves no place for a further one, within the count
-abbrev NoFurther : Limits → Wrongs → List ℕ → Type 0
-NoFurther limits W x = (count : ℕ) (text : List ℕ) → count < limits.prims → W count text x → (p : Prim) (r : List ℕ) → PrimText text p r → ⊥
+abbrev pub NoFurther : Limits → Wrongs → List ℕ → Type 0
+NoFurther limits W x = (count : ℕ) (text : List ℕ) → count < limits.prims → W count text x → (p : Prim) (r : List ℕ) → PrimText text p r → IsOf limits.kinds p → ⊥
 
 one_after : (limits : Limits) (W V : Wrongs) (text x y : List ℕ) (Goal : Type 0) → NoFurther limits W x → NoFurther limits V y → ((count : ℕ) (next : List ℕ) → W count next x → V count next y → Goal) → AfterPrimsWithin limits W text x → AfterPrimsWithin limits V text y → Goal
 one_after limits W V text x y Goal no_w no_v same a b =
-    elim (meet NextPrim one_next text a.prims b.prims a.mid b.mid a.read b.read) [
+    elim (meet (NextPrim limits.kinds) (one_next limits.kinds) text a.prims b.prims a.mid b.mid a.read b.read) [
       | inl e ↦ same (length b.prims) (skipped b.mid) (subst (λ (t : List ℕ). W (length b.prims) (skipped t) x) e.1 (subst (λ (ps : List Prim). W (length ps) (skipped a.mid) x) e.0 a.wrong)) b.wrong
       | inr o ↦ elim o [
-        | inl g ↦ absurd (no_w (length a.prims) (skipped a.mid) (omega (arith, b.few, ap length g.longer, length-append a.prims (g.next ∷ g.more))) a.wrong g.next g.after g.stands)
-        | inr g ↦ absurd (no_v (length b.prims) (skipped b.mid) (omega (arith, a.few, ap length g.longer, length-append b.prims (g.next ∷ g.more))) b.wrong g.next g.after g.stands)
+        | inl g ↦ absurd (no_w (length a.prims) (skipped a.mid) (omega (arith, b.few, ap length g.longer, length-append a.prims (g.next ∷ g.more))) a.wrong g.next g.after g.stands.read g.stands.kind)
+        | inr g ↦ absurd (no_v (length b.prims) (skipped b.mid) (omega (arith, a.few, ap length g.longer, length-append b.prims (g.next ∷ g.more))) b.wrong g.next g.after g.stands.read g.stands.kind)
       ]
     ]
 
-count_kind : (limits : Limits) (k : FaultKind) (count : ℕ) (text x : List ℕ) → k ≢ K.NoMemory → CountFaultWithin limits k count text x → (k ≡ K.TooMany) × (x ≡ text) × (count ≡ limits.prims) × WordAmong prim_words text
+pub count_kind : (limits : Limits) (k : FaultKind) (count : ℕ) (text x : List ℕ) → k ≢ K.NoMemory → CountFaultWithin limits k count text x → (k ≡ K.TooMany) × (x ≡ text) × (count ≡ limits.prims) × WordAmong (prim_words_of limits.kinds) text
 count_kind limits K.TooMany count text x m f = (refl, f.0, f.1, f.2)
 count_kind limits K.NoMemory count text x m f = absurd (m refl)
 count_kind limits k count text x m f = absurd f
 
 -- one of the primitives is wrong, by their count or by itself
-abbrev Next : Limits → FaultKind → Wrongs
-Next limits k count next x = CountFaultWithin limits k count next x ⊎ ((count < limits.prims) × PrimFaultAt k next x)
+abbrev pub Next : Limits → FaultKind → Wrongs
+Next limits k count next x = CountFaultWithin limits k count next x ⊎ ((count < limits.prims) × PrimFaultOf limits.kinds k next x)
 
-next_no_further : (limits : Limits) (k : FaultKind) (x : List ℕ) → k ≢ K.NoMemory → NoFurther limits (Next limits k) x
-next_no_further limits k x m count text lt f p r s =
-    elim f [ inl a ↦ (let c = count_kind limits k count text x m a in omega (arith, lt, c.2)) | inr a ↦ no_prim k text x m a.1 p r s ]
+pub next_no_further : (limits : Limits) (k : FaultKind) (x : List ℕ) → k ≢ K.NoMemory → NoFurther limits (Next limits k) x
+next_no_further limits k x m count text lt f p r s o =
+    elim f [ inl a ↦ (let c = count_kind limits k count text x m a in omega (arith, lt, c.2)) | inr a ↦ no_prim k text x m a.1.wrong p r s ]
 
-next_due : (limits : Limits) (k : FaultKind) (count : ℕ) (text x : List ℕ) → k ≢ K.NoMemory → Next limits k count text x → WordAmong prim_words text
-next_due limits k count text x m f = elim f [ inl a ↦ (count_kind limits k count text x m a).3 | inr a ↦ prim_due k text x a.1 ]
+next_due : (limits : Limits) (k : FaultKind) (count : ℕ) (text x : List ℕ) → k ≢ K.NoMemory → Next limits k count text x → WordAmong (prim_words_of limits.kinds) text
+next_due limits k count text x m f = elim f [ inl a ↦ (count_kind limits k count text x m a).3 | inr a ↦ a.1.due ]
 
 one_next_fault : (limits : Limits) (k l : FaultKind) (x y : List ℕ) (count : ℕ) (text : List ℕ) → k ≢ K.NoMemory → l ≢ K.NoMemory → Next limits k count text x → Next limits l count text y → Same k l x y
 one_next_fault limits k l x y count text m n f g =
@@ -149,87 +191,87 @@ one_next_fault limits k l x y count text m n f g =
           elim g [ inl b ↦ (let d = count_kind limits l count text y n b in both (c.0, c.1) (d.0, d.1)) | inr b ↦ absurd (let lt = b.0 in omega (arith, lt, c.2)) ]
       | inr a ↦ elim g [
         | inl b ↦ absurd (let d = count_kind limits l count text y n b in let lt = a.0 in omega (arith, lt, d.2))
-        | inr b ↦ one_prim_fault k l text x y m n a.1 b.1
+        | inr b ↦ one_prim_fault k l text x y m n a.1.wrong b.1.wrong
       ]
     ]
 
 -- ---- bodies
 
-brace_kind : (k : FaultKind) (text x : List ℕ) → BraceFaultAt k text x → (x ≡ text)
-    × (((k ≡ K.Unclosed) × (text ≡ [])) ⊎ (((k ≡ K.Unsupported) × (WordAmong unsupported_words text ⊎ (Begins 123 text ⊎ Begins 40 text))) ⊎ ((k ≡ K.BadPatch) × (text ≢ []) × (Begins 123 text → ⊥) × RunEnds text)))
-brace_kind K.Unclosed text x f = (f.0, inl (refl, f.1))
-brace_kind K.Unsupported text x f = (f.0, inr (inl (refl, f.1)))
-brace_kind K.BadPatch text x f = (f.0, inr (inr (refl, f.1, f.3, f.4)))
-brace_kind k text x f = absurd f
+pub brace_kind : (kinds : Kinds) (k : FaultKind) (text x : List ℕ) → BraceFaultAt kinds k text x → (x ≡ text)
+    × (((k ≡ K.Unclosed) × (text ≡ [])) ⊎ (((k ≡ K.Unsupported) × (WordAmong (unsupported_words_of kinds) text ⊎ (Begins 123 text ⊎ Begins 40 text))) ⊎ ((k ≡ K.BadPatch) × (text ≢ []) × (Begins 123 text → ⊥) × RunEnds text)))
+brace_kind kinds K.Unclosed text x f = (f.0, inl (refl, f.1))
+brace_kind kinds K.Unsupported text x f = (f.0, inr (inl (refl, f.1)))
+brace_kind kinds K.BadPatch text x f = (f.0, inr (inr (refl, f.1, f.3, f.4)))
+brace_kind kinds k text x f = absurd f
 
 not_at_end : (b : ℕ) (text : List ℕ) → text ≡ [] → Begins b text → ⊥
 not_at_end b text e o = let f : [] ≡ b ∷ o.0 = sym e ∙ o.1 in cc
 
-refused_at_end : (text : List ℕ) → text ≡ [] → WordAmong unsupported_words text ⊎ (Begins 123 text ⊎ Begins 40 text) → ⊥
-refused_at_end text e r = elim r [ inl w ↦ no_word_end unsupported_words text refl e w | inr o ↦ elim o [ inl b ↦ not_at_end 123 text e b | inr b ↦ not_at_end 40 text e b ] ]
+refused_at_end : (kinds : Kinds) (text : List ℕ) → text ≡ [] → WordAmong (unsupported_words_of kinds) text ⊎ (Begins 123 text ⊎ Begins 40 text) → ⊥
+refused_at_end kinds text e r = elim r [ inl w ↦ no_refused_at_end kinds text e w | inr o ↦ elim o [ inl b ↦ not_at_end 123 text e b | inr b ↦ not_at_end 40 text e b ] ]
 
-refused_no_bad : (text : List ℕ) → (Begins 123 text → ⊥) → RunEnds text → WordAmong unsupported_words text ⊎ (Begins 123 text ⊎ Begins 40 text) → ⊥
-refused_no_bad text bare ends r = elim r [ inl w ↦ ends.others w | inr o ↦ elim o [ inl b ↦ bare b | inr b ↦ ends.paren b ] ]
+refused_no_bad : (kinds : Kinds) (text : List ℕ) → (Begins 123 text → ⊥) → RunEnds text → WordAmong (unsupported_words_of kinds) text ⊎ (Begins 123 text ⊎ Begins 40 text) → ⊥
+refused_no_bad kinds text bare ends r = elim r [ inl w ↦ no_refused_ends kinds text ends w | inr o ↦ elim o [ inl b ↦ bare b | inr b ↦ ends.paren b ] ]
 
-one_brace_fault : (k l : FaultKind) (text x y : List ℕ) → BraceFaultAt k text x → BraceFaultAt l text y → Same k l x y
-one_brace_fault k l text x y f g =
-    let a = brace_kind k text x f in
-    let b = brace_kind l text y g in
+one_brace_fault : (kinds : Kinds) (k l : FaultKind) (text x y : List ℕ) → BraceFaultAt kinds k text x → BraceFaultAt kinds l text y → Same k l x y
+one_brace_fault kinds k l text x y f g =
+    let a = brace_kind kinds k text x f in
+    let b = brace_kind kinds l text y g in
     elim a.1 [
-      | inl p ↦ elim b.1 [ inl q ↦ both (p.0, a.0) (q.0, b.0) | inr o ↦ elim o [ inl q ↦ absurd (refused_at_end text p.1 q.1) | inr q ↦ absurd (q.1 p.1) ] ]
+      | inl p ↦ elim b.1 [ inl q ↦ both (p.0, a.0) (q.0, b.0) | inr o ↦ elim o [ inl q ↦ absurd (refused_at_end kinds text p.1 q.1) | inr q ↦ absurd (q.1 p.1) ] ]
       | inr o ↦ elim o [
-        | inl p ↦ elim b.1 [ inl q ↦ absurd (refused_at_end text q.1 p.1) | inr o ↦ elim o [ inl q ↦ both (p.0, a.0) (q.0, b.0) | inr q ↦ absurd (refused_no_bad text q.2 q.3 p.1) ] ]
-        | inr p ↦ elim b.1 [ inl q ↦ absurd (p.1 q.1) | inr o ↦ elim o [ inl q ↦ absurd (refused_no_bad text p.2 p.3 q.1) | inr q ↦ both (p.0, a.0) (q.0, b.0) ] ]
+        | inl p ↦ elim b.1 [ inl q ↦ absurd (refused_at_end kinds text q.1 p.1) | inr o ↦ elim o [ inl q ↦ both (p.0, a.0) (q.0, b.0) | inr q ↦ absurd (refused_no_bad kinds text q.2 q.3 p.1) ] ]
+        | inr p ↦ elim b.1 [ inl q ↦ absurd (p.1 q.1) | inr o ↦ elim o [ inl q ↦ absurd (refused_no_bad kinds text p.2 p.3 q.1) | inr q ↦ both (p.0, a.0) (q.0, b.0) ] ]
       ]
     ]
 
-run_kind : (k : FaultKind) (text x : List ℕ) → RunFaultAt k text x → (k ≡ K.Unsupported) × (x ≡ text)
-run_kind K.Unsupported text x f = (refl, f.0)
-run_kind k text x f = absurd f
+pub run_kind : (kinds : Kinds) (k : FaultKind) (text x : List ℕ) → RunFaultAt kinds k text x → (k ≡ K.Unsupported) × (x ≡ text)
+run_kind kinds K.Unsupported text x f = (refl, f.0)
+run_kind kinds k text x f = absurd f
 
-brace_no_further : (limits : Limits) (k : FaultKind) (x : List ℕ) → NoFurther limits (λ _. BraceFaultAt k) x
-brace_no_further limits k x count text lt f p r s = not_prim k text x f (prim_a_word text p r s)
+pub brace_no_further : (limits : Limits) (k : FaultKind) (x : List ℕ) → NoFurther limits (λ _. BraceFaultAt limits.kinds k) x
+brace_no_further limits k x count text lt f p r s o = not_prim limits.kinds k text x f (prim_a_word limits.kinds text p r s o)
 
-run_no_further : (limits : Limits) (k : FaultKind) (x : List ℕ) → NoFurther limits (λ _. RunFaultAt k) x
-run_no_further limits k x count text lt f p r s = run_no_prim k text x f (prim_a_word text p r s)
+pub run_no_further : (limits : Limits) (k : FaultKind) (x : List ℕ) → NoFurther limits (λ _. RunFaultAt limits.kinds k) x
+run_no_further limits k x count text lt f p r s o = run_no_prim limits.kinds k text x f (prim_a_word limits.kinds text p r s o)
 
-one_in_braces : (limits : Limits) (k l : FaultKind) (text x y : List ℕ) → k ≢ K.NoMemory → l ≢ K.NoMemory → PrimsFaultWithin limits k text x ⊎ AfterPrimsWithin limits (λ _. BraceFaultAt k) text x → PrimsFaultWithin limits l text y ⊎ AfterPrimsWithin limits (λ _. BraceFaultAt l) text y → Same k l x y
+one_in_braces : (limits : Limits) (k l : FaultKind) (text x y : List ℕ) → k ≢ K.NoMemory → l ≢ K.NoMemory → PrimsFaultWithin limits k text x ⊎ AfterPrimsWithin limits (λ _. BraceFaultAt limits.kinds k) text x → PrimsFaultWithin limits l text y ⊎ AfterPrimsWithin limits (λ _. BraceFaultAt limits.kinds l) text y → Same k l x y
 one_in_braces limits k l text x y m n f g =
     elim f [
       | inl a ↦ elim g [
         | inl b ↦ one_after limits (Next limits k) (Next limits l) text x y (Same k l x y) (next_no_further limits k x m) (next_no_further limits l y n) (λ count next u v. one_next_fault limits k l x y count next m n u v) a b
-        | inr b ↦ one_after limits (Next limits k) (λ _. BraceFaultAt l) text x y (Same k l x y) (next_no_further limits k x m) (brace_no_further limits l y) (λ count next u v. absurd (not_prim l next y v (next_due limits k count next x m u))) a b
+        | inr b ↦ one_after limits (Next limits k) (λ _. BraceFaultAt limits.kinds l) text x y (Same k l x y) (next_no_further limits k x m) (brace_no_further limits l y) (λ count next u v. absurd (not_prim limits.kinds l next y v (next_due limits k count next x m u))) a b
       ]
       | inr a ↦ elim g [
-        | inl b ↦ one_after limits (λ _. BraceFaultAt k) (Next limits l) text x y (Same k l x y) (brace_no_further limits k x) (next_no_further limits l y n) (λ count next u v. absurd (not_prim k next x u (next_due limits l count next y n v))) a b
-        | inr b ↦ one_after limits (λ _. BraceFaultAt k) (λ _. BraceFaultAt l) text x y (Same k l x y) (brace_no_further limits k x) (brace_no_further limits l y) (λ count next u v. one_brace_fault k l next x y u v) a b
+        | inl b ↦ one_after limits (λ _. BraceFaultAt limits.kinds k) (Next limits l) text x y (Same k l x y) (brace_no_further limits k x) (next_no_further limits l y n) (λ count next u v. absurd (not_prim limits.kinds k next x u (next_due limits l count next y n v))) a b
+        | inr b ↦ one_after limits (λ _. BraceFaultAt limits.kinds k) (λ _. BraceFaultAt limits.kinds l) text x y (Same k l x y) (brace_no_further limits k x) (brace_no_further limits l y) (λ count next u v. one_brace_fault limits.kinds k l next x y u v) a b
       ]
     ]
 
-one_in_run : (limits : Limits) (k l : FaultKind) (text x y : List ℕ) → k ≢ K.NoMemory → l ≢ K.NoMemory → PrimsFaultWithin limits k text x ⊎ AfterPrimsWithin limits (λ _. RunFaultAt k) text x → PrimsFaultWithin limits l text y ⊎ AfterPrimsWithin limits (λ _. RunFaultAt l) text y → Same k l x y
+one_in_run : (limits : Limits) (k l : FaultKind) (text x y : List ℕ) → k ≢ K.NoMemory → l ≢ K.NoMemory → PrimsFaultWithin limits k text x ⊎ AfterPrimsWithin limits (λ _. RunFaultAt limits.kinds k) text x → PrimsFaultWithin limits l text y ⊎ AfterPrimsWithin limits (λ _. RunFaultAt limits.kinds l) text y → Same k l x y
 one_in_run limits k l text x y m n f g =
     elim f [
       | inl a ↦ elim g [
         | inl b ↦ one_after limits (Next limits k) (Next limits l) text x y (Same k l x y) (next_no_further limits k x m) (next_no_further limits l y n) (λ count next u v. one_next_fault limits k l x y count next m n u v) a b
-        | inr b ↦ one_after limits (Next limits k) (λ _. RunFaultAt l) text x y (Same k l x y) (next_no_further limits k x m) (run_no_further limits l y) (λ count next u v. absurd (run_no_prim l next y v (next_due limits k count next x m u))) a b
+        | inr b ↦ one_after limits (Next limits k) (λ _. RunFaultAt limits.kinds l) text x y (Same k l x y) (next_no_further limits k x m) (run_no_further limits l y) (λ count next u v. absurd (run_no_prim limits.kinds l next y v (next_due limits k count next x m u))) a b
       ]
       | inr a ↦ elim g [
-        | inl b ↦ one_after limits (λ _. RunFaultAt k) (Next limits l) text x y (Same k l x y) (run_no_further limits k x) (next_no_further limits l y n) (λ count next u v. absurd (run_no_prim k next x u (next_due limits l count next y n v))) a b
-        | inr b ↦ one_after limits (λ _. RunFaultAt k) (λ _. RunFaultAt l) text x y (Same k l x y) (run_no_further limits k x) (run_no_further limits l y) (λ count next u v. both (run_kind k next x u) (run_kind l next y v)) a b
+        | inl b ↦ one_after limits (λ _. RunFaultAt limits.kinds k) (Next limits l) text x y (Same k l x y) (run_no_further limits k x) (next_no_further limits l y n) (λ count next u v. absurd (run_no_prim limits.kinds k next x u (next_due limits l count next y n v))) a b
+        | inr b ↦ one_after limits (λ _. RunFaultAt limits.kinds k) (λ _. RunFaultAt limits.kinds l) text x y (Same k l x y) (run_no_further limits k x) (run_no_further limits l y) (λ count next u v. both (run_kind limits.kinds k next x u) (run_kind limits.kinds l next y v)) a b
       ]
     ]
 
 one_body_fault : (limits : Limits) (k l : FaultKind) (text x y : List ℕ) → k ≢ K.NoMemory → l ≢ K.NoMemory → BodyFaultWithin limits k text x → BodyFaultWithin limits l text y → Same k l x y
 one_body_fault limits k l text x y m n (in_braces inside opens f) (in_braces inside' opens' g) =
     let same = tail_same 123 (skipped text) inside inside' opens opens' in
-    one_in_braces limits k l inside' x y m n (subst (λ (t : List ℕ). PrimsFaultWithin limits k t x ⊎ AfterPrimsWithin limits (λ _. BraceFaultAt k) t x) same f) g
+    one_in_braces limits k l inside' x y m n (subst (λ (t : List ℕ). PrimsFaultWithin limits k t x ⊎ AfterPrimsWithin limits (λ _. BraceFaultAt limits.kinds k) t x) same f) g
 one_body_fault limits k l text x y m n (in_braces inside opens f) (in_run bare g) = absurd (bare (inside, opens))
 one_body_fault limits k l text x y m n (in_run bare f) (in_braces inside opens g) = absurd (bare (inside, opens))
 one_body_fault limits k l text x y m n (in_run bare f) (in_run bare' g) = one_in_run limits k l text x y m n f g
 
 -- ---- dependencies
 
-depends_kind : (k : FaultKind) (text x : List ℕ) → DependsFaultAt k text x → (k ≡ K.BadDepends) × (x ≡ text)
+pub depends_kind : (k : FaultKind) (text x : List ℕ) → DependsFaultAt k text x → (k ≡ K.BadDepends) × (x ≡ text)
 depends_kind K.BadDepends text x f = (refl, f.0)
 depends_kind k text x f = absurd f
 

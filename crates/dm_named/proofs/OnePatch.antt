@@ -1,16 +1,25 @@
 -- A text has at most one named patch at its front.
-use Rattle.std.proofs.Common.{◌≡◌, ℕ, List, ◌∷◌, ◌++◌, refl, sym, ap, subst, ◌∙◌, arith, inl, inr, false}
-use Rattle.std.specs.Prelude.{codes, nat_eq}
+use Rattle.std.proofs.Common.{◌≡◌, ℕ, List, ◌∷◌, refl, sym, subst, ◌∙◌, arith, inl, inr, false}
+use Rattle.std.specs.Prelude.{codes, nat_eq, ◌⊎◌}
 use Rattle.std.specs.Cmp.Lexicographic.{other_text, pointwise}
 use Rattle.dm_info.proofs.SpellingLemmas.{one_info, stands_opens}
 use Rattle.dm_info.specs.PatchInfo.{PatchInfo}
 use Rattle.dm_tree.specs.Paths.{Path}
-use Rattle.dm_prim.specs.Primitives.{Prim, AddFile, RmFile, AddDir, RmDir, Hunk, At, Move}
-use Rattle.dm_named.specs.Words.{skipped, Word, WordAmong, Begins, LineGroup}
-use Rattle.dm_named.specs.Paths.{NextPath}
+use Rattle.dm_prim.specs.Primitives.{Work, Prim, AddFile, RmFile, AddDir, RmDir, Hunk, Binary, At, Move, ChangePref}
+use Rattle.dm_tree.specs.Trees.{Lines}
+use Rattle.dm_named.specs.Kinds.{IsOfSix, IsOf}
+use Rattle.dm_named.specs.Words.{skipped, Word, Among, WordAmong, Begins, LineGroup}
+use Rattle.dm_named.specs.Paths.{NextPath, WordAndPath}
+use Rattle.dm_named.specs.Binaries.{BinaryBody, BinaryText}
+use Rattle.dm_named.specs.Preferences.{PreferenceLines, PreferenceText}
 use Rattle.dm_named.specs.Many.{Many}
-use Rattle.dm_named.specs.Patches.{WordAndPath, WordAndPaths, HunkLines, HunkBody, HunkText, PrimText, NextPrim, NextInfo, Dependencies, Body, prim_words, Patch, PatchText}
+use Rattle.dm_named.specs.Patches.{WordAndPaths, HunkLines, HunkBody, HunkText, PrimText, NextPrim, NextInfo, Dependencies, Body, prim_words, wider_words, prim_words_of, Patch, PatchTextIn}
+use Rattle.dm_named.specs.declared.limits.Kinds.{Kinds}
+use Rattle.dm_named.specs.declared.limits.Kinds.TheVariants as these
 use Rattle.dm_named.proofs.WordLemmas.{one_word}
+use Rattle.dm_named.proofs.KindLemmas.{no_close_word, no_prim_ends, wider_in_all}
+use Rattle.dm_named.proofs.BinaryLemmas.{one_binary_body}
+use Rattle.dm_named.proofs.PreferenceLemmas.{one_preference_lines}
 use Rattle.dm_named.proofs.PathLemmas.{one_path_here}
 use Rattle.dm_named.proofs.GroupLemmas.{one_group, one_number_line}
 use Rattle.dm_named.proofs.ManyLemmas.{one_many, Closed}
@@ -42,6 +51,17 @@ one_hunk text p q n m old new old' new' r s a b =
     let lines = one_lines b.body.lines old new old' new' r s (subst (λ (t : List ℕ). HunkLines t old new r) line.1 body.lines_read) b.body.lines_read in
     (first.0, line.0, lines.0, lines.1, lines.2)
 
+one_binary : (text : List ℕ) (p q : Path) (old new old' new' : Lines) (r s : List ℕ) → BinaryText text p old new r → BinaryText text q old' new' s → (p ≡ q) × (old ≡ old') × (new ≡ new') × (r ≡ s)
+one_binary text p q old new old' new' r s a b =
+    let first = one_single (codes "binary") text p q a.mid b.mid a.first b.first in
+    let body = one_binary_body b.mid old new old' new' r s (subst (λ (t : List ℕ). BinaryBody t old new r) first.1 a.body) b.body in
+    (first.0, body.0, body.1, body.2)
+
+one_preference : (text name old new name' old' new' r s : List ℕ) → PreferenceText text name old new r → PreferenceText text name' old' new' s → (name ≡ name') × (old ≡ old') × (new ≡ new') × (r ≡ s)
+one_preference text name old new name' old' new' r s a b =
+    let after = (one_word text (codes "changepref") (codes "changepref") a.after b.after a.named b.named).1 in
+    one_preference_lines (skipped b.after) name old new name' old' new' r s (subst (λ (t : List ℕ). PreferenceLines (skipped t) name old new r) after a.lines) b.lines
+
 -- a primitive's word, and what stands after it
 abbrev pub prim_word : Prim → List ℕ
 prim_word (At p AddFile) = codes "addfile"
@@ -49,7 +69,9 @@ prim_word (At p RmFile) = codes "rmfile"
 prim_word (At p AddDir) = codes "adddir"
 prim_word (At p RmDir) = codes "rmdir"
 prim_word (At p (Hunk n old new)) = codes "hunk"
+prim_word (At p (Binary old new)) = codes "binary"
 prim_word (Move p q) = codes "move"
+prim_word (ChangePref name old new) = codes "changepref"
 
 pub stands_word : (text : List ℕ) (p : Prim) (r : List ℕ) → PrimText text p r → (after : List ℕ) × Word text (prim_word p) after
 stands_word text (At p AddFile) r a = (a.after, a.named)
@@ -57,7 +79,9 @@ stands_word text (At p RmFile) r a = (a.after, a.named)
 stands_word text (At p AddDir) r a = (a.after, a.named)
 stands_word text (At p RmDir) r a = (a.after, a.named)
 stands_word text (At p (Hunk n old new)) r a = (a.first.after, a.first.named)
+stands_word text (At p (Binary old new)) r a = (a.first.after, a.first.named)
 stands_word text (Move p q) r a = (a.first.after, a.first.named)
+stands_word text (ChangePref name old new) r a = (a.after, a.named)
 
 pub same_word : (text : List ℕ) (p q : Prim) (r s : List ℕ) → PrimText text p r → PrimText text q s → prim_word p ≡ prim_word q
 same_word text p q r s a b =
@@ -65,64 +89,85 @@ same_word text p q r s a b =
     let y = stands_word text q s b in
     (one_word text (prim_word p) (prim_word q) x.0 y.0 x.1 y.1).0
 
-pub prim_a_word : (text : List ℕ) (p : Prim) (r : List ℕ) → PrimText text p r → WordAmong prim_words text
-prim_a_word text (At p AddFile) r a = record { word = codes "addfile"; rest = a.after; stands = a.named; among = inl refl }
-prim_a_word text (At p RmFile) r a = record { word = codes "rmfile"; rest = a.after; stands = a.named; among = inr (inl refl) }
-prim_a_word text (At p AddDir) r a = record { word = codes "adddir"; rest = a.after; stands = a.named; among = inr (inr (inl refl)) }
-prim_a_word text (At p RmDir) r a = record { word = codes "rmdir"; rest = a.after; stands = a.named; among = inr (inr (inr (inl refl))) }
-prim_a_word text (Move p q) r a = record { word = codes "move"; rest = a.first.after; stands = a.first.named; among = inr (inr (inr (inr (inl refl)))) }
-prim_a_word text (At p (Hunk n old new)) r a = record { word = codes "hunk"; rest = a.first.after; stands = a.first.named; among = inr (inr (inr (inr (inr (inl refl))))) }
+word_in_six : (p : Prim) → IsOfSix p → Among prim_words (prim_word p)
+word_in_six (At p AddFile) o = inl refl
+word_in_six (At p RmFile) o = inr (inl refl)
+word_in_six (At p AddDir) o = inr (inr (inl refl))
+word_in_six (At p RmDir) o = inr (inr (inr (inl refl)))
+word_in_six (Move p q) o = inr (inr (inr (inr (inl refl))))
+word_in_six (At p (Hunk n old new)) o = inr (inr (inr (inr (inr (inl refl)))))
+word_in_six (At p (Binary old new)) o = absurd o
+word_in_six (ChangePref name old new) o = absurd o
+
+word_in_all : (p : Prim) → Among (prim_words_of these.All) (prim_word p)
+word_in_all (At p (Binary old new)) = wider_in_all (codes "binary") (inl refl)
+word_in_all (ChangePref name old new) = wider_in_all (codes "changepref") (inr (inl refl))
+word_in_all (At p AddFile) = inl refl
+word_in_all (At p RmFile) = inr (inl refl)
+word_in_all (At p AddDir) = inr (inr (inl refl))
+word_in_all (At p RmDir) = inr (inr (inr (inl refl)))
+word_in_all (Move p q) = inr (inr (inr (inr (inl refl))))
+word_in_all (At p (Hunk n old new)) = inr (inr (inr (inr (inr (inl refl)))))
+
+word_in : (kinds : Kinds) (p : Prim) → IsOf kinds p → Among (prim_words_of kinds) (prim_word p)
+word_in these.Six p o = word_in_six p o
+word_in these.All p o = word_in_all p
+
+-- a primitive that isn't of the six kinds has a word of the further ones
+pub of_six_or_wider : (p : Prim) → IsOfSix p ⊎ Among wider_words (prim_word p)
+of_six_or_wider (At p AddFile) = inl tt
+of_six_or_wider (At p RmFile) = inl tt
+of_six_or_wider (At p AddDir) = inl tt
+of_six_or_wider (At p RmDir) = inl tt
+of_six_or_wider (Move p q) = inl tt
+of_six_or_wider (At p (Hunk n old new)) = inl tt
+of_six_or_wider (At p (Binary old new)) = inr (inl refl)
+of_six_or_wider (ChangePref name old new) = inr (inr (inl refl))
+
+pub prim_a_word : (kinds : Kinds) (text : List ℕ) (p : Prim) (r : List ℕ) → PrimText text p r → IsOf kinds p → WordAmong (prim_words_of kinds) text
+prim_a_word kinds text p r a o = let s = stands_word text p r a in record { word = prim_word p; rest = s.0; stands = s.1; among = word_in kinds p o }
 
 differ : (x y : List ℕ) → false ≡ pointwise nat_eq x y → x ≡ y → ⊥
 differ x y f e = other_text x y f e
 
+-- work at a path has another word than a move, and than a change of a preference
+pub no_move : (q : Path) (w : Work) → codes "move" ≡ prim_word (At q w) → ⊥
+no_move q AddFile e = differ (codes "move") (codes "addfile") refl e
+no_move q w e = differ (codes "move") (prim_word (At q w)) refl e
+
+pub no_preference : (q : Path) (w : Work) → codes "changepref" ≡ prim_word (At q w) → ⊥
+no_preference q AddFile e = differ (codes "changepref") (codes "addfile") refl e
+no_preference q w e = differ (codes "changepref") (prim_word (At q w)) refl e
+
 pub one_prim : (text : List ℕ) (p q : Prim) (r s : List ℕ) → PrimText text p r → PrimText text q s → (p ≡ q) × (r ≡ s)
 one_prim text (At p AddFile) (At q AddFile) r s a b = let o = one_single (codes "addfile") text p q r s a b in ((λ k. At (o.0 k) AddFile), o.1)
-one_prim text (At p AddFile) (At q RmFile) r s a b = absurd (differ (codes "addfile") (codes "rmfile") refl (same_word text (At p AddFile) (At q RmFile) r s a b))
-one_prim text (At p AddFile) (At q AddDir) r s a b = absurd (differ (codes "addfile") (codes "adddir") refl (same_word text (At p AddFile) (At q AddDir) r s a b))
-one_prim text (At p AddFile) (At q RmDir) r s a b = absurd (differ (codes "addfile") (codes "rmdir") refl (same_word text (At p AddFile) (At q RmDir) r s a b))
-one_prim text (At p AddFile) (Move q q2) r s a b = absurd (differ (codes "addfile") (codes "move") refl (same_word text (At p AddFile) (Move q q2) r s a b))
-one_prim text (At p AddFile) (At q (Hunk qn qo qw)) r s a b = absurd (differ (codes "addfile") (codes "hunk") refl (same_word text (At p AddFile) (At q (Hunk qn qo qw)) r s a b))
-one_prim text (At p RmFile) (At q AddFile) r s a b = absurd (differ (codes "rmfile") (codes "addfile") refl (same_word text (At p RmFile) (At q AddFile) r s a b))
+one_prim text (At p AddFile) q r s a b = absurd (differ (codes "addfile") (prim_word q) refl (same_word text (At p AddFile) q r s a b))
 one_prim text (At p RmFile) (At q RmFile) r s a b = let o = one_single (codes "rmfile") text p q r s a b in ((λ k. At (o.0 k) RmFile), o.1)
-one_prim text (At p RmFile) (At q AddDir) r s a b = absurd (differ (codes "rmfile") (codes "adddir") refl (same_word text (At p RmFile) (At q AddDir) r s a b))
-one_prim text (At p RmFile) (At q RmDir) r s a b = absurd (differ (codes "rmfile") (codes "rmdir") refl (same_word text (At p RmFile) (At q RmDir) r s a b))
-one_prim text (At p RmFile) (Move q q2) r s a b = absurd (differ (codes "rmfile") (codes "move") refl (same_word text (At p RmFile) (Move q q2) r s a b))
-one_prim text (At p RmFile) (At q (Hunk qn qo qw)) r s a b = absurd (differ (codes "rmfile") (codes "hunk") refl (same_word text (At p RmFile) (At q (Hunk qn qo qw)) r s a b))
-one_prim text (At p AddDir) (At q AddFile) r s a b = absurd (differ (codes "adddir") (codes "addfile") refl (same_word text (At p AddDir) (At q AddFile) r s a b))
-one_prim text (At p AddDir) (At q RmFile) r s a b = absurd (differ (codes "adddir") (codes "rmfile") refl (same_word text (At p AddDir) (At q RmFile) r s a b))
+one_prim text (At p RmFile) q r s a b = absurd (differ (codes "rmfile") (prim_word q) refl (same_word text (At p RmFile) q r s a b))
 one_prim text (At p AddDir) (At q AddDir) r s a b = let o = one_single (codes "adddir") text p q r s a b in ((λ k. At (o.0 k) AddDir), o.1)
-one_prim text (At p AddDir) (At q RmDir) r s a b = absurd (differ (codes "adddir") (codes "rmdir") refl (same_word text (At p AddDir) (At q RmDir) r s a b))
-one_prim text (At p AddDir) (Move q q2) r s a b = absurd (differ (codes "adddir") (codes "move") refl (same_word text (At p AddDir) (Move q q2) r s a b))
-one_prim text (At p AddDir) (At q (Hunk qn qo qw)) r s a b = absurd (differ (codes "adddir") (codes "hunk") refl (same_word text (At p AddDir) (At q (Hunk qn qo qw)) r s a b))
-one_prim text (At p RmDir) (At q AddFile) r s a b = absurd (differ (codes "rmdir") (codes "addfile") refl (same_word text (At p RmDir) (At q AddFile) r s a b))
-one_prim text (At p RmDir) (At q RmFile) r s a b = absurd (differ (codes "rmdir") (codes "rmfile") refl (same_word text (At p RmDir) (At q RmFile) r s a b))
-one_prim text (At p RmDir) (At q AddDir) r s a b = absurd (differ (codes "rmdir") (codes "adddir") refl (same_word text (At p RmDir) (At q AddDir) r s a b))
+one_prim text (At p AddDir) q r s a b = absurd (differ (codes "adddir") (prim_word q) refl (same_word text (At p AddDir) q r s a b))
 one_prim text (At p RmDir) (At q RmDir) r s a b = let o = one_single (codes "rmdir") text p q r s a b in ((λ k. At (o.0 k) RmDir), o.1)
-one_prim text (At p RmDir) (Move q q2) r s a b = absurd (differ (codes "rmdir") (codes "move") refl (same_word text (At p RmDir) (Move q q2) r s a b))
-one_prim text (At p RmDir) (At q (Hunk qn qo qw)) r s a b = absurd (differ (codes "rmdir") (codes "hunk") refl (same_word text (At p RmDir) (At q (Hunk qn qo qw)) r s a b))
-one_prim text (Move p p2) (At q AddFile) r s a b = absurd (differ (codes "move") (codes "addfile") refl (same_word text (Move p p2) (At q AddFile) r s a b))
-one_prim text (Move p p2) (At q RmFile) r s a b = absurd (differ (codes "move") (codes "rmfile") refl (same_word text (Move p p2) (At q RmFile) r s a b))
-one_prim text (Move p p2) (At q AddDir) r s a b = absurd (differ (codes "move") (codes "adddir") refl (same_word text (Move p p2) (At q AddDir) r s a b))
-one_prim text (Move p p2) (At q RmDir) r s a b = absurd (differ (codes "move") (codes "rmdir") refl (same_word text (Move p p2) (At q RmDir) r s a b))
+one_prim text (At p RmDir) q r s a b = absurd (differ (codes "rmdir") (prim_word q) refl (same_word text (At p RmDir) q r s a b))
 one_prim text (Move p p2) (Move q q2) r s a b = let o = one_double (codes "move") text p p2 q q2 r s a b in ((λ k. Move (o.0 k) (o.1 k)), o.2)
-one_prim text (Move p p2) (At q (Hunk qn qo qw)) r s a b = absurd (differ (codes "move") (codes "hunk") refl (same_word text (Move p p2) (At q (Hunk qn qo qw)) r s a b))
-one_prim text (At p (Hunk pn po pw)) (At q AddFile) r s a b = absurd (differ (codes "hunk") (codes "addfile") refl (same_word text (At p (Hunk pn po pw)) (At q AddFile) r s a b))
-one_prim text (At p (Hunk pn po pw)) (At q RmFile) r s a b = absurd (differ (codes "hunk") (codes "rmfile") refl (same_word text (At p (Hunk pn po pw)) (At q RmFile) r s a b))
-one_prim text (At p (Hunk pn po pw)) (At q AddDir) r s a b = absurd (differ (codes "hunk") (codes "adddir") refl (same_word text (At p (Hunk pn po pw)) (At q AddDir) r s a b))
-one_prim text (At p (Hunk pn po pw)) (At q RmDir) r s a b = absurd (differ (codes "hunk") (codes "rmdir") refl (same_word text (At p (Hunk pn po pw)) (At q RmDir) r s a b))
-one_prim text (At p (Hunk pn po pw)) (Move q q2) r s a b = absurd (differ (codes "hunk") (codes "move") refl (same_word text (At p (Hunk pn po pw)) (Move q q2) r s a b))
+one_prim text (Move p p2) (At q w) r s a b = absurd (no_move q w (same_word text (Move p p2) (At q w) r s a b))
+one_prim text (Move p p2) (ChangePref qn qo qw) r s a b = absurd (differ (codes "move") (codes "changepref") refl (same_word text (Move p p2) (ChangePref qn qo qw) r s a b))
 one_prim text (At p (Hunk pn po pw)) (At q (Hunk qn qo qw)) r s a b = let o = one_hunk text p q pn qn po pw qo qw r s a b in ((λ k. At (o.0 k) (Hunk (o.1 k) (o.2 k) (o.3 k))), o.4)
+one_prim text (At p (Hunk pn po pw)) q r s a b = absurd (differ (codes "hunk") (prim_word q) refl (same_word text (At p (Hunk pn po pw)) q r s a b))
+one_prim text (At p (Binary po pw)) (At q (Binary qo qw)) r s a b = let o = one_binary text p q po pw qo qw r s a b in ((λ k. At (o.0 k) (Binary (o.1 k) (o.2 k))), o.3)
+one_prim text (At p (Binary po pw)) q r s a b = absurd (differ (codes "binary") (prim_word q) refl (same_word text (At p (Binary po pw)) q r s a b))
+one_prim text (ChangePref pn po pw) (ChangePref qn qo qw) r s a b = let o = one_preference text pn po pw qn qo qw r s a b in ((λ k. ChangePref (o.0 k) (o.1 k) (o.2 k)), o.3)
+one_prim text (ChangePref pn po pw) (At q w) r s a b = absurd (no_preference q w (same_word text (ChangePref pn po pw) (At q w) r s a b))
+one_prim text (ChangePref pn po pw) (Move q q2) r s a b = absurd (differ (codes "changepref") (codes "move") refl (same_word text (ChangePref pn po pw) (Move q q2) r s a b))
 
-pub one_next : (text : List ℕ) (p q : Prim) (r s : List ℕ) → NextPrim text p r → NextPrim text q s → (p ≡ q) × (r ≡ s)
-one_next text p q r s a b = one_prim (skipped text) p q r s a b
+pub one_next : (kinds : Kinds) (text : List ℕ) (p q : Prim) (r s : List ℕ) → NextPrim kinds text p r → NextPrim kinds text q s → (p ≡ q) × (r ≡ s)
+one_next kinds text p q r s a b = one_prim (skipped text) p q r s a.read b.read
 
-pub no_next : (rest : List ℕ) → (WordAmong prim_words (skipped rest) → ⊥) → Closed NextPrim rest
-no_next rest none p after a = none (prim_a_word (skipped rest) p after a)
+pub no_next : (kinds : Kinds) (rest : List ℕ) → (WordAmong (prim_words_of kinds) (skipped rest) → ⊥) → Closed (NextPrim kinds) rest
+no_next kinds rest none p after a = none (prim_a_word kinds (skipped rest) p after a.read a.kind)
 
 -- where no primitive's word stands after both, two readings are one
-pub one_prims : (text : List ℕ) (ps qs : List Prim) (r s : List ℕ) → Many NextPrim text ps r → Many NextPrim text qs s → (WordAmong prim_words (skipped r) → ⊥) → (WordAmong prim_words (skipped s) → ⊥) → (ps ≡ qs) × (r ≡ s)
-one_prims text ps qs r s a b x y = one_many NextPrim one_next text ps qs r s a b (no_next r x) (no_next s y)
+pub one_prims : (kinds : Kinds) (text : List ℕ) (ps qs : List Prim) (r s : List ℕ) → Many (NextPrim kinds) text ps r → Many (NextPrim kinds) text qs s → (WordAmong (prim_words_of kinds) (skipped r) → ⊥) → (WordAmong (prim_words_of kinds) (skipped s) → ⊥) → (ps ≡ qs) × (r ≡ s)
+one_prims kinds text ps qs r s a b x y = one_many (NextPrim kinds) (one_next kinds) text ps qs r s a b (no_next kinds r x) (no_next kinds s y)
 
 one_next_info : (text : List ℕ) (i j : PatchInfo) (r s : List ℕ) → NextInfo text i r → NextInfo text j s → (i ≡ j) × (r ≡ s)
 one_next_info text i j r s a b = one_info (skipped text) i j r s a b
@@ -137,29 +182,6 @@ one_infos text is js r s a b x y = one_many NextInfo one_next_info text is js r 
 
 tail_same : (b : ℕ) (text x y : List ℕ) → text ≡ b ∷ x → text ≡ b ∷ y → x ≡ y
 tail_same b text x y e f = let both : b ∷ x ≡ b ∷ y = sym e ∙ f in cc
-
-clash : (b c : ℕ) (text word more rest tail : List ℕ) → word ≡ c ∷ more → text ≡ word ++ rest → text ≡ b ∷ tail → c ≡ b
-clash b c text word more rest tail e f g = let both : c ∷ (more ++ rest) ≡ b ∷ tail = ap (λ (w : List ℕ). w ++ rest) (sym e) ∙ (sym f ∙ g) in cc
-
--- a primitive's word begins with no closing brace
-pub no_close_word : (text tail : List ℕ) → text ≡ 125 ∷ tail → WordAmong prim_words text → ⊥
-no_close_word text tail g a =
-    elim a.among [
-      | inl f ↦ (let e = clash 125 97 text a.word (codes "ddfile") a.rest tail f a.stands.parts g in omega (arith, e))
-      | inr a1 ↦ elim a1 [
-        | inl f ↦ (let e = clash 125 114 text a.word (codes "mfile") a.rest tail f a.stands.parts g in omega (arith, e))
-        | inr a2 ↦ elim a2 [
-          | inl f ↦ (let e = clash 125 97 text a.word (codes "dddir") a.rest tail f a.stands.parts g in omega (arith, e))
-          | inr a3 ↦ elim a3 [
-            | inl f ↦ (let e = clash 125 114 text a.word (codes "mdir") a.rest tail f a.stands.parts g in omega (arith, e))
-            | inr a4 ↦ elim a4 [
-              | inl f ↦ (let e = clash 125 109 text a.word (codes "ove") a.rest tail f a.stands.parts g in omega (arith, e))
-              | inr a5 ↦ elim a5 [ inl f ↦ (let e = clash 125 104 text a.word (codes "unk") a.rest tail f a.stands.parts g in omega (arith, e)) | inr n ↦ n ]
-            ]
-          ]
-        ]
-      ]
-    ]
 
 other_mark : (b c : ℕ) (text x : List ℕ) → (b ≡ c → ⊥) → text ≡ b ∷ x → Begins c text → ⊥
 other_mark b c text x other e o = other (let both : b ∷ x ≡ c ∷ o.0 = sym e ∙ o.1 in cc)
@@ -177,22 +199,22 @@ one_depends text ds es r s a b =
       | inr x ↦ elim b [ inl y ↦ absurd (x.0 (y.inside, y.opens)) | inr y ↦ (x.1 ∙ sym y.1, sym x.2 ∙ y.2) ]
     ]
 
-one_body : (text : List ℕ) (ps qs : List Prim) (r s : List ℕ) → Body text ps r → Body text qs s → (ps ≡ qs) × (r ≡ s)
-one_body text ps qs r s a b =
+one_body : (kinds : Kinds) (text : List ℕ) (ps qs : List Prim) (r s : List ℕ) → Body kinds text ps r → Body kinds text qs s → (ps ≡ qs) × (r ≡ s)
+one_body kinds text ps qs r s a b =
     elim a [
       | inl x ↦ elim b [
         | inl y ↦
             let inside = tail_same 123 (skipped text) x.inside y.inside x.opens y.opens in
-            let prims = one_prims y.inside ps qs x.mid y.mid (subst (λ (t : List ℕ). Many NextPrim t ps x.mid) inside x.read) y.read (no_close_word (skipped x.mid) r x.closes) (no_close_word (skipped y.mid) s y.closes) in
+            let prims = one_prims kinds y.inside ps qs x.mid y.mid (subst (λ (t : List ℕ). Many (NextPrim kinds) t ps x.mid) inside x.read) y.read (no_close_word kinds (skipped x.mid) r x.closes) (no_close_word kinds (skipped y.mid) s y.closes) in
             (prims.0, tail_same 125 (skipped y.mid) r s (subst (λ (t : List ℕ). skipped t ≡ 125 ∷ r) prims.1 x.closes) y.closes)
         | inr y ↦ absurd (y.bare (x.inside, x.opens))
       ]
-      | inr x ↦ elim b [ inl y ↦ absurd (x.bare (y.inside, y.opens)) | inr y ↦ one_prims text ps qs r s x.read y.read x.ends.prims y.ends.prims ]
+      | inr x ↦ elim b [ inl y ↦ absurd (x.bare (y.inside, y.opens)) | inr y ↦ one_prims kinds text ps qs r s x.read y.read (no_prim_ends kinds (skipped r) x.ends) (no_prim_ends kinds (skipped s) y.ends) ]
     ]
 
-pub one_patch : (text : List ℕ) (p q : Patch) (r s : List ℕ) → PatchText text p r → PatchText text q s → (p ≡ q) × (r ≡ s)
-one_patch text p q r s a b =
+pub one_patch : (kinds : Kinds) (text : List ℕ) (p q : Patch) (r s : List ℕ) → PatchTextIn kinds text p r → PatchTextIn kinds text q s → (p ≡ q) × (r ≡ s)
+one_patch kinds text p q r s a b =
     let info = one_info text p.info q.info a.after b.after a.info b.info in
     let deps = one_depends b.after p.deps q.deps a.body b.body (subst (λ (t : List ℕ). Dependencies t p.deps a.body) info.1 a.deps) b.deps in
-    let prims = one_body b.body p.prims q.prims r s (subst (λ (t : List ℕ). Body t p.prims r) deps.1 a.prims) b.prims in
+    let prims = one_body kinds b.body p.prims q.prims r s (subst (λ (t : List ℕ). Body kinds t p.prims r) deps.1 a.prims) b.prims in
     ((λ k. record { info = info.0 k; deps = deps.0 k; prims = prims.0 k }), prims.1)

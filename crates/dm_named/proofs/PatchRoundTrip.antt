@@ -1,22 +1,32 @@
 -- Written primitives and named patches are read again.
-use Rattle.std.proofs.Common.{◌≡◌, ◌≤◌, ◌<◌, ◌^◌, ℕ, List, [], ◌∷◌, ◌++◌, refl, sym, ap, subst, ◌∙◌, arith, inl, inr, false, append_assoc}
+use Rattle.std.proofs.Common.{◌≡◌, ◌≢◌, ◌≤◌, ◌<◌, ◌^◌, ◌==◌, ℕ, List, [], ◌∷◌, ◌++◌, length, refl, sym, ap, subst, ◌∙◌, arith, inl, inr, false, append_assoc}
 use Rattle.std.proofs.lemmas.List.{append-nil}
 use Rattle.std.specs.Prelude.{codes, ◌⊎◌}
 use Rattle.std.specs.List.{AllByRecursion, flat_map}
 use Rattle.std.specs.Fmt.{decimal}
+use Rattle.hex.specs.Hex.{IsBytes}
 use Rattle.dm_info.proofs.SpellingLemmas.{canonical_stands}
 use Rattle.dm_info.specs.PatchInfo.{PatchInfo, IsInfo}
 use Rattle.dm_info.specs.Spelling.{Stands, canonical}
 use Rattle.dm_tree.specs.Paths.{Path}
-use Rattle.dm_prim.specs.Primitives.{Prim, AddFile, RmFile, AddDir, RmDir, Hunk, At, Move}
+use Rattle.dm_tree.specs.Trees.{Lines}
+use Rattle.dm_hex.specs.Contents.{content, AreFileLines}
+use Rattle.dm_hex.specs.Digits.{star_lines, star_text, stars_text}
+use Rattle.dm_hex.proofs.StarLemmas.{lines_stand, lines_count, lines_plain}
+use Rattle.dm_prim.specs.Primitives.{Prim, AddFile, RmFile, AddDir, RmDir, Hunk, Binary, At, Move, ChangePref}
 use Rattle.dm_tree.specs.Validity.{IsValidPath}
-use Rattle.dm_prim.specs.Commuting.{IsValidPrim, IsValidWork}
-use Rattle.dm_named.specs.Words.{NoNewline, is_white, skipped, EndsWord, number_from, Begins, MarkedLine, NumberLine}
-use Rattle.dm_named.specs.Paths.{NoSlash, EndsPiece, SlashName, NameByte, PathWord}
-use Rattle.dm_named.specs.Patches.{WordAndPath, WordAndPaths, HunkBody, HunkText, PrimText, NextPrim, NextInfo, Dependencies, Body, RunEnds, Patch, IsValidPatch}
-use Rattle.dm_named.proofs.ValidParts.{path_free, free_lines, some_lines}
+use Rattle.dm_prim.specs.Commuting.{IsValidPrim, IsValidWork, IsPreference}
+use Rattle.dm_named.specs.Kinds.{IsOf, HasByteWork, IsWritable, AreWritable}
+use Rattle.dm_named.specs.Words.{NoNewline, is_white, skipped, EndsWord, number_from, Begins, MarkedLine, LineGroup, NumberLine}
+use Rattle.dm_named.specs.Paths.{NoSlash, EndsPiece, SlashName, NameByte, PathWord, WordAndPath}
+use Rattle.dm_named.specs.Binaries.{WordAndStars, BinaryBody, BinaryText}
+use Rattle.dm_named.specs.Preferences.{PreferenceLines, PreferenceText}
+use Rattle.dm_named.specs.Patches.{WordAndPaths, HunkBody, HunkText, PrimText, NextPrim, NextInfo, Dependencies, Body, RunEnds, Patch, IsValidPatch}
+use Rattle.dm_named.specs.declared.limits.Kinds.{Kinds}
+use Rattle.dm_named.specs.declared.limits.Kinds.TheVariants as these
+use Rattle.dm_named.proofs.ValidParts.{path_free, free_lines, some_lines, none_of}
 use Rattle.dm_named.specs.Canonical.{name_text, info_line, byte_text, path_text, lines_text, prim_text, deps_text, body_text, patch_text}
-use Rattle.dm_named.specs.Laws.{NoLine, ReadsPrim, ReadsPatch}
+use Rattle.dm_named.specs.Laws.{NoLine, NoLineOf, ReadsPrim, ReadsPatchIn}
 use Rattle.dm_named.specs.Many.{Many}
 use Rattle.dm_named.proofs.NameRoundTrip.{Plain, decimal_numeral, Numeral, bytes_back, name_plain, digits_plain}
 
@@ -146,28 +156,106 @@ joined_patch a b c d = simp append_assoc refl
 joined_move : (a b e : List ℕ) → (a ++ 32 ∷ (b ++ 10 ∷ [])) ++ e ≡ a ++ 32 ∷ (b ++ 10 ∷ e)
 joined_move a b e = simp append_assoc refl
 
-pub prim_back : (p : Prim) (rest : List ℕ) → IsValidPrim p → NoLine rest → ReadsPrim (prim_text p ++ rest) p rest
-prim_back (At p AddFile) rest valid none =
-    record { after = 10 ∷ rest; read = subst (λ (t : List ℕ). WordAndPath (codes "addfile") (codes "addfile" ++ 32 ∷ t) p (10 ∷ rest)) (sym (append_assoc (path_text p) (10 ∷ []) rest)) (single_back (codes "addfile") p (10 ∷ rest) (refl, (refl, (refl, (refl, (refl, (refl, (refl, tt))))))) valid.0 refl); left = refl }
-prim_back (At p RmFile) rest valid none =
-    record { after = 10 ∷ rest; read = subst (λ (t : List ℕ). WordAndPath (codes "rmfile") (codes "rmfile" ++ 32 ∷ t) p (10 ∷ rest)) (sym (append_assoc (path_text p) (10 ∷ []) rest)) (single_back (codes "rmfile") p (10 ∷ rest) (refl, (refl, (refl, (refl, (refl, (refl, tt)))))) valid.0 refl); left = refl }
-prim_back (At p AddDir) rest valid none =
-    record { after = 10 ∷ rest; read = subst (λ (t : List ℕ). WordAndPath (codes "adddir") (codes "adddir" ++ 32 ∷ t) p (10 ∷ rest)) (sym (append_assoc (path_text p) (10 ∷ []) rest)) (single_back (codes "adddir") p (10 ∷ rest) (refl, (refl, (refl, (refl, (refl, (refl, tt)))))) valid.0 refl); left = refl }
-prim_back (At p RmDir) rest valid none =
-    record { after = 10 ∷ rest; read = subst (λ (t : List ℕ). WordAndPath (codes "rmdir") (codes "rmdir" ++ 32 ∷ t) p (10 ∷ rest)) (sym (append_assoc (path_text p) (10 ∷ []) rest)) (single_back (codes "rmdir") p (10 ∷ rest) (refl, (refl, (refl, (refl, (refl, tt))))) valid.0 refl); left = refl }
-prim_back (At p (Hunk n old new)) rest valid none =
+joined_binary : (a o b n c e : List ℕ) → (a ++ 10 ∷ (o ++ (b ++ (n ++ c)))) ++ e ≡ a ++ 10 ∷ (o ++ (b ++ (n ++ (c ++ e))))
+joined_binary a o b n c e = simp append_assoc refl
+
+joined_preference : (a b c e : List ℕ) → (a ++ 10 ∷ (b ++ 10 ∷ (c ++ 10 ∷ []))) ++ e ≡ a ++ 10 ∷ (b ++ 10 ∷ (c ++ 10 ∷ e))
+joined_preference a b c e = simp append_assoc refl
+
+some_skipped : (ls : Lines) (rest : List ℕ) → 1 ≤ length ls → skipped (flat_map star_text ls ++ rest) ≡ flat_map star_text ls ++ rest
+some_skipped [] rest some = absurd (omega (arith, some))
+some_skipped (l ∷ ls) rest some = refl
+
+-- contents in hex are read again, before anything but a further star
+stars_back : (w : List ℕ) (lines : Lines) (rest : List ℕ) → AllByRecursion (λ b. is_white b ≡ false) w → AreFileLines lines → IsBytes (content lines) → (Begins 42 rest → ⊥) → WordAndStars w (w ++ 10 ∷ (stars_text lines ++ rest)) lines rest
+stars_back w lines rest solid file bytes none =
+    let digits : Lines = star_lines (content lines) in
+    let some : 1 ≤ length digits = omega (arith, lines_count (content lines)) in
+    record {
+      after = 10 ∷ (stars_text lines ++ rest);
+      named = record { parts = refl; solid = solid; ends = refl };
+      stars = record {
+        digits = digits;
+        read = subst (λ (t : List ℕ). LineGroup 42 t digits rest) (sym (some_skipped digits rest some)) (record { read = lines_back 42 digits rest (free_lines digits (lines_plain (content lines))); ends = none });
+        hex = (file, lines_stand (content lines) bytes);
+      };
+    }
+
+binary_back : (old new : Lines) (rest : List ℕ) → IsValidWork (Binary old new) → HasByteWork (Binary old new) → (Begins 42 rest → ⊥) → BinaryBody (10 ∷ (codes "oldhex\n" ++ (stars_text old ++ (codes "newhex\n" ++ (stars_text new ++ rest))))) old new rest
+binary_back old new rest valid bytes none =
+    let mid = codes "newhex\n" ++ (stars_text new ++ rest) in
+    record {
+      mid = mid;
+      olds = stars_back (codes "oldhex") old mid (refl, (refl, (refl, (refl, (refl, (refl, tt)))))) (valid.0, valid.2) bytes.0 (λ o. omega (arith, front_same 110 42 _ o.0 o.1));
+      news = stars_back (codes "newhex") new rest (refl, (refl, (refl, (refl, (refl, (refl, tt)))))) (valid.1, valid.3) bytes.1 none;
+    }
+
+name_skipped : (name rest : List ℕ) → name ≢ [] → AllByRecursion (λ b. is_white b ≡ false) name → skipped (name ++ rest) ≡ name ++ rest
+name_skipped [] rest some f = absurd (some refl)
+name_skipped (b ∷ name) rest some f = skipped_solid b (name ++ rest) f.0
+
+preference_back : (name old new rest : List ℕ) → IsPreference name old new → PreferenceLines (name ++ 10 ∷ (old ++ 10 ∷ (new ++ 10 ∷ rest))) name old new rest
+preference_back name old new rest valid =
+    record {
+      after = 10 ∷ (old ++ 10 ∷ (new ++ 10 ∷ rest));
+      olds = old ++ 10 ∷ (new ++ 10 ∷ rest);
+      news = new ++ 10 ∷ rest;
+      word = record { parts = refl; solid = none_of is_white name valid.1; ends = refl };
+      some = valid.0;
+      end = record { blank = []; line = record { free = tt; parts = refl }; white = tt };
+      old_read = record { free = none_of (λ y. y == 10) old valid.2; parts = refl };
+      new_read = record { free = none_of (λ y. y == 10) new valid.3; parts = inl refl };
+    }
+
+-- no further line of a hunk begins here
+no_line : (kinds : Kinds) (rest : List ℕ) → NoLineOf kinds rest → NoLine rest
+no_line these.Six rest none = none
+no_line these.All rest none = none.0
+
+single_text : (word : List ℕ) (p : Path) (rest : List ℕ) → AllByRecursion (λ b. is_white b ≡ false) word → IsValidPath p → WordAndPath word (word ++ 32 ∷ ((path_text p ++ 10 ∷ []) ++ rest)) p (10 ∷ rest)
+single_text word p rest solid valid = subst (λ (t : List ℕ). WordAndPath word (word ++ 32 ∷ t) p (10 ∷ rest)) (sym (append_assoc (path_text p) (10 ∷ []) rest)) (single_back word p (10 ∷ rest) solid valid refl)
+
+pub prim_back : (kinds : Kinds) (p : Prim) (rest : List ℕ) → IsValidPrim p → IsWritable kinds p → NoLineOf kinds rest → ReadsPrim (prim_text p ++ rest) p rest
+prim_back kinds (At p AddFile) rest valid can none = record { after = 10 ∷ rest; read = single_text (codes "addfile") p rest (refl, (refl, (refl, (refl, (refl, (refl, (refl, tt))))))) valid.0; left = refl }
+prim_back kinds (At p RmFile) rest valid can none = record { after = 10 ∷ rest; read = single_text (codes "rmfile") p rest (refl, (refl, (refl, (refl, (refl, (refl, tt)))))) valid.0; left = refl }
+prim_back kinds (At p AddDir) rest valid can none = record { after = 10 ∷ rest; read = single_text (codes "adddir") p rest (refl, (refl, (refl, (refl, (refl, (refl, tt)))))) valid.0; left = refl }
+prim_back kinds (At p RmDir) rest valid can none = record { after = 10 ∷ rest; read = single_text (codes "rmdir") p rest (refl, (refl, (refl, (refl, (refl, tt))))) valid.0; left = refl }
+prim_back kinds (At p (Hunk n old new)) rest valid can none =
     let tail = lines_text 45 old ++ (lines_text 43 new ++ rest) in
     record {
       after = rest;
       read = subst (λ (t : List ℕ). HunkText (codes "hunk" ++ 32 ∷ t) p n old new rest) (sym (joined_hunk (path_text p) (decimal n) (lines_text 45 old) (lines_text 43 new) rest))
-          (record { mid = 32 ∷ (decimal n ++ 10 ∷ tail); first = single_back (codes "hunk") p (32 ∷ (decimal n ++ 10 ∷ tail)) (refl, (refl, (refl, (refl, tt)))) valid.0 refl; body = hunk_back n old new rest valid.1 none });
+          (record { mid = 32 ∷ (decimal n ++ 10 ∷ tail); first = single_back (codes "hunk") p (32 ∷ (decimal n ++ 10 ∷ tail)) (refl, (refl, (refl, (refl, tt)))) valid.0 refl; body = hunk_back n old new rest valid.1 (no_line kinds rest none) });
       left = refl;
     }
-prim_back (Move p q) rest valid none =
+prim_back kinds (Move p q) rest valid can none =
     record {
       after = 10 ∷ rest;
       read = subst (λ (t : List ℕ). WordAndPaths (codes "move") (codes "move" ++ 32 ∷ t) p q (10 ∷ rest)) (sym (joined_move (path_text p) (path_text q) rest))
           (record { mid = 32 ∷ (path_text q ++ 10 ∷ rest); first = single_back (codes "move") p (32 ∷ (path_text q ++ 10 ∷ rest)) (refl, (refl, (refl, (refl, tt)))) valid.0 refl; second = path_back q (10 ∷ rest) valid.1 refl });
+      left = refl;
+    }
+prim_back these.Six (At p (Binary old new)) rest valid can none = absurd can
+prim_back these.All (At p (Binary old new)) rest valid can none =
+    let tail = 10 ∷ (codes "oldhex\n" ++ (stars_text old ++ (codes "newhex\n" ++ (stars_text new ++ rest)))) in
+    record {
+      after = rest;
+      read = subst (λ (t : List ℕ). BinaryText (codes "binary" ++ 32 ∷ t) p old new rest) (sym (joined_binary (path_text p) (codes "oldhex\n") (stars_text old) (codes "newhex\n") (stars_text new) rest))
+          (record { mid = tail; first = single_back (codes "binary") p tail (refl, (refl, (refl, (refl, (refl, (refl, tt)))))) valid.0 refl; body = binary_back old new rest valid.1 can none.1 });
+      left = refl;
+    }
+prim_back these.Six (ChangePref name old new) rest valid can none = absurd can
+prim_back these.All (ChangePref name old new) rest valid can none =
+    let tail = name ++ 10 ∷ (old ++ 10 ∷ (new ++ 10 ∷ rest)) in
+    let skips : skipped tail ≡ tail = name_skipped name (10 ∷ (old ++ 10 ∷ (new ++ 10 ∷ rest))) valid.0 (none_of is_white name valid.1) in
+    record {
+      after = rest;
+      read = subst (λ (t : List ℕ). PreferenceText (codes "changepref" ++ 32 ∷ t) name old new rest) (sym (joined_preference name old new rest))
+          (record {
+            after = 32 ∷ tail;
+            named = record { parts = refl; solid = (refl, (refl, (refl, (refl, (refl, (refl, (refl, (refl, (refl, (refl, tt)))))))))); ends = refl };
+            lines = subst (λ (t : List ℕ). PreferenceLines t name old new rest) (sym skips) (preference_back name old new rest valid);
+          });
       left = refl;
     }
 
@@ -185,6 +273,8 @@ lettered (At p RmFile) rest = record { first = 114; more = _; parts = refl; low 
 lettered (At p AddDir) rest = record { first = 97; more = _; parts = refl; low = omega arith; high = omega arith }
 lettered (At p RmDir) rest = record { first = 114; more = _; parts = refl; low = omega arith; high = omega arith }
 lettered (At p (Hunk n old new)) rest = record { first = 104; more = _; parts = refl; low = omega arith; high = omega arith }
+lettered (At p (Binary old new)) rest = record { first = 98; more = _; parts = refl; low = omega arith; high = omega arith }
+lettered (ChangePref name old new) rest = record { first = 99; more = _; parts = refl; low = omega arith; high = omega arith }
 lettered (Move p q) rest = record { first = 109; more = _; parts = refl; low = omega arith; high = omega arith }
 
 skipped_prim : (p : Prim) (rest : List ℕ) → skipped (prim_text p ++ rest) ≡ prim_text p ++ rest
@@ -193,6 +283,8 @@ skipped_prim (At p RmFile) rest = refl
 skipped_prim (At p AddDir) rest = refl
 skipped_prim (At p RmDir) rest = refl
 skipped_prim (At p (Hunk n old new)) rest = refl
+skipped_prim (At p (Binary old new)) rest = refl
+skipped_prim (ChangePref name old new) rest = refl
 skipped_prim (Move p q) rest = refl
 
 not_letter : (b : ℕ) (text : List ℕ) → Lettered text → (b < 97) ⊎ (122 < b) → Begins b text → ⊥
@@ -200,35 +292,47 @@ not_letter b text l out o =
     let same : l.first ≡ b = front_same l.first b l.more o.0 (sym l.parts ∙ o.1) in
     elim out [ inl x ↦ omega (arith, l.low, same, x) | inr x ↦ omega (arith, l.high, same, x) ]
 
-no_line_prims : (ps : List Prim) (rest : List ℕ) → NoLine rest → NoLine (flat_map prim_text ps ++ rest)
-no_line_prims [] rest none = none
-no_line_prims (p ∷ ps) rest none =
-    let l = subst Lettered (sym (append_assoc (prim_text p) (flat_map prim_text ps) rest)) (lettered p (flat_map prim_text ps ++ rest)) in
-    record {
-      space = not_letter 32 ((prim_text p ++ flat_map prim_text ps) ++ rest) l (inl (omega arith));
-      old = not_letter 45 ((prim_text p ++ flat_map prim_text ps) ++ rest) l (inl (omega arith));
-      new = not_letter 43 ((prim_text p ++ flat_map prim_text ps) ++ rest) l (inl (omega arith));
-    }
+no_hunk_line : (text : List ℕ) → Lettered text → NoLine text
+no_hunk_line text l = record { space = not_letter 32 text l (inl (omega arith)); old = not_letter 45 text l (inl (omega arith)); new = not_letter 43 text l (inl (omega arith)) }
 
-pub record ReadsAll (text : List ℕ) (ps : List Prim) (rest : List ℕ) : Type 0 where
+letter_no_line : (kinds : Kinds) (text : List ℕ) → Lettered text → NoLineOf kinds text
+letter_no_line these.Six text l = no_hunk_line text l
+letter_no_line these.All text l = (no_hunk_line text l, not_letter 42 text l (inl (omega arith)))
+
+no_line_prims : (kinds : Kinds) (ps : List Prim) (rest : List ℕ) → NoLineOf kinds rest → NoLineOf kinds (flat_map prim_text ps ++ rest)
+no_line_prims kinds [] rest none = none
+no_line_prims kinds (p ∷ ps) rest none =
+    letter_no_line kinds ((prim_text p ++ flat_map prim_text ps) ++ rest) (subst Lettered (sym (append_assoc (prim_text p) (flat_map prim_text ps) rest)) (lettered p (flat_map prim_text ps ++ rest)))
+
+pub record ReadsAll (kinds : Kinds) (text : List ℕ) (ps : List Prim) (rest : List ℕ) : Type 0 where
   pub mid : List ℕ
-  pub read : Many NextPrim text ps mid
+  pub read : Many (NextPrim kinds) text ps mid
   pub left : skipped mid ≡ skipped rest
 
 -- white space before primitives doesn't matter
-prims_skip : (t u : List ℕ) (ps : List Prim) (rest : List ℕ) → skipped t ≡ skipped u → ReadsAll t ps rest → ReadsAll u ps rest
-prims_skip t u [] rest e r = record { mid = u; read = refl; left = sym e ∙ (ap skipped r.read ∙ r.left) }
-prims_skip t u (p ∷ ps) rest e r = record { mid = r.mid; read = (r.read.0, subst (λ (s : List ℕ). PrimText s p r.read.0) e r.read.1, r.read.2); left = r.left }
+prims_skip : (kinds : Kinds) (t u : List ℕ) (ps : List Prim) (rest : List ℕ) → skipped t ≡ skipped u → ReadsAll kinds t ps rest → ReadsAll kinds u ps rest
+prims_skip kinds t u [] rest e r = record { mid = u; read = refl; left = sym e ∙ (ap skipped r.read ∙ r.left) }
+prims_skip kinds t u (p ∷ ps) rest e r =
+    let first = r.read.1 in
+    record { mid = r.mid; read = (r.read.0, record { read = subst (λ (s : List ℕ). PrimText s p r.read.0) e first.read; kind = first.kind }, r.read.2); left = r.left }
 
-pub prims_back : (ps : List Prim) (rest : List ℕ) → AllByRecursion IsValidPrim ps → NoLine rest → ReadsAll (flat_map prim_text ps ++ rest) ps rest
-prims_back [] rest valid none = record { mid = rest; read = refl; left = refl }
-prims_back (p ∷ ps) rest valid none =
+of_kind : (kinds : Kinds) (p : Prim) → IsWritable kinds p → IsOf kinds p
+of_kind these.Six p can = can
+of_kind these.All p can = tt
+
+pub prims_back : (kinds : Kinds) (ps : List Prim) (rest : List ℕ) → AllByRecursion IsValidPrim ps → AreWritable kinds ps → NoLineOf kinds rest → ReadsAll kinds (flat_map prim_text ps ++ rest) ps rest
+prims_back kinds [] rest valid can none = record { mid = rest; read = refl; left = refl }
+prims_back kinds (p ∷ ps) rest valid can none =
     let tail = flat_map prim_text ps ++ rest in
-    let one = prim_back p tail valid.0 (no_line_prims ps rest none) in
-    let more = prims_skip tail one.after ps rest (sym one.left) (prims_back ps rest valid.1 none) in
+    let one = prim_back kinds p tail valid.0 can.0 (no_line_prims kinds ps rest none) in
+    let more = prims_skip kinds tail one.after ps rest (sym one.left) (prims_back kinds ps rest valid.1 can.1 none) in
     let whole : prim_text p ++ tail ≡ (prim_text p ++ flat_map prim_text ps) ++ rest = sym (append_assoc (prim_text p) (flat_map prim_text ps) rest) in
     let first = subst (λ (t : List ℕ). PrimText t p one.after) (sym (skipped_prim p tail)) one.read in
-    record { mid = more.mid; read = (one.after, subst (λ (t : List ℕ). PrimText (skipped t) p one.after) whole first, more.read); left = more.left }
+    record {
+      mid = more.mid;
+      read = (one.after, record { read = subst (λ (t : List ℕ). PrimText (skipped t) p one.after) whole first; kind = of_kind kinds p can.0 }, more.read);
+      left = more.left;
+    }
 
 -- ---- dependencies
 
@@ -270,19 +374,26 @@ deps_back (d ∷ ds) rest valid none =
 
 -- ---- bodies and patches
 
-pub record ReadsBody (text : List ℕ) (ps : List Prim) (rest : List ℕ) : Type 0 where
+pub record ReadsBody (kinds : Kinds) (text : List ℕ) (ps : List Prim) (rest : List ℕ) : Type 0 where
   pub after : List ℕ
-  pub read : Body text ps after
+  pub read : Body kinds text ps after
   pub left : skipped after ≡ skipped rest
 
-brace_line : (rest : List ℕ) → NoLine (125 ∷ rest)
-brace_line rest = record { space = λ o. absurd (omega (arith, front_same 125 32 rest o.0 o.1)); old = λ o. absurd (omega (arith, front_same 125 45 rest o.0 o.1)); new = λ o. absurd (omega (arith, front_same 125 43 rest o.0 o.1)) }
+no_brace : (b : ℕ) (rest : List ℕ) → (125 ≡ b → ⊥) → Begins b (125 ∷ rest) → ⊥
+no_brace b rest other o = other (front_same 125 b rest o.0 o.1)
 
-in_braces_back : (t : List ℕ) (ps : List Prim) (rest : List ℕ) → AllByRecursion IsValidPrim ps → skipped t ≡ skipped ((codes "{\n" ++ (flat_map prim_text ps ++ codes "}\n")) ++ rest) → ReadsBody t ps rest
-in_braces_back t ps rest valid e =
+hunk_brace : (rest : List ℕ) → NoLine (125 ∷ rest)
+hunk_brace rest = record { space = no_brace 32 rest (λ e. omega (arith, e)); old = no_brace 45 rest (λ e. omega (arith, e)); new = no_brace 43 rest (λ e. omega (arith, e)) }
+
+brace_line : (kinds : Kinds) (rest : List ℕ) → NoLineOf kinds (125 ∷ rest)
+brace_line these.Six rest = hunk_brace rest
+brace_line these.All rest = (hunk_brace rest, no_brace 42 rest (λ e. omega (arith, e)))
+
+in_braces_back : (kinds : Kinds) (t : List ℕ) (ps : List Prim) (rest : List ℕ) → AllByRecursion IsValidPrim ps → AreWritable kinds ps → skipped t ≡ skipped ((codes "{\n" ++ (flat_map prim_text ps ++ codes "}\n")) ++ rest) → ReadsBody kinds t ps rest
+in_braces_back kinds t ps rest valid can e =
     let inner = flat_map prim_text ps in
     let tail = 125 ∷ 10 ∷ rest in
-    let r = prims_skip (inner ++ tail) (10 ∷ (inner ++ tail)) ps tail refl (prims_back ps tail valid (brace_line (10 ∷ rest))) in
+    let r = prims_skip kinds (inner ++ tail) (10 ∷ (inner ++ tail)) ps tail refl (prims_back kinds ps tail valid can (brace_line kinds (10 ∷ rest))) in
     let whole : (inner ++ codes "}\n") ++ rest ≡ inner ++ tail = append_assoc inner (codes "}\n") rest in
     record {
       after = 10 ∷ rest;
@@ -290,17 +401,17 @@ in_braces_back t ps rest valid e =
       left = refl;
     }
 
-pub body_back : (t : List ℕ) (ps : List Prim) (rest : List ℕ) → AllByRecursion IsValidPrim ps → NoLine rest → RunEnds (skipped rest) → skipped t ≡ skipped (body_text ps ++ rest) → ReadsBody t ps rest
-body_back t [] rest valid none ends e = in_braces_back t [] rest valid e
-body_back t (p ∷ q ∷ ps) rest valid none ends e = in_braces_back t (p ∷ q ∷ ps) rest valid e
-body_back t (p ∷ []) rest valid none ends e =
-    let one = prim_back p rest valid.0 none in
+pub body_back : (kinds : Kinds) (t : List ℕ) (ps : List Prim) (rest : List ℕ) → AllByRecursion IsValidPrim ps → AreWritable kinds ps → NoLineOf kinds rest → RunEnds (skipped rest) → skipped t ≡ skipped (body_text ps ++ rest) → ReadsBody kinds t ps rest
+body_back kinds t [] rest valid can none ends e = in_braces_back kinds t [] rest valid can e
+body_back kinds t (p ∷ q ∷ ps) rest valid can none ends e = in_braces_back kinds t (p ∷ q ∷ ps) rest valid can e
+body_back kinds t (p ∷ []) rest valid can none ends e =
+    let one = prim_back kinds p rest valid.0 can.0 none in
     let same : prim_text p ++ rest ≡ skipped t = sym (skipped_prim p rest) ∙ sym e in
     record {
       after = one.after;
       read = inr (record {
         bare = not_letter 123 (skipped t) (subst Lettered same (lettered p rest)) (inr (omega arith));
-        read = (one.after, subst (λ (s : List ℕ). PrimText s p one.after) same one.read, refl);
+        read = (one.after, record { read = subst (λ (s : List ℕ). PrimText s p one.after) same one.read; kind = of_kind kinds p can.0 }, refl);
         ends = subst RunEnds (sym one.left) ends;
       });
       left = one.left;
@@ -311,11 +422,11 @@ no_angle [] rest o = omega (arith, front_same 123 60 _ o.0 o.1)
 no_angle (p ∷ q ∷ ps) rest o = omega (arith, front_same 123 60 _ o.0 o.1)
 no_angle (p ∷ []) rest o = not_letter 60 (skipped (prim_text p ++ rest)) (subst Lettered (sym (skipped_prim p rest)) (lettered p rest)) (inl (omega arith)) o
 
-pub patch_back : (p : Patch) (rest : List ℕ) → IsValidPatch p → NoLine rest → RunEnds (skipped rest) → ReadsPatch (patch_text p ++ rest) p rest
-patch_back p rest valid none ends =
+pub patch_back : (kinds : Kinds) (p : Patch) (rest : List ℕ) → IsValidPatch p → AreWritable kinds p.prims → NoLineOf kinds rest → RunEnds (skipped rest) → ReadsPatchIn kinds (patch_text p ++ rest) p rest
+patch_back kinds p rest valid can none ends =
     let body = body_text p.prims ++ rest in
     let info = canonical_stands p.info (deps_text p.deps ++ body) valid.info in
     let deps = deps_back p.deps body valid.deps (no_angle p.prims rest) in
-    let b = body_back deps.after p.prims rest valid.prims none ends deps.left in
+    let b = body_back kinds deps.after p.prims rest valid.prims can none ends deps.left in
     let whole : canonical p.info ++ (deps_text p.deps ++ body) ≡ (canonical p.info ++ (deps_text p.deps ++ body_text p.prims)) ++ rest = joined_patch (canonical p.info) (deps_text p.deps) (body_text p.prims) rest in
     record { after = b.after; read = record { after = 32 ∷ (deps_text p.deps ++ body); body = deps.after; info = subst (λ (t : List ℕ). Stands t p.info (32 ∷ (deps_text p.deps ++ body))) whole info; deps = deps.read; prims = b.read }; left = b.left }

@@ -19,11 +19,11 @@ right_false : (a b : Bool) → (a || b) ≡ false → b ≡ false
 right_false true b e = absurd (false≢true (sym e))
 right_false false b e = e
 
-none_of : (test : ℕ → Bool) (xs : List ℕ) → list_any test xs ≡ false → AllByRecursion (λ x. test x ≡ false) xs
+pub none_of : (test : ℕ → Bool) (xs : List ℕ) → list_any test xs ≡ false → AllByRecursion (λ x. test x ≡ false) xs
 none_of test [] e = tt
 none_of test (x ∷ xs) e = (left_false (test x) (list_any test xs) e, none_of test xs (right_false (test x) (list_any test xs) e))
 
-any_of : (test : ℕ → Bool) (xs : List ℕ) → AllByRecursion (λ x. test x ≡ false) xs → list_any test xs ≡ false
+pub any_of : (test : ℕ → Bool) (xs : List ℕ) → AllByRecursion (λ x. test x ≡ false) xs → list_any test xs ≡ false
 any_of test [] f = refl
 any_of test (x ∷ xs) f = both (test x) (list_any test xs) f.0 (any_of test xs f.1)
   where

@@ -4,8 +4,9 @@ use Rattle.std.specs.List.{flat_map}
 use Rattle.std.specs.Fmt.{decimal}
 use Rattle.dm_info.specs.PatchInfo.{PatchInfo}
 use Rattle.dm_info.specs.Spelling.{canonical}
+use Rattle.dm_hex.specs.Digits.{stars_text}
 use Rattle.dm_tree.specs.Paths.{Name, Path}
-use Rattle.dm_prim.specs.Primitives.{Work, Prim, AddFile, RmFile, AddDir, RmDir, Hunk, At, Move}
+use Rattle.dm_prim.specs.Primitives.{Work, Prim, AddFile, RmFile, AddDir, RmDir, Hunk, Binary, At, Move, ChangePref}
 use Rattle.dm_named.specs.Words.{is_white}
 use Rattle.dm_named.specs.Patches.{Patch}
 
@@ -32,16 +33,20 @@ work_word RmFile = codes "rmfile "
 work_word AddDir = codes "adddir "
 work_word RmDir = codes "rmdir "
 work_word (Hunk n old new) = codes "hunk "
+work_word (Binary old new) = codes "binary "
 
--- what follows the path: for a hunk its number and its lines, without lines for people; for the others a newline
+-- what follows the path: for a hunk its number and its lines, without lines for people; for a binary its contents in hex; for the
+-- others a newline
 abbrev pub work_text : Work → List ℕ
 work_text (Hunk n old new) = 32 ∷ (decimal n ++ 10 ∷ (lines_text 45 old ++ lines_text 43 new))
+work_text (Binary old new) = 10 ∷ (codes "oldhex\n" ++ (stars_text old ++ (codes "newhex\n" ++ stars_text new)))
 work_text w = 10 ∷ []
 
--- a primitive: one space between its words, and a newline
+-- a primitive: one space between its words, and a newline; a change of a preference has both values on lines of their own
 abbrev pub prim_text : Prim → List ℕ
 prim_text (At p w) = work_word w ++ (path_text p ++ work_text w)
 prim_text (Move p q) = codes "move " ++ (path_text p ++ 32 ∷ (path_text q ++ 10 ∷ []))
+prim_text (ChangePref name old new) = codes "changepref " ++ (name ++ 10 ∷ (old ++ 10 ∷ (new ++ 10 ∷ [])))
 
 -- a patch info (its text ends with a space) and a newline
 abbrev pub info_line : PatchInfo → List ℕ

@@ -1,24 +1,28 @@
 -- What can be wrong with a named patch's text, and where. `F kind text here` says: the part that is due at the front of the text
 -- fails in this way, and `here` is the text from the fault's place on. The text before the place is that of the parts that are due
 -- there. Memory may run out anywhere.
-use Rattle.std.specs.Prelude.{◌≡◌, ◌≢◌, ◌≤◌, ◌<◌, ◌⊎◌, ℕ, List, [], length, codes}
+use Rattle.std.specs.Prelude.{◌≡◌, ◌≢◌, ◌≤◌, ◌<◌, ◌⊎◌, ℕ, List, [], ◌∷◌, ◌++◌, length, codes}
 use Rattle.dm_info.specs.PatchInfo.{PatchInfo}
 use Rattle.dm_info.specs.Spelling.{open_bracket, Stands, NoneStands, StandsInverted}
 use Rattle.dm_tree.specs.Paths.{Path}
+use Rattle.dm_tree.specs.Trees.{Lines}
 use Rattle.dm_prim.specs.Primitives.{Prim}
 use Rattle.dm_named.specs.Many.{Many}
 use Rattle.dm_named.specs.Limits.{standard}
-use Rattle.dm_named.specs.Words.{skipped, Begins, NextByte, WordAmong, LineGroup, NumberLine}
-use Rattle.dm_named.specs.Paths.{PathWord}
-use Rattle.dm_named.specs.Patches.{WordAndPath, NextPrim, NextInfo, Dependencies, prim_words, unsupported_words, RunEnds}
+use Rattle.dm_named.specs.Words.{skipped, Begins, NextByte, Word, WordAmong, LineGroup, NumberLine}
+use Rattle.dm_named.specs.Paths.{PathWord, WordAndPath}
+use Rattle.dm_named.specs.Binaries.{WordAndStars}
+use Rattle.dm_named.specs.Preferences.{PreferenceLines}
+use Rattle.dm_named.specs.Patches.{NextPrim, NextInfo, Dependencies, prim_words, prim_words_of, unsupported_words_of, RunEnds}
 use Rattle.dm_info.specs.declared.fault.InfoReadFault.{InfoReadFault}
 use Rattle.dm_info.specs.declared.fault.InfoReadFault.TheVariants as in_info
 use Rattle.dm_named.specs.declared.limits.Limits.{Limits}
+use Rattle.dm_named.specs.declared.limits.Kinds.{Kinds}
 use Rattle.dm_named.specs.declared.reading.names.NameFault.{NameFault}
 use Rattle.dm_named.specs.declared.reading.names.NameFault.TheVariants as in_name
 use Rattle.dm_named.specs.declared.fault.FaultKind.{FaultKind}
 use Rattle.dm_named.specs.declared.fault.FaultKind.TheVariants.{BadInfo, Inverted, BadDepends, BadPatch, Unsupported, BadPath}
-use Rattle.dm_named.specs.declared.fault.FaultKind.TheVariants.{BadNumber, EmptyHunk, Unclosed, TooMany, NoMemory}
+use Rattle.dm_named.specs.declared.fault.FaultKind.TheVariants.{BadNumber, EmptyHunk, Unclosed, TooMany, NoMemory, BadHex, BadPreference}
 
 -- the kind of a fault in a patch info
 abbrev pub kind_of_info : InfoReadFault → FaultKind
@@ -62,53 +66,87 @@ HunkFaultAt EmptyHunk hunk text here = (here ≡ hunk) × NoChange text
 HunkFaultAt NoMemory hunk text here = Unit {0}
 HunkFaultAt _ hunk text here = ⊥
 
--- where a primitive's word stands: a fault in its path, in a move's second path, or after a hunk's path
+-- this word is due after white space, with lines in hex after it, and they don't stand there
+pub record NoStars (word text here : List ℕ) : Type 0 where
+  pub place : here ≡ skipped text
+  pub none : (lines : Lines) (rest : List ℕ) → WordAndStars word here lines rest → ⊥
+
+-- after a binary's path: the old lines don't stand there, or they do and the new ones don't
+pub data HexFaultAt (text here : List ℕ) : Type 0 where
+  old_hex : NoStars (codes "oldhex") text here → HexFaultAt text here
+  new_hex : (lines : Lines) (mid : List ℕ) → WordAndStars (codes "oldhex") (skipped text) lines mid → NoStars (codes "newhex") mid here → HexFaultAt text here
+
+-- after a binary's path
+abbrev pub BinaryFaultAt : FaultKind → List ℕ → List ℕ → Type 0
+BinaryFaultAt BadHex text here = HexFaultAt text here
+BinaryFaultAt NoMemory text here = Unit {0}
+BinaryFaultAt _ text here = ⊥
+
+-- after the word of a change of a preference
+abbrev pub PreferenceFaultAt : FaultKind → List ℕ → List ℕ → Type 0
+PreferenceFaultAt BadPreference text here = (here ≡ skipped text) × ((name old new rest : List ℕ) → PreferenceLines here name old new rest → ⊥)
+PreferenceFaultAt NoMemory text here = Unit {0}
+PreferenceFaultAt _ text here = ⊥
+
+-- the words of primitives that have a path
+abbrev pub path_words : List (List ℕ)
+path_words = prim_words ++ codes "binary" ∷ []
+
+-- where a primitive's word stands: a fault in its path, in a move's second path, after a hunk's or a binary's path, or after the word
+-- of a change of a preference
 pub data PrimFaultAt (kind : FaultKind) (text here : List ℕ) : Type 0 where
-  path : (stands : WordAmong prim_words text) → PathFaultAt kind stands.rest here → PrimFaultAt kind text here
+  path : (stands : WordAmong path_words text) → PathFaultAt kind stands.rest here → PrimFaultAt kind text here
   second : (p : Path) (mid : List ℕ) → WordAndPath (codes "move") text p mid → PathFaultAt kind mid here → PrimFaultAt kind text here
   hunk : (p : Path) (mid : List ℕ) → WordAndPath (codes "hunk") text p mid → HunkFaultAt kind text mid here → PrimFaultAt kind text here
+  binary : (p : Path) (mid : List ℕ) → WordAndPath (codes "binary") text p mid → BinaryFaultAt kind mid here → PrimFaultAt kind text here
+  preference : (mid : List ℕ) → Word text (codes "changepref") mid → PreferenceFaultAt kind mid here → PrimFaultAt kind text here
+
+-- the same where the word of a primitive of these kinds stands
+pub record PrimFaultOf (kinds : Kinds) (kind : FaultKind) (text here : List ℕ) : Type 0 where
+  pub due : WordAmong (prim_words_of kinds) text
+  pub wrong : PrimFaultAt kind text here
 
 -- after so many primitives, the next one is one more than the limits allow
 abbrev pub CountFaultWithin : Limits → FaultKind → ℕ → List ℕ → List ℕ → Type 0
-CountFaultWithin limits TooMany count text here = (here ≡ text) × (count ≡ limits.prims) × WordAmong prim_words text
+CountFaultWithin limits TooMany count text here = (here ≡ text) × (count ≡ limits.prims) × WordAmong (prim_words_of limits.kinds) text
 CountFaultWithin limits NoMemory count text here = Unit {0}
 CountFaultWithin limits _ count text here = ⊥
 
--- after the primitives in braces
-abbrev pub BraceFaultAt : FaultKind → List ℕ → List ℕ → Type 0
-BraceFaultAt Unclosed text here = (here ≡ text) × (text ≡ [])
-BraceFaultAt Unsupported text here = (here ≡ text) × (WordAmong unsupported_words text ⊎ (Begins 123 text ⊎ Begins 40 text))
-BraceFaultAt BadPatch text here = (here ≡ text) × (text ≢ []) × (Begins 125 text → ⊥) × (Begins 123 text → ⊥) × RunEnds text
-BraceFaultAt _ text here = ⊥
+-- after the primitives of these kinds in braces
+abbrev pub BraceFaultAt : Kinds → FaultKind → List ℕ → List ℕ → Type 0
+BraceFaultAt kinds Unclosed text here = (here ≡ text) × (text ≡ [])
+BraceFaultAt kinds Unsupported text here = (here ≡ text) × (WordAmong (unsupported_words_of kinds) text ⊎ (Begins 123 text ⊎ Begins 40 text))
+BraceFaultAt kinds BadPatch text here = (here ≡ text) × (text ≢ []) × (Begins 125 text → ⊥) × (Begins 123 text → ⊥) × RunEnds text
+BraceFaultAt kinds _ text here = ⊥
 
--- after the primitives of a run
-abbrev pub RunFaultAt : FaultKind → List ℕ → List ℕ → Type 0
-RunFaultAt Unsupported text here = (here ≡ text) × (WordAmong unsupported_words text ⊎ Begins 40 text)
-RunFaultAt _ text here = ⊥
+-- after the primitives of these kinds of a run
+abbrev pub RunFaultAt : Kinds → FaultKind → List ℕ → List ℕ → Type 0
+RunFaultAt kinds Unsupported text here = (here ≡ text) × (WordAmong (unsupported_words_of kinds) text ⊎ Begins 40 text)
+RunFaultAt kinds _ text here = ⊥
 
 -- after the dependencies in angle brackets
 abbrev pub DependsFaultAt : FaultKind → List ℕ → List ℕ → Type 0
 DependsFaultAt BadDepends text here = (here ≡ text) × (Begins open_bracket text → ⊥) × (Begins 62 text → ⊥)
 DependsFaultAt _ text here = ⊥
 
--- after primitives, no more than the limits allow, something is wrong
+-- after primitives, of the kinds that the limits allow and no more, something is wrong
 pub record AfterPrimsWithin (limits : Limits) (Wrong : ℕ → List ℕ → List ℕ → Type 0) (text here : List ℕ) : Type 0 where
   pub prims : List Prim
   pub mid : List ℕ
-  pub read : Many NextPrim text prims mid
+  pub read : Many (NextPrim limits.kinds) text prims mid
   pub few : length prims ≤ limits.prims
   pub wrong : Wrong (length prims) (skipped mid) here
 
 -- one of the primitives: it is one too many, or there is a fault in it
 abbrev pub PrimsFaultWithin : Limits → FaultKind → List ℕ → List ℕ → Type 0
 PrimsFaultWithin limits kind text here =
-    AfterPrimsWithin limits (λ count next place. CountFaultWithin limits kind count next place ⊎ ((count < limits.prims) × PrimFaultAt kind next place)) text here
+    AfterPrimsWithin limits (λ count next place. CountFaultWithin limits kind count next place ⊎ ((count < limits.prims) × PrimFaultOf limits.kinds kind next place)) text here
 
 -- the body: a fault in one of its primitives, or in what follows them
 pub data BodyFaultWithin (limits : Limits) (kind : FaultKind) (text here : List ℕ) : Type 0 where
-  in_braces : (inside : List ℕ) → NextByte 123 text inside → PrimsFaultWithin limits kind inside here ⊎ AfterPrimsWithin limits (λ _. BraceFaultAt kind) inside here
+  in_braces : (inside : List ℕ) → NextByte 123 text inside → PrimsFaultWithin limits kind inside here ⊎ AfterPrimsWithin limits (λ _. BraceFaultAt limits.kinds kind) inside here
       → BodyFaultWithin limits kind text here
-  in_run : (Begins 123 (skipped text) → ⊥) → PrimsFaultWithin limits kind text here ⊎ AfterPrimsWithin limits (λ _. RunFaultAt kind) text here
+  in_run : (Begins 123 (skipped text) → ⊥) → PrimsFaultWithin limits kind text here ⊎ AfterPrimsWithin limits (λ _. RunFaultAt limits.kinds kind) text here
       → BodyFaultWithin limits kind text here
 
 -- after patch infos, there is a fault in the next one

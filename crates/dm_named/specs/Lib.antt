@@ -1,9 +1,12 @@
 pub mod Many
 pub mod Words
 pub mod Paths
+pub mod Binaries
+pub mod Preferences
 pub mod Patches
 pub mod Canonical
 pub mod Limits
+pub mod Kinds
 pub mod Faults
 pub mod FaultWords
 pub mod BodyWords

@@ -1,10 +1,11 @@
--- The limits of reading: the most bytes of a text, new patches of a bundle, and primitives of a patch.
+-- The limits of reading: the most bytes of a text, new patches of a bundle, and primitives of a patch, and the kinds of primitives.
 use Rattle.dm_named.specs.declared.limits.Limits.{Limits}
+use Rattle.dm_named.specs.declared.limits.Kinds.TheVariants as these
 
 -- for a text that somebody else wrote
 abbrev pub standard : Limits
-standard = record { bytes = 4194304; patches = 1000; prims = 10000 }
+standard = record { bytes = 4194304; patches = 1000; prims = 10000; kinds = these.Six }
 
 -- for the text of a repository of one's own
 abbrev pub own : Limits
-own = record { bytes = 1073741824; patches = 100000; prims = standard.prims }
+own = record { bytes = 1073741824; patches = 100000; prims = standard.prims; kinds = these.Six }

@@ -1,14 +1,19 @@
 -- Primitive patches and named patches as text (Darcs.Patch.Prim.V1, Darcs.Patch.Named).
-use Rattle.std.specs.Prelude.{◌≡◌, ◌≢◌, ◌⊎◌, ℕ, List, [], ◌∷◌, codes}
+use Rattle.std.specs.Prelude.{◌≡◌, ◌≢◌, ◌⊎◌, ℕ, List, [], ◌∷◌, ◌++◌, codes}
 use Rattle.std.specs.List.{AllByRecursion}
 use Rattle.dm_info.specs.PatchInfo.{PatchInfo, IsInfo}
 use Rattle.dm_info.specs.Spelling.{Stands}
 use Rattle.dm_tree.specs.Paths.{Path}
-use Rattle.dm_prim.specs.Primitives.{Prim, AddFile, RmFile, AddDir, RmDir, Hunk, At, Move}
+use Rattle.dm_prim.specs.Primitives.{Prim, AddFile, RmFile, AddDir, RmDir, Hunk, Binary, At, Move, ChangePref}
 use Rattle.dm_prim.specs.Commuting.{IsValidPrim}
+use Rattle.dm_named.specs.Kinds.{IsOf}
 use Rattle.dm_named.specs.Many.{Many}
-use Rattle.dm_named.specs.Words.{skipped, Begins, NextByte, Word, WordAmong, LineGroup, NumberLine}
-use Rattle.dm_named.specs.Paths.{NextPath}
+use Rattle.dm_named.specs.Words.{skipped, Begins, NextByte, WordAmong, LineGroup, NumberLine}
+use Rattle.dm_named.specs.Paths.{NextPath, WordAndPath}
+use Rattle.dm_named.specs.Binaries.{BinaryText}
+use Rattle.dm_named.specs.Preferences.{PreferenceText}
+use Rattle.dm_named.specs.declared.limits.Kinds.{Kinds}
+use Rattle.dm_named.specs.declared.limits.Kinds.TheVariants as these
 
 -- a named patch: its patch info, the patch infos of the patches that it names as dependencies, and its primitives
 pub record Patch : Type 0 where
@@ -21,12 +26,6 @@ pub record IsValidPatch (p : Patch) : Type 0 where
   pub info : IsInfo p.info
   pub deps : AllByRecursion IsInfo p.deps
   pub prims : AllByRecursion IsValidPrim p.prims
-
--- this word, and a path
-pub record WordAndPath (word text : List ℕ) (p : Path) (rest : List ℕ) : Type 0 where
-  pub after : List ℕ
-  pub named : Word text word after
-  pub path : NextPath after p rest
 
 -- this word, and two paths
 pub record WordAndPaths (word text : List ℕ) (p q : Path) (rest : List ℕ) : Type 0 where
@@ -66,11 +65,22 @@ PrimText text (At p RmFile) rest = WordAndPath (codes "rmfile") text p rest
 PrimText text (At p AddDir) rest = WordAndPath (codes "adddir") text p rest
 PrimText text (At p RmDir) rest = WordAndPath (codes "rmdir") text p rest
 PrimText text (At p (Hunk n old new)) rest = HunkText text p n old new rest
+PrimText text (At p (Binary old new)) rest = BinaryText text p old new rest
 PrimText text (Move p q) rest = WordAndPaths (codes "move") text p q rest
+PrimText text (ChangePref name old new) rest = PreferenceText text name old new rest
 
--- the words of primitives
+-- the words of the six kinds of primitives
 abbrev pub prim_words : List (List ℕ)
 prim_words = codes "addfile" ∷ codes "rmfile" ∷ codes "adddir" ∷ codes "rmdir" ∷ codes "move" ∷ codes "hunk" ∷ []
+
+-- the words of the further kinds
+abbrev pub wider_words : List (List ℕ)
+wider_words = codes "binary" ∷ codes "changepref" ∷ []
+
+-- the words of primitives of these kinds
+abbrev pub prim_words_of : Kinds → List (List ℕ)
+prim_words_of these.Six = prim_words
+prim_words_of these.All = prim_words ++ wider_words
 
 -- the words of Darcs' other patches, which are refused where a primitive may begin
 abbrev pub unsupported_words : List (List ℕ)
@@ -78,9 +88,17 @@ unsupported_words =
     codes "binary" ∷ codes "replace" ∷ codes "changepref" ∷ codes "merger" ∷ codes "regrem"
     ∷ codes "conflictor" ∷ codes "rotcilfnoc" ∷ codes "duplicate" ∷ codes "etacilpud" ∷ []
 
--- a primitive after white space
-abbrev pub NextPrim : List ℕ → Prim → List ℕ → Type 0
-NextPrim text p rest = PrimText (skipped text) p rest
+-- the words that are refused where primitives of these kinds are read
+abbrev pub unsupported_words_of : Kinds → List (List ℕ)
+unsupported_words_of these.Six = unsupported_words
+unsupported_words_of these.All =
+    codes "replace" ∷ codes "merger" ∷ codes "regrem" ∷ codes "conflictor" ∷ codes "rotcilfnoc" ∷ codes "duplicate"
+    ∷ codes "etacilpud" ∷ []
+
+-- a primitive of these kinds after white space
+pub record NextPrim (kinds : Kinds) (text : List ℕ) (p : Prim) (rest : List ℕ) : Type 0 where
+  pub read : PrimText (skipped text) p rest
+  pub kind : IsOf kinds p
 
 -- a patch info after white space
 abbrev pub NextInfo : List ℕ → PatchInfo → List ℕ → Type 0
@@ -98,34 +116,39 @@ pub record InAngles (text : List ℕ) (deps : List PatchInfo) (rest : List ℕ) 
 abbrev pub Dependencies : List ℕ → List PatchInfo → List ℕ → Type 0
 Dependencies text deps rest = InAngles text deps rest ⊎ ((Begins 60 (skipped text) → ⊥) × (deps ≡ []) × (text ≡ rest))
 
--- primitives in braces
-pub record InBraces (text : List ℕ) (ps : List Prim) (rest : List ℕ) : Type 0 where
+-- primitives of these kinds in braces
+pub record InBraces (kinds : Kinds) (text : List ℕ) (ps : List Prim) (rest : List ℕ) : Type 0 where
   pub inside : List ℕ
   pub mid : List ℕ
   pub opens : NextByte 123 text inside
-  pub read : Many NextPrim inside ps mid
+  pub read : Many (NextPrim kinds) inside ps mid
   pub closes : NextByte 125 mid rest
 
--- a run of primitives ends here: there is neither the word of a primitive nor what is refused instead
+-- a run of primitives ends here: there is neither the word of a primitive nor what is refused instead; for all kinds these are the
+-- same words
 pub record RunEnds (here : List ℕ) : Type 0 where
   pub prims : WordAmong prim_words here → ⊥
   pub others : WordAmong unsupported_words here → ⊥
   pub paren : Begins 40 here → ⊥
 
--- primitives without braces, as many as follow one another
-pub record Run (text : List ℕ) (ps : List Prim) (rest : List ℕ) : Type 0 where
+-- primitives of these kinds without braces, as many as follow one another
+pub record Run (kinds : Kinds) (text : List ℕ) (ps : List Prim) (rest : List ℕ) : Type 0 where
   pub bare : Begins 123 (skipped text) → ⊥
-  pub read : Many NextPrim text ps rest
+  pub read : Many (NextPrim kinds) text ps rest
   pub ends : RunEnds (skipped rest)
 
 -- the body of a named patch
-abbrev pub Body : List ℕ → List Prim → List ℕ → Type 0
-Body text ps rest = InBraces text ps rest ⊎ Run text ps rest
+abbrev pub Body : Kinds → List ℕ → List Prim → List ℕ → Type 0
+Body kinds text ps rest = InBraces kinds text ps rest ⊎ Run kinds text ps rest
 
--- a named patch
-pub record PatchText (text : List ℕ) (p : Patch) (rest : List ℕ) : Type 0 where
+-- a named patch whose primitives are of these kinds
+pub record PatchTextIn (kinds : Kinds) (text : List ℕ) (p : Patch) (rest : List ℕ) : Type 0 where
   pub after : List ℕ
   pub body : List ℕ
   pub info : Stands text p.info after
   pub deps : Dependencies after p.deps body
-  pub prims : Body body p.prims rest
+  pub prims : Body kinds body p.prims rest
+
+-- a named patch whose primitives are of the six kinds
+abbrev pub PatchText : List ℕ → Patch → List ℕ → Type 0
+PatchText text p rest = PatchTextIn these.Six text p rest

@@ -67,3 +67,9 @@ pub record PathWord (text : List ℕ) (p : Path) (rest : List ℕ) : Type 0 wher
 -- a path after white space
 abbrev pub NextPath : List ℕ → Path → List ℕ → Type 0
 NextPath text p rest = PathWord (skipped text) p rest
+
+-- this word, and a path
+pub record WordAndPath (word text : List ℕ) (p : Path) (rest : List ℕ) : Type 0 where
+  pub after : List ℕ
+  pub named : Word text word after
+  pub path : NextPath after p rest

@@ -42,6 +42,10 @@ pub enum FaultKind {
     TooMany,
     /// An allocation failed. The place says how far the reader had come.
     NoMemory,
+    /// After a binary's path, the old or the new content does not stand in hex.
+    BadHex,
+    /// After `changepref`, there is no name alone on its line, or there are no lines for its old and its new value.
+    BadPreference,
 }
 
 impl FaultKind {
@@ -65,6 +69,8 @@ impl FaultKind {
             FaultKind::Doubled => "doubled",
             FaultKind::TooMany => "too-many",
             FaultKind::NoMemory => "no-memory",
+            FaultKind::BadHex => "bad-hex",
+            FaultKind::BadPreference => "bad-preference",
         }
     }
 }

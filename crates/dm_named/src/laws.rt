@@ -3,13 +3,25 @@
 
 ghost use Rattle.std.specs.Prelude.{◌≡◌};
 ghost use Rattle.dm_named.specs.Limits.{standard, own};
-ghost use Rattle.dm_named.specs.Laws.{OnePatch, FaultExcludesPatch, FaultExcludesPatchWithin, OneFault, OneFaultWithin, NoFaultWithinCount, NoFaultWithinCountOf, PathRoundTrip, PrimRoundTrip, PatchRoundTrip, SquaresTurn};
+ghost use Rattle.dm_named.specs.Laws.{OnePatch, OnePatchIn, KindsChooseOnly, FaultExcludesPatch, FaultExcludesPatchWithin, OneFault, OneFaultWithin, FaultOfSix, NoFaultWithinCount, NoFaultWithinCountOf, PathRoundTrip, PrimRoundTrip, PatchRoundTrip, SquaresTurn};
 
-use crate::limits::Limits;
+use crate::limits::{Kinds, Limits};
 
-/// A text has at most one named patch at its front.
+/// A text has at most one named patch at its front, whichever kinds of primitives are read.
 pub fn one_patch()
-    ensures { OnePatch }
+    ensures six { OnePatch }
+    ensures of_kinds { (kinds : Kinds) → OnePatchIn kinds }
+{}
+
+/// A text stands for a patch within the six kinds exactly if it does within all kinds, and all its primitives are of the six.
+pub fn kinds_choose_only()
+    ensures { KindsChooseOnly }
+{}
+
+/// The fault within the six kinds is the one within all kinds, or `Unsupported` at the word of a further kind, which stands no
+/// later.
+pub fn fault_of_six()
+    ensures { (limits : Limits) → FaultOfSix limits }
 {}
 
 /// A text with a fault has no named patch at its front, unless the fault is `NoMemory` or `TooMany`. This holds within any
@@ -45,12 +57,12 @@ pub fn path_round_trip()
 
 /// The canonical text of a valid primitive is read back as that primitive.
 pub fn prim_round_trip()
-    ensures { PrimRoundTrip }
+    ensures { (kinds : Kinds) → PrimRoundTrip kinds }
 {}
 
 /// The canonical text of a valid named patch is read back as that patch.
 pub fn patch_round_trip()
-    ensures { PatchRoundTrip }
+    ensures { (kinds : Kinds) → PatchRoundTrip kinds }
 {}
 
 /// For two patches `r` and `n` that start at one state: if the inverse of `r` commutes with `n`, and that makes them `n'` and

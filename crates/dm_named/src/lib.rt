@@ -1,13 +1,14 @@
 //! Named patches: their text, and how two of them commute (Darcs.Patch.Named).
 //!
 //! A named patch is a patch info, the patch infos of the patches that it names as dependencies, and a list of
-//! primitive patches. This crate uses `dm_info` for patch infos, `dm_prim` for primitives, and `dm_tree` for paths
-//! and lines.
+//! primitive patches. This crate uses `dm_info` for patch infos, `dm_prim` for primitives, `dm_hex` for contents in hex, and
+//! `dm_tree` for paths and lines.
 //!
 //! What is proved: [`read_named_within`] returns a named patch only if its text is at that place, and then no other patch
 //! can be read there. It returns a fault only if the text, read within the limits given, has that fault at that place;
-//! [`read_named`] reads within [`Limits::STANDARD`]. [`write_named`] appends the canonical text, which is read back as the
-//! same patch. [`commute_named`] returns a pair exactly if the two named patches commute.
+//! [`read_named`] reads within [`Limits::STANDARD`], so primitives of six kinds. [`Limits::with_kinds`] has the reader take
+//! two further kinds, which only adds patches ([`laws::kinds_choose_only`]). [`write_named`] appends the canonical text, which
+//! is read back as the same patch. [`commute_named`] returns a pair exactly if the two named patches commute.
 #![tactic(auto)]
 
 mod commuting;
@@ -22,8 +23,8 @@ mod writing;
 
 pub use commuting::commute_named;
 pub use fault::{FaultKind, ReadFault};
-pub use limits::Limits;
+pub use limits::{Kinds, Limits};
 pub use named::Named;
 pub use passing::{Passing, are_apart, commute_named_in_place, commute_prims_in_place};
 pub use reading::{read_named, read_named_within};
-pub use writing::{push_named, write_named, write_path};
+pub use writing::{push_deps, push_named, push_prim, write_named, write_path};

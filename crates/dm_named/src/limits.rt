@@ -1,6 +1,17 @@
 //! The limits of reading.
 
-/// How much of a text is read: the reader reports a fault where there is more.
+ghost use Rattle.std.specs.Prelude.{◌≡◌};
+
+/// The kinds of primitives that are read.
+#[derive(Clone, Copy, Debug, PartialEq, Eq)]
+pub enum Kinds {
+    /// `addfile`, `rmfile`, `adddir`, `rmdir`, `move` and `hunk`: the reader reports any other as unsupported.
+    Six,
+    /// Those six, `binary` and `changepref`.
+    All,
+}
+
+/// How much of a text is read: the reader reports a fault where there is more, or another kind of primitive.
 #[derive(Clone, Copy, Debug, PartialEq, Eq)]
 pub struct Limits {
     /// The most bytes of a text.
@@ -9,22 +20,38 @@ pub struct Limits {
     pub patches: usize,
     /// The most primitives of a named patch.
     pub prims: usize,
+    /// The kinds of primitives.
+    pub kinds: Kinds,
 }
 
 impl Limits {
-    /// For a text that somebody else wrote: 4 MiB, 1,000 new patches, and 10,000 primitives in each. They bound what such a
-    /// text can ask for.
+    /// For a text that somebody else wrote: 4 MiB, 1,000 new patches, and 10,000 primitives in each, of the six kinds. They bound
+    /// what such a text can ask for.
     pub const STANDARD: Limits = Limits {
         bytes: 4_194_304,
         patches: 1000,
         prims: 10_000,
+        kinds: Kinds::Six,
     };
 
     /// For the text of a repository of one's own: 1 GiB, 100,000 patches, as many as a repository can hold, and in each as many
-    /// primitives as in a patch of somebody else.
+    /// primitives as in a patch of somebody else, of the same kinds.
     pub const OWN: Limits = Limits {
         bytes: 1_073_741_824,
         patches: 100_000,
         prims: Limits::STANDARD.prims,
+        kinds: Kinds::Six,
     };
+
+    /// These limits, but with the kinds that are given.
+    pub const fn with_kinds(self, kinds: Kinds) -> Limits
+        ensures { result ≡ record self { kinds = kinds } }
+    {
+        Limits {
+            bytes: self.bytes,
+            patches: self.patches,
+            prims: self.prims,
+            kinds,
+        }
+    }
 }

@@ -1,16 +1,19 @@
 //! Reading a named patch.
 
+mod binaries;
 mod bodies;
 mod dependencies;
 mod hunks;
+mod lines;
 mod names;
 mod numbers;
 mod paths;
+mod preferences;
 mod primitives;
 mod words;
 
 ghost use Rattle.std.specs.Prelude.{◌≡◌, ◌≤◌, ◌<◌, ℕ, List, length, drop, MatchResult, IfOk, IfErr};
-ghost use Rattle.dm_named.specs.Patches.{Patch, PatchText};
+ghost use Rattle.dm_named.specs.Patches.{Patch, PatchText, PatchTextIn};
 ghost use Rattle.dm_named.specs.Limits.{standard};
 ghost use Rattle.dm_named.specs.Faults.{PatchFaultAt, PatchFaultWithin, ExcludesPatch};
 
@@ -29,7 +32,7 @@ fn named_at<A: Allocator + Copy>(
     at: usize,
     limits: Limits,
 ) -> Result<(Named<A>, usize), ReadFault>
-    ensures ok { IfOk result (λ x. PatchText (drop at text.now) x.0 (drop x.1 text.now)) }
+    ensures ok { IfOk result (λ x. PatchTextIn limits.kinds (drop at text.now) x.0 (drop x.1 text.now)) }
     ensures within { IfOk result (λ x. x.1 ≤ length text.now) }
     ensures forward { IfOk result (λ x. at < x.1) }
     ensures few { IfOk result (λ x. length x.0.prims ≤ limits.prims) }
@@ -45,7 +48,7 @@ fn named_at<A: Allocator + Copy>(
 
 /// The named patch at a place, and the place after it: after its closing brace, or after its last primitive. A patch with
 /// neither ends after the `]` of its patch info or the `>` of its dependencies. More primitives than the limits allow are a
-/// fault; a patch info that occurs twice is none.
+/// fault, and so is one of another kind; a patch info that occurs twice is none.
 ///
 /// # Errors
 /// The first fault from left to right. If there is no `[` at the place, or the place is past the end of the text, it is
@@ -57,15 +60,15 @@ pub fn read_named_within<A: Allocator + Copy>(
     limits: Limits,
 ) -> Result<(Named<A>, usize), ReadFault>
     // The text there is that of the patch that is returned.
-    ensures ok { IfOk result (λ x. PatchText (drop at text.now) x.0 (drop x.1 text.now)) }
+    ensures ok { IfOk result (λ x. PatchTextIn limits.kinds (drop at text.now) x.0 (drop x.1 text.now)) }
     ensures within { IfOk result (λ x. x.1 ≤ length text.now) }
     ensures forward { IfOk result (λ x. at < x.1) }
     ensures few { IfOk result (λ x. length x.0.prims ≤ limits.prims) }
     // It is the text of no other patch.
-    ensures only { IfOk result (λ x. (p : Patch) (rest : List ℕ) → PatchText (drop at text.now) p rest → (x.0 ≡ p) × (drop x.1 text.now ≡ rest)) }
+    ensures only { IfOk result (λ x. (p : Patch) (rest : List ℕ) → PatchTextIn limits.kinds (drop at text.now) p rest → (x.0 ≡ p) × (drop x.1 text.now ≡ rest)) }
 
     // A named patch whose text is there is read, unless it has too many primitives or memory runs out.
-    ensures within_count { (p : Patch) (rest : List ℕ) → PatchText (drop at text.now) p rest → length p.prims ≤ limits.prims
+    ensures within_count { (p : Patch) (rest : List ℕ) → PatchTextIn limits.kinds (drop at text.now) p rest → length p.prims ≤ limits.prims
         → MatchResult result (λ x. (x.0 ≡ p) × (drop x.1 text.now ≡ rest)) (λ e. e.kind ≡ FaultKind.NoMemory) }
 
     // What is wrong, and where.
@@ -73,7 +76,7 @@ pub fn read_named_within<A: Allocator + Copy>(
     ensures place { IfErr result (λ e. at ≤ length text.now → e.at ≤ length text.now) }
     ensures past { IfErr result (λ e. length text.now < at → e.at ≡ at) }
     // With any fault but `NoMemory` and `TooMany`, there is no named patch there.
-    ensures none { IfErr result (λ e. ExcludesPatch e.kind → (p : Patch) (rest : List ℕ) → PatchText (drop at text.now) p rest → ⊥) }
+    ensures none { IfErr result (λ e. ExcludesPatch e.kind → (p : Patch) (rest : List ℕ) → PatchTextIn limits.kinds (drop at text.now) p rest → ⊥) }
 {
     match named_at(alloc, text, at, limits) {
         Ok(found) => Ok(found),

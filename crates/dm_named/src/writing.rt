@@ -7,14 +7,18 @@ ghost use Rattle.dm_info.specs.PatchInfo.{IsInfo};
 ghost use Rattle.dm_tree.specs.Validity.{IsValidPath};
 ghost use Rattle.dm_prim.specs.Commuting.{IsValidPrim};
 ghost use Rattle.dm_prim.specs.Hunks.{hunk_of};
+ghost use Rattle.dm_prim.specs.Binaries.{binary_of};
+ghost use Rattle.dm_prim.specs.Preferences.{preference_of};
 ghost use Rattle.dm_prim.specs.Prims.{prim_of, prims_of};
 ghost use Rattle.dm_named.specs.Canonical.{byte_text, name_text, path_text, lines_text, prim_text, deps_text, body_text, patch_text};
+ghost use Rattle.dm_named.specs.Kinds.{HasBytes, HaveBytes};
 ghost use Rattle.dm_named.specs.Patches.{IsValidPatch};
 
 use crate::named::Named;
 use crate::text::is_white;
+use dm_hex::push_content;
 use dm_info::{Info, push_info};
-use dm_prim::{Hunk, Prim};
+use dm_prim::{Binary, Hunk, Preference, Prim};
 use dm_tree::{Lines, Path};
 use itoa::Buffer;
 use std::alloc::{AllocError, Allocator};
@@ -130,12 +134,53 @@ fn push_move<A: Allocator, B: Allocator + Copy>(
     Ok(())
 }
 
-fn push_prim<A: Allocator, B: Allocator + Copy>(
+fn push_binary<A: Allocator, B: Allocator + Copy>(
+    binary: &Binary<A>,
+    out: &mut Vec<u8, B>,
+) -> Result<(), AllocError>
+    ensures valid { OnOk result (IsValidPrim (binary_of binary.now)) }
+    ensures bytes { OnOk result (HasBytes (binary_of binary.now)) }
+    ensures text { OnOk result (out.new.items ≡ out.old.items ++ prim_text (binary_of binary.now)) }
+{
+    out.extend_from_slice(b"binary ")?;
+    push_path(binary.path(), out)?;
+    out.extend_from_slice(b"\noldhex\n")?;
+    push_content(binary.old(), out)?;
+    out.extend_from_slice(b"newhex\n")?;
+    push_content(binary.new_lines(), out)?;
+    Ok(())
+}
+
+fn push_line<B: Allocator + Copy>(line: &[u8], out: &mut Vec<u8, B>) -> Result<(), AllocError>
+    ensures { OnOk result (out.new.items ≡ out.old.items ++ (line.now ++ 10 ∷ [])) }
+{
+    out.extend_from_slice(line)?;
+    out.push(b'\n')?;
+    Ok(())
+}
+
+fn push_preference<A: Allocator, B: Allocator + Copy>(
+    change: &Preference<A>,
+    out: &mut Vec<u8, B>,
+) -> Result<(), AllocError>
+    ensures valid { OnOk result (IsValidPrim (preference_of change.now)) }
+    ensures text { OnOk result (out.new.items ≡ out.old.items ++ prim_text (preference_of change.now)) }
+{
+    out.extend_from_slice(b"changepref ")?;
+    push_line(change.name(), out)?;
+    push_line(change.old(), out)?;
+    push_line(change.new_value(), out)?;
+    Ok(())
+}
+
+/// Appends the canonical text of a primitive. If an allocation fails, a part of it may have been appended.
+pub fn push_prim<A: Allocator, B: Allocator + Copy>(
     prim: &Prim<A>,
     out: &mut Vec<u8, B>,
 ) -> Result<(), AllocError>
     ensures text { OnOk result (out.new.items ≡ out.old.items ++ prim_text (prim_of prim.now)) }
     ensures valid { OnOk result (IsValidPrim (prim_of prim.now)) }
+    ensures bytes { OnOk result (HasBytes (prim_of prim.now)) }
 {
     match prim {
         Prim::AddFile(path) => push_single(b"addfile ", path, out),
@@ -144,10 +189,13 @@ fn push_prim<A: Allocator, B: Allocator + Copy>(
         Prim::RmDir(path) => push_single(b"rmdir ", path, out),
         Prim::Move(from, to) => push_move(from, to, out),
         Prim::Hunk(hunk) => push_hunk(hunk, out),
+        Prim::Binary(binary) => push_binary(binary, out),
+        Prim::ChangePref(change) => push_preference(change, out),
     }
 }
 
-fn push_deps<A: Allocator, B: Allocator + Copy>(
+/// Appends the canonical text of dependencies, if there are any. If an allocation fails, a part of it may have been appended.
+pub fn push_deps<A: Allocator, B: Allocator + Copy>(
     deps: &[Info<A>],
     out: &mut Vec<u8, B>,
 ) -> Result<(), AllocError>
@@ -172,6 +220,7 @@ fn push_prims<A: Allocator, B: Allocator + Copy>(
 ) -> Result<(), AllocError>
     ensures text { OnOk result (out.new.items ≡ out.old.items ++ flat_map prim_text (prims_of prims.now)) }
     ensures valid { OnOk result (AllByRecursion IsValidPrim (prims_of prims.now)) }
+    ensures bytes { OnOk result (HaveBytes (prims_of prims.now)) }
 {
     for prim in prims {
         push_prim(prim, out)?;
@@ -185,6 +234,7 @@ fn push_body<A: Allocator, B: Allocator + Copy>(
 ) -> Result<(), AllocError>
     ensures text { OnOk result (out.new.items ≡ out.old.items ++ body_text (prims_of prims.now)) }
     ensures valid { OnOk result (AllByRecursion IsValidPrim (prims_of prims.now)) }
+    ensures bytes { OnOk result (HaveBytes (prims_of prims.now)) }
 {
     if prims.len() == 1 {
         return push_prim(&prims[0], out);
@@ -218,8 +268,9 @@ pub fn push_named<A: Allocator, B: Allocator + Copy>(
     out: &mut Vec<u8, B>,
 ) -> Result<(), AllocError>
     ensures ok { OnOk result (out.new.items ≡ out.old.items ++ patch_text patch.now) }
-    // The patch is valid, so its text is read back as the same patch.
+    // The patch is valid and has bytes only, so its text is read back as the same patch.
     ensures valid { OnOk result (IsValidPatch patch.now) }
+    ensures bytes { OnOk result (HaveBytes patch.now.prims) }
 {
     push_info(patch.info(), out)?;
     push_deps(patch.deps(), out)?;
@@ -233,8 +284,9 @@ pub fn write_named<A: Allocator, B: Allocator + Copy>(
     out: &mut Vec<u8, B>,
 ) -> Result<(), AllocError>
     ensures ok { OnOk result (out.new.items ≡ out.old.items ++ patch_text patch.now) }
-    // The patch is valid, so its text is read back as the same patch.
+    // The patch is valid and has bytes only, so its text is read back as the same patch.
     ensures valid { OnOk result (IsValidPatch patch.now) }
+    ensures bytes { OnOk result (HaveBytes patch.now.prims) }
     ensures err { OnErr result (out.new.items ≡ out.old.items) }
 {
     let mut text = Vec::new(*out.allocator());

@@ -29,7 +29,7 @@ fn number_of(digits: &[u8]) -> Option<u32>
 }
 
 /// Whether all bytes are white space.
-fn is_blank(line: &[u8]) -> bool
+pub(crate) fn is_blank(line: &[u8]) -> bool
     ensures { MatchBool result (AllByRecursion (λ b. is_white b ≡ true) line.now) (AllByRecursion (λ b. is_white b ≡ true) line.now → ⊥) }
 {
     for byte in line {

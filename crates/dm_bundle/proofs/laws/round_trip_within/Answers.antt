@@ -4,4 +4,4 @@ use Rattle.dm_bundle.specs.Canonical.{bundle_text}
 use Rattle.dm_bundle.proofs.laws.round_trip_within.Goals as goal
 
 pub returns : goal.returns
-returns c = λ limits b valid few fits. (round_trip b valid, λ kind at f. no_fault limits (bundle_text b) kind at f b (round_trip b valid) fits few)
+returns c = λ limits b valid can few fits. (round_trip limits.kinds b valid can, λ kind at f. no_fault limits (bundle_text b) kind at f b (round_trip limits.kinds b valid can) fits few)

@@ -32,11 +32,11 @@ pub returns-clause-is_new : goal.returns-clause-is_new
 returns-clause-is_new g c =
     let text = c.args.text.now in
     let is_new = rw c.if-not-is_new.false at c.in-Ok.ensures.is_new in
-    let same = one_front (drop c.args.here text) c.in_ok-info.info (drop c.in_ok-info.field-0-1 text) c.in_ok-patch.patch (drop c.in_ok-patch.next text) c.in_ok-info.ensures.ok c.in_ok-patch.ensures.ok in
+    let same = one_front c.args.limits.kinds (drop c.args.here text) c.in_ok-info.info (drop c.in_ok-info.field-0-1 text) c.in_ok-patch.patch (drop c.in_ok-patch.next text) c.in_ok-info.ensures.ok c.in_ok-patch.ensures.ok in
     λ h. is_new ((c.requires.known c.in_ok-info.info).1 (rw same h))
 
 pub returns-clause-noted : goal.returns-clause-noted
 returns-clause-noted g c =
     let text = c.args.text.now in
-    let same = one_front (drop c.args.here text) c.in_ok-info.info (drop c.in_ok-info.field-0-1 text) c.in_ok-patch.patch (drop c.in_ok-patch.next text) c.in_ok-info.ensures.ok c.in_ok-patch.ensures.ok in
+    let same = one_front c.args.limits.kinds (drop c.args.here text) c.in_ok-info.info (drop c.in_ok-info.field-0-1 text) c.in_ok-patch.patch (drop c.in_ok-patch.next text) c.in_ok-info.ensures.ok c.in_ok-patch.ensures.ok in
     rw (← same) (same_more c.args.known.now c.insert.new.self (infos_of c.args.patches.now) c.in_ok-info.info c.requires.known c.in-Ok.ensures.noted)

@@ -30,7 +30,7 @@ loop-alloc-preserved g c =
       end = c.in_ok-patch.ensures.within;
       here = c.skip-here-in-loop-alloc.ensures.within;
       place = c.skip-here-in-loop-alloc.ensures.rest;
-      read = rw pushed (new_more (drop c.args.start text) ps (drop c.loop-alloc.end text) (drop c.loop-alloc.here text) p (drop c.in_ok-patch.next text) l.read l.place c.in_ok-patch.ensures.ok is_new);
+      read = rw pushed (new_more c.args.limits.kinds (drop c.args.start text) ps (drop c.loop-alloc.end text) (drop c.loop-alloc.here text) p (drop c.in_ok-patch.next text) l.read l.place c.in_ok-patch.ensures.ok is_new);
       known = rw (pushed, infos_more ps p) noted;
       few = rw pushed (few_more c.args.limits ps p l.few room c.in_ok-patch.ensures.few);
     }

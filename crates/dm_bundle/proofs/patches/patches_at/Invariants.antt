@@ -8,7 +8,7 @@ invariant-loop-alloc g l = record {
   end : l.end ≤ length l.text;
   here : l.here ≤ length l.text;
   place : drop l.here l.text ≡ skipped (drop l.end l.text);
-  read : NewPatches (drop l.start l.text) l.patches.items (drop l.end l.text);
+  read : NewPatches l.limits.kinds (drop l.start l.text) l.patches.items (drop l.end l.text);
   known : SameMembers l.known (infos_of l.patches.items);
   few : AreFewWithin l.limits l.patches.items;
 }

@@ -2,6 +2,7 @@ use Rattle.std.proofs.Common.{◌≡◌, ◌++◌, [], List, ℕ, append_assoc, 
 use Rattle.std.specs.Prelude.{codes}
 use Rattle.std.specs.List.{flat_map}
 use Rattle.dm_named.specs.Canonical.{info_line, patch_text}
+use Rattle.dm_bundle.proofs.ChosenKinds.{all_writable}
 use Rattle.dm_bundle.proofs.RoundTrips.{round_trip}
 use Rattle.dm_bundle.proofs.writing.write_bundle.Goals as goal
 
@@ -17,5 +18,8 @@ returns-clause-text g c =
 pub returns-clause-valid : goal.returns-clause-valid
 returns-clause-valid g c = record { patches = rw (← c.new_patches.ensures.value) c.in_ok-push_patches.ensures.valid; context = rw (← c.context.ensures) c.in_ok-push_context.ensures.valid; no_doubles = c.new_patches.ensures.no_doubles }
 
+pub returns-clause-bytes : goal.returns-clause-bytes
+returns-clause-bytes g c = rw (← c.new_patches.ensures.value) c.in_ok-push_patches.ensures.bytes
+
 pub returns-clause-stands : goal.returns-clause-stands
-returns-clause-stands g c = rw (returns-clause-text g c) (round_trip c.args.bundle.now (returns-clause-valid g c))
+returns-clause-stands g c = λ kinds of_kinds. rw (returns-clause-text g c) (round_trip kinds c.args.bundle.now (returns-clause-valid g c) (all_writable kinds c.args.bundle.now.patches (returns-clause-bytes g c) of_kinds))

@@ -11,3 +11,6 @@ returns-clause-valid g c = record {
 pub returns-clause-ok : goal.returns-clause-ok
 returns-clause-ok g c = rw (← c.info.ensures, ← c.deps.ensures, ← c.prims.ensures)
     (three_more c.args.out.now.items _ _ _ c.push_info.new.out.items c.push_deps.new.out.items c.push_body.new.out.items c.in_ok-push_info.ensures.ok c.in_ok-push_deps.ensures.text c.in_ok-push_body.ensures.text)
+
+pub returns-clause-bytes : goal.returns-clause-bytes
+returns-clause-bytes g c = rw (← c.prims.ensures) c.in_ok-push_body.ensures.bytes

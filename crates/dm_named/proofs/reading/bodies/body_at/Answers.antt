@@ -24,4 +24,4 @@ returns-then-is_unsupported_at-clause-err g c =
 pub returns-clause-ok : goal.returns-clause-ok
 returns-clause-ok g c =
     let text = c.args.text.now in
-    a_run (drop c.args.start text) (drop c.in_ok-prims-2.end text) (drop c.skip-next.result text) (prims_of c.in_ok-prims-2.prims.items) (rw (← c.skip-here.ensures.rest) c.if-begins_at.ensures) c.in_ok-prims-2.ensures.ok c.in_ok-prims-2.ensures.closed c.skip-next.ensures.rest c.if-is_unsupported_at.ensures.0 c.if-is_unsupported_at.ensures.1
+    a_run c.args.limits.kinds (drop c.args.start text) (drop c.in_ok-prims-2.end text) (drop c.skip-next.result text) (prims_of c.in_ok-prims-2.prims.items) (rw (← c.skip-here.ensures.rest) c.if-begins_at.ensures) c.in_ok-prims-2.ensures.ok c.in_ok-prims-2.ensures.closed c.skip-next.ensures.rest c.if-is_unsupported_at.ensures.0 c.if-is_unsupported_at.ensures.1

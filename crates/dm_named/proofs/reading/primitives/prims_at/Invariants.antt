@@ -10,7 +10,7 @@ invariant-loop-word g l =
       forward : l.start ≤ l.end;
       within : l.end ≤ length l.text;
       few : length (prims_of l.prims.items) ≤ l.limits.prims;
-      read : Many NextPrim (drop l.start l.text) (prims_of l.prims.items) (drop l.end l.text);
+      read : Many (NextPrim l.limits.kinds) (drop l.start l.text) (prims_of l.prims.items) (drop l.end l.text);
     }
 
 abbrev pub decreases-loop-word : goal.decreases-loop-word

@@ -1,7 +1,7 @@
 use Rattle.std.proofs.Common.{drop, ◌+◌, arith}
 use Rattle.dm_named.proofs.ValidParts.{plain_line}
 use Rattle.dm_named.proofs.GroupLemmas.{lines_more}
-use Rattle.dm_named.proofs.reading.hunks.lines_at.Goals as goal
+use Rattle.dm_named.proofs.reading.lines.lines_at.Goals as goal
 
 pub push_plain-requires : goal.push_plain-requires
 push_plain-requires g c = plain_line c.line_at-next.result.0.now c.line_at-next.ensures.line.free

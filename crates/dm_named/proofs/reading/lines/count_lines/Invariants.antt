@@ -1,5 +1,5 @@
 use Rattle.std.proofs.Common.{length, ◌+◌, ◌-◌, ◌≤◌}
-use Rattle.dm_named.proofs.reading.hunks.count_lines.Given as goal
+use Rattle.dm_named.proofs.reading.lines.count_lines.Given as goal
 
 abbrev pub invariant-loop-at : goal.invariant-loop-at
 invariant-loop-at l = (l.start + l.count ≤ l.at) × (l.at ≤ length l.text)

@@ -1,0 +1,264 @@
+//! Texts of binaries and of changes of preferences, worked out by hand.
+use dm_named::{Kinds, Limits, Named, ReadFault, read_named, read_named_within, write_named};
+use std::alloc::Global;
+
+/// Pairs with a binary or a change of a preference, as the other rows are.
+pub(crate) const PAIRS: &str = "\
+[a binary passes work elsewhere
+p**d] {
+binary ./f
+oldhex
+*
+newhex
+*61
+addfile ./g
+addfile ./g
+binary ./f
+oldhex
+*
+newhex
+*61
+}
+
+[a binary passes no hunk of its file
+p**d] {
+binary ./f
+oldhex
+*
+newhex
+*61
+hunk ./f 1
+-a
++b
+}
+
+[no work that adds its file passes a binary
+p**d] {
+addfile ./f
+binary ./f
+oldhex
+*
+newhex
+*61
+}
+
+[a binary goes with its file
+p**d] {
+binary ./d/f
+oldhex
+*
+newhex
+*61
+move ./d ./e
+move ./d ./e
+binary ./e/f
+oldhex
+*
+newhex
+*61
+}
+
+[values of one preference pass each other
+p**d] {
+changepref test
+a
+b
+changepref test
+b
+c
+changepref test
+b
+c
+changepref test
+a
+b
+}";
+
+/// Texts of named patches, and below the dash what is written of each.
+const READ: &str = "\
+[digits in either case in lines of any length
+p**d] binary  ./a oldhex
+newhex  
+*61
+*620A0
+*0
+-
+[digits in either case in lines of any length
+p**d] binary ./a
+oldhex
+*
+newhex
+*61620a00
+=
+[no star lines for no content
+p**d] binary ./a oldhex newhex
+-
+[no star lines for no content
+p**d] binary ./a
+oldhex
+*
+newhex
+*
+=
+[39 bytes and 40
+p**d] binary ./a
+oldhex
+*616161616161616161616161616161616161616161616161616161616161616161616161616161
+newhex
+*61616161616161616161616161616161616161616161616161616161616161616161616161616161
+-
+[39 bytes and 40
+p**d] binary ./a
+oldhex
+*616161616161616161616161616161616161616161616161616161616161616161616161616161
+*
+newhex
+*616161616161616161616161616161616161616161616161616161616161616161616161616161
+*61
+=
+[values that are empty
+p**d] changepref  test
+
+
+-
+[values that are empty
+p**d] changepref test
+
+
+=
+[a value that looks like a brace
+p**d] changepref test
+ old 
+}
+addfile ./a
+-
+[a value that looks like a brace
+p**d] {
+changepref test
+ old 
+}
+addfile ./a
+}";
+
+/// Faults, and below each the text that has it.
+const FAULTS: &str = "\
+bad-hex at byte 20
+[a
+p**d] binary ./a
+newhex
+*
+=
+bad-hex at byte 20
+[a
+p**d] binary ./a
+oldhex
+*6
+newhex
+*
+=
+bad-hex at byte 20
+[a
+p**d] binary ./a
+oldhex
+*61 
+newhex
+=
+bad-hex at byte 31
+[a
+p**d] binary ./a
+oldhex
+*61
+newhex
+*6g
+=
+bad-hex at byte 20
+[a
+p**d] binary ./a
+oldhex*61
+newhex
+=
+bad-path at byte 16
+[a
+p**d] binary ./../a
+oldhex
+newhex
+=
+bad-preference at byte 20
+[a
+p**d] changepref test x
+
+make
+=
+bad-preference at byte 20
+[a
+p**d] changepref test
+=
+bad-preference at byte 20
+[a
+p**d] changepref test
+old
+=
+bad-preference at byte 19
+[a
+p**d] changepref
+=
+unsupported at byte 9
+[a
+p**d] replace ./a [A-Za-z_0-9] old new";
+
+fn read(alloc: Global, text: &str) -> Result<(Named<Global>, usize), ReadFault> {
+    let limits = Limits::STANDARD.with_kinds(Kinds::All);
+    read_named_within(alloc, text.as_bytes(), 0, limits)
+}
+
+/// Whether the text above the dash is written as the one below.
+fn is_written(alloc: Global, row: &str) -> bool {
+    let Some((text, written)) = row.split_once("\n-\n") else {
+        return false;
+    };
+    let mut out = Vec::new(alloc);
+    match read(alloc, text) {
+        Ok((patch, _)) => {
+            write_named(&patch, &mut out).is_ok()
+                && out.strip_suffix(b"\n") == Some(written.as_bytes())
+        }
+        Err(_) => false,
+    }
+}
+
+/// Whether the text below the first line has the fault that it tells.
+fn has_fault(alloc: Global, row: &str) -> bool {
+    let Some((fault, text)) = row.split_once('\n') else {
+        return false;
+    };
+    match read(alloc, text) {
+        Ok(_) => false,
+        Err(e) => match format!(in alloc; "{e}") {
+            Ok(told) => told.as_str() == fault,
+            Err(_) => false,
+        },
+    }
+}
+
+#[test]
+fn texts_are_read_and_written(rt: HostRuntime) {
+    for row in READ.split("\n=\n") {
+        assert!(rt; is_written(rt.alloc(), row), "{row}");
+    }
+}
+
+#[test]
+fn faults_are_told_at_their_places(rt: HostRuntime) {
+    for row in FAULTS.split("\n=\n") {
+        assert!(rt; has_fault(rt.alloc(), row), "{row}");
+    }
+}
+
+#[test]
+fn six_kinds_refuse_the_wider_words(rt: HostRuntime) {
+    let text = "[a\np**d] { addfile ./a binary ./a oldhex newhex }";
+    match read_named(rt.alloc(), text.as_bytes(), 0) {
+        Ok(_) => assert!(rt; false, "six kinds"),
+        Err(e) => assert!(rt; e.at == 23, "at the word"),
+    }
+}
