@@ -21,6 +21,7 @@ pub mod AskedRows
 pub mod SiftLemmas
 pub mod SkipLemmas
 pub mod SiftedNames
+pub mod KindLemmas
 pub mod FoldLemmas
 pub mod MisfitLemmas
 pub mod ClashLemmas

@@ -3,13 +3,14 @@ use Rattle.std.specs.Prelude.{◌≡◌, ◌≢◌, ◌↔◌, ◌+◌, ℕ, Lis
 use Rattle.dm_prim.specs.InTurn.{InTurn}
 use Rattle.dm_prim.specs.Primitives.{LawfulMap}
 use Rattle.dm_named.specs.Patches.{Patch}
+use Rattle.dm_named.specs.declared.limits.Kinds.{Kinds}
 use Rattle.dm_bundle.specs.Bundles.{Contents}
 use Rattle.dm_repo.specs.Staircases.{Split, SplitStops}
 use Rattle.dm_repo.specs.Merging.{Merge, MergeStops}
 use Rattle.dm_repo.specs.Sifting.{MergesUnder}
 use Rattle.dm_repo.specs.Squares.{Placed, placed, patches, PlacedCommutes, PlacedMerges}
 use Rattle.dm_repo.specs.Folds.{PatchLeads, Fold}
-use Rattle.dm_bundle.specs.Patches.{infos_of, Distinct}
+use Rattle.dm_bundle.specs.Patches.{infos_of, Distinct, AreAllOf}
 use Rattle.dm_repo.specs.Repositories.{Repository, IsRepo}
 use Rattle.dm_repo.specs.declared.policy.Policy.{Policy}
 use Rattle.dm_repo.specs.declared.policy.Policy.TheVariants.{Refuse, Skip}
@@ -61,6 +62,11 @@ MergeStopsOnce = (rest new : List Placed) (n r : Placed) → MergeStops PlacedMe
 abbrev pub MergeIsRepo : Type 0
 MergeIsRepo = (repo : List Patch) (b : Contents) (policy : Policy) (merged : List Patch) (skipped : ℕ) →
     IsRepo repo → Distinct (infos_of b.patches) → IsMergeOf repo b policy merged skipped → IsRepo (repo ++ merged)
+
+-- what is merged has no other kinds of primitives than the new patches
+abbrev pub MergeKeepsKinds : Type 0
+MergeKeepsKinds = (kinds : Kinds) (repo : List Patch) (b : Contents) (policy : Policy) (merged : List Patch) (skipped : ℕ) →
+    AreAllOf kinds b.patches → IsMergeOf repo b policy merged skipped → AreAllOf kinds merged
 
 -- where nothing conflicts both policies say the same: what is merged where conflicts are refused is merged so where they are skipped, and nothing
 -- is skipped; and where nothing is skipped, all is merged so where they are refused

@@ -1,7 +1,7 @@
 //! Laws of the definitions alone. A call of them does nothing.
 
 ghost use Rattle.dm_repo.specs.Laws.{FoldIsOne, SplitFolds, SplitIsOne, SplitStopsOnce};
-ghost use Rattle.dm_repo.specs.Laws.{MergeApplies, MergeIsOne, MergeStopsOnce, MergeIsRepo, PoliciesAgree, EachIsMergedOrSkipped, WeighingHasOneAnswer, BothOrdersHaveOneAnswer};
+ghost use Rattle.dm_repo.specs.Laws.{MergeApplies, MergeIsOne, MergeStopsOnce, MergeIsRepo, MergeKeepsKinds, PoliciesAgree, EachIsMergedOrSkipped, WeighingHasOneAnswer, BothOrdersHaveOneAnswer};
 
 /// A list of patches makes at most one tree.
 pub fn fold()
@@ -26,6 +26,11 @@ pub fn merge()
     ensures is_repo { MergeIsRepo }
     ensures policies_agree { PoliciesAgree }
     ensures each { EachIsMergedOrSkipped }
+{}
+
+/// What is merged has no other kinds of primitives than the new patches of the bundle.
+pub fn merge_keeps_kinds()
+    ensures { MergeKeepsKinds }
 {}
 
 /// A repository, a bundle and a policy decide what weighing returns: which refusal, with its places, or that nothing is new,

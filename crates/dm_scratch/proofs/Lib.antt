@@ -4,3 +4,4 @@ pub mod CountLemmas
 pub mod KeepLemmas
 pub mod OneOutcome
 pub mod PrintLemmas
+pub mod KindLemmas

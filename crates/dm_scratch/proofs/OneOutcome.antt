@@ -62,7 +62,7 @@ pub taking_one : TakingHasOneOutcome
 taking_one limits repo text policy v w after later m n (no_memory p a) t = absurd (m p)
 taking_one limits repo text policy v w after later m n s (no_memory p a) = absurd (n p)
 taking_one limits repo text policy v w after later m n (bundle b r s) (bundle c q t) =
-    let e : b ≡ c = one_bundle text b c r.stands q.stands in
+    let e : b ≡ c = one_bundle limits.kinds text b c r.stands q.stands in
     taking_a_bundle_one repo b policy v w after later m n s (subst (λ (d : Contents). TakesBundle repo d policy w later) (sym e) t)
 taking_one limits repo text policy v w after later m n (bundle b r s) (malformed f at p a) = absurd (no_fault limits text f.kind f.at at b r.stands r.small r.few)
 taking_one limits repo text policy v w after later m n (malformed f at p a) (bundle b r s) = absurd (no_fault limits text f.kind f.at at b r.stands r.small r.few)

@@ -6,7 +6,7 @@ use Rattle.dm_named.specs.declared.fault.FaultKind.TheVariants as kind
 use Rattle.dm_named.specs.declared.fault.ReadFault.{ReadFault}
 use Rattle.dm_named.specs.Patches.{Patch}
 use Rattle.dm_bundle.specs.Patches.{AreFewWithin}
-use Rattle.dm_bundle.specs.Bundles.{Contents, BundleText}
+use Rattle.dm_bundle.specs.Bundles.{Contents, BundleTextIn}
 use Rattle.dm_bundle.specs.Faults.{FaultWithin}
 use Rattle.dm_repo.specs.declared.policy.Policy.{Policy}
 use Rattle.dm_scratch.specs.declared.verdict.Verdict.{Verdict}
@@ -16,7 +16,7 @@ pub no_err : {T E : Type 0} (x : T) (e : E) → IsErrOf (Ok x) e → ⊥
 no_err x e is = cc
 
 -- a text that was read is not too large
-pub reads : (limits : Limits) (text : List ℕ) (b : Contents) → BundleText text b → AreFewWithin limits b.patches → (limits.bytes < length text → ⊥) → ReadsWithin limits text b
+pub reads : (limits : Limits) (text : List ℕ) (b : Contents) → BundleTextIn limits.kinds text b → AreFewWithin limits b.patches → (limits.bytes < length text → ⊥) → ReadsWithin limits text b
 reads limits text b stands few small = record { stands = stands; small = omega (arith, small); few = few }
 
 pub unread_takes : (limits : Limits) (repo : List Patch) (text : List ℕ) (fault : ReadFault) (policy : Policy) (v : Verdict) (after : List Patch) → (fault.kind ≢ kind.NoMemory → FaultWithin limits text fault.kind fault.at)

@@ -4,6 +4,7 @@ use Rattle.std.specs.List.{AllByRecursion}
 use Rattle.dm_named.specs.declared.limits.Limits.{Limits}
 use Rattle.dm_named.specs.Patches.{Patch}
 use Rattle.dm_bundle.specs.Bundles.{Contents}
+use Rattle.dm_bundle.specs.Patches.{AreAllOf}
 use Rattle.dm_repo.specs.declared.policy.Policy.{Policy}
 use Rattle.dm_repo.specs.declared.policy.Policy.TheVariants.{Refuse}
 use Rattle.dm_repo.specs.declared.refusal.Refusal.TheVariants.{NoMemory}
@@ -33,3 +34,8 @@ TakingEachHasOneOutcome = (repo : List Patch) (texts : List (List ℕ)) (policy 
 -- where conflicts are refused a text is taken whole or not at all: the repository is left as it was where the verdict isn't accepted
 abbrev pub RefusingTakesAllOrNothing : Type 0
 RefusingTakesAllOrNothing = (limits : Limits) (repo : List Patch) (text : List ℕ) (v : Verdict) (after : List Patch) → (IsAccepted v → ⊥) → TakesWithin limits repo text Refuse v after → after ≡ repo
+
+-- what a text leaves has only the kinds of primitives that are read, if the repository before it has
+abbrev pub TakingKeepsKinds : Type 0
+TakingKeepsKinds = (limits : Limits) (repo : List Patch) (text : List ℕ) (policy : Policy) (v : Verdict) (after : List Patch) → AreAllOf limits.kinds repo →
+    TakesWithin limits repo text policy v after → AreAllOf limits.kinds after

@@ -1,12 +1,14 @@
 -- What taking a text does to a repository (`darcs apply --no-allow-conflicts`, where a conflict is refused).
 use Rattle.std.specs.Prelude.{◌≡◌, ◌≢◌, ◌<◌, ◌⊎◌, ℕ, List, [], ◌∷◌, ◌++◌, length}
 use Rattle.dm_named.specs.Limits.{standard}
+use Rattle.dm_named.specs.Laws.{with_kinds}
+use Rattle.dm_named.specs.declared.limits.Kinds.{Kinds}
 use Rattle.dm_named.specs.declared.limits.Limits.{Limits}
 use Rattle.dm_named.specs.declared.fault.FaultKind.TheVariants as kind
 use Rattle.dm_named.specs.declared.fault.ReadFault.{ReadFault}
 use Rattle.dm_named.specs.Patches.{Patch}
 use Rattle.dm_bundle.specs.Patches.{AreFewWithin}
-use Rattle.dm_bundle.specs.Bundles.{Contents, BundleText}
+use Rattle.dm_bundle.specs.Bundles.{Contents, BundleTextIn}
 use Rattle.dm_bundle.specs.Faults.{FaultWithin, IsWithinSizeOf}
 use Rattle.dm_repo.specs.declared.policy.Policy.{Policy}
 use Rattle.dm_repo.specs.declared.refusal.Refusal.TheVariants.{NoMemory}
@@ -14,9 +16,9 @@ use Rattle.dm_repo.specs.Weighing.{IsNothingNew, IsMergeOf, RefusesBundle}
 use Rattle.dm_scratch.specs.declared.verdict.Verdict.{Verdict}
 use Rattle.dm_scratch.specs.declared.verdict.Verdict.TheVariants.{Taken, TakenSome, NothingNew, Malformed, Refused}
 
--- the text stands for the bundle, and both are within these limits
+-- the text stands for the bundle, whose primitives are of the kinds that the limits allow, and both are within these limits
 pub record ReadsWithin (limits : Limits) (text : List ℕ) (b : Contents) : Type 0 where
-  pub stands : BundleText text b
+  pub stands : BundleTextIn limits.kinds text b
   pub small : IsWithinSizeOf limits text
   pub few : AreFewWithin limits b.patches
 
@@ -52,12 +54,23 @@ pub data TakesWithin (limits : Limits) (repo : List Patch) (text : List ℕ) (po
 abbrev pub Takes : List Patch → List ℕ → Policy → Verdict → List Patch → Type 0
 Takes repo text policy verdict after = TakesWithin standard repo text policy verdict after
 
+-- the same with these kinds of primitives
+abbrev pub TakesIn : Kinds → List Patch → List ℕ → Policy → Verdict → List Patch → Type 0
+TakesIn kinds repo text policy verdict after = TakesWithin (with_kinds standard kinds) repo text policy verdict after
+
 -- texts are taken under one policy, one after the other, each into the repository that the one before it left
 abbrev pub TakesEach : List Patch → List (List ℕ) → Policy → List Verdict → List Patch → Type 0
 TakesEach repo [] policy [] after = after ≡ repo
 TakesEach repo (text ∷ texts) policy (verdict ∷ verdicts) after =
     (next : List Patch) × Takes repo text policy verdict next × TakesEach next texts policy verdicts after
 TakesEach repo texts policy verdicts after = ⊥
+
+-- the same with these kinds of primitives
+abbrev pub TakesEachIn : Kinds → List Patch → List (List ℕ) → Policy → List Verdict → List Patch → Type 0
+TakesEachIn kinds repo [] policy [] after = after ≡ repo
+TakesEachIn kinds repo (text ∷ texts) policy (verdict ∷ verdicts) after =
+    (next : List Patch) × TakesIn kinds repo text policy verdict next × TakesEachIn kinds next texts policy verdicts after
+TakesEachIn kinds repo texts policy verdicts after = ⊥
 
 -- the repository has all of the bundle's patches then
 abbrev pub IsAccepted : Verdict → Type 0

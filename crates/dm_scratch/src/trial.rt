@@ -1,11 +1,11 @@
 //! Taking texts into a repository.
 ghost use Rattle.std.specs.Prelude.{◌≡◌, IfOk, IfErr, length, map};
-ghost use Rattle.dm_scratch.specs.Taking.{Takes, TakesBundle, TakesEach, TakesWithin};
+ghost use Rattle.dm_scratch.specs.Taking.{Takes, TakesBundle, TakesEach, TakesIn, TakesWithin};
 
 use crate::verdict::Verdict;
 use bumpalo::Bump;
-use dm_bundle::{Bundle, read_bundle, read_bundle_within};
-use dm_named::Limits;
+use dm_bundle::{Bundle, read_bundle_within};
+use dm_named::{Kinds, Limits};
 use dm_repo::{Policy, Refusal, Repo, Weighed, weigh_owned};
 use std::alloc::Allocator;
 
@@ -86,11 +86,43 @@ pub fn take<A: Allocator + Copy, P: Allocator>(
 ) -> Verdict
     ensures { Takes repo.old.patches text.now policy result repo.new.patches }
 {
+    take_in(repo, arena, text, Kinds::Six, policy)
+}
+
+/// The same of a text that may have primitives of these kinds.
+pub fn take_in<A: Allocator + Copy, P: Allocator>(
+    repo: &mut Repo<A>,
+    arena: &mut Bump<P>,
+    text: &[u8],
+    kinds: Kinds,
+    policy: Policy,
+) -> Verdict
+    ensures { TakesIn kinds repo.old.patches text.now policy result repo.new.patches }
+{
+    take_in_arena(
+        repo,
+        arena,
+        text,
+        Limits::STANDARD.with_kinds(kinds),
+        policy,
+    )
+}
+
+/// The same of a text that is read within these limits.
+fn take_in_arena<A: Allocator + Copy, P: Allocator>(
+    repo: &mut Repo<A>,
+    arena: &mut Bump<P>,
+    text: &[u8],
+    limits: Limits,
+    policy: Policy,
+) -> Verdict
+    ensures { TakesWithin limits repo.old.patches text.now policy result repo.new.patches }
+{
     if let Err(refused) = arena.reset() {
         return Verdict::from(refused);
     }
     let trial = &*arena;
-    let bundle = match read_bundle(trial, text) {
+    let bundle = match read_bundle_within(trial, text, limits) {
         Ok(bundle) => bundle,
         Err(fault) => return Verdict::unread(fault),
     };
