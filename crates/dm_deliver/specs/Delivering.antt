@@ -1,6 +1,7 @@
 -- How texts that come one after the other are delivered.
 use Rattle.std.specs.Prelude.{◌≡◌, ◌≢◌, ◌<◌, ◌^◌, ℕ, List, [], ◌∷◌, ◌++◌, length, flat_map, map}
 use Rattle.std.specs.Io.KnownBytes.{Appends}
+use Rattle.dm_named.specs.declared.limits.Kinds.{Kinds}
 use Rattle.dm_named.specs.Patches.{Patch}
 use Rattle.dm_repo.specs.declared.policy.Policy.{Policy}
 use Rattle.dm_journal.specs.declared.device.DeviceError.TheVariants.{Failed}
@@ -9,6 +10,7 @@ use Rattle.dm_journal.specs.declared.fault.WriteError.{WriteError}
 use Rattle.dm_journal.specs.Device.{LeavesOnly}
 use Rattle.dm_journal.specs.Ready.{IsFailure}
 use Rattle.dm_store.specs.declared.store.Store.{Store}
+use Rattle.dm_store.specs.Kinds.{kinds_in}
 use Rattle.dm_store.specs.Keeping.{KeepsRepo}
 use Rattle.dm_deliver.specs.declared.answers.Answer.{Answer as Reply}
 use Rattle.dm_deliver.specs.declared.hash_rule.HashRule.{HashRule}
@@ -24,7 +26,7 @@ abbrev pub lines_of : List Reply → List ℕ
 lines_of answers = flat_map answer_line answers
 
 -- the file keeps the repository that the first of the texts leave, some of them or all, which have the first of the answers
-pub record KeepsFirst (repo : List Patch) (texts : List (List ℕ)) (policy : Policy) (rule : HashRule) (answers : List Reply) (file : List ℕ) : Type 0 where
+pub record KeepsFirst (kinds : Kinds) (repo : List Patch) (texts : List (List ℕ)) (policy : Policy) (rule : HashRule) (answers : List Reply) (file : List ℕ) : Type 0 where
   pub first : List (List ℕ)
   pub others : List (List ℕ)
   pub made : List Reply
@@ -32,8 +34,8 @@ pub record KeepsFirst (repo : List Patch) (texts : List (List ℕ)) (policy : Po
   pub after : List Patch
   pub are_texts : texts ≡ first ++ others
   pub are_answers : answers ≡ made ++ to_make
-  pub takes : AnswersEach repo first policy rule made after
-  pub keeps : KeepsRepo file after
+  pub takes : AnswersEach kinds repo first policy rule made after
+  pub keeps : KeepsRepo kinds file after
 
 -- These texts came, each was answered by the repository that the one before it left, and the line of its answer written, and flushed before the next
 -- was begun. A crash at any moment of it left a file that keeps the repository after the first of them.
@@ -42,10 +44,11 @@ pub record Delivers {D : Type 0} (moment : D → ℕ) (left_since : D → ℕ �
   pub texts : List (List ℕ)
   pub answers : List Reply
   pub came : Gave texts
-  pub takes : AnswersEach old.repo.patches texts policy rule answers new.repo.patches
+  pub kinds : kinds_in new ≡ kinds_in old
+  pub takes : AnswersEach (kinds_in old) old.repo.patches texts policy rule answers new.repo.patches
   pub lines : Appends before.contents now.contents (lines_of answers)
   pub flushed : PutsEach before (map answer_line answers) now
-  pub any_moment : LeavesOnly moment left_since old.journal.device new.journal.device (KeepsFirst old.repo.patches texts policy rule answers)
+  pub any_moment : LeavesOnly moment left_since old.journal.device new.journal.device (KeepsFirst (kinds_in old) old.repo.patches texts policy rule answers)
 
 -- One text more came after those that were delivered, and isn't answered: what was done of it, and why, by the store as it was before it.
 pub record DeliversButLast {D : Type 0} (seen : D → List ℕ) (moment : D → ℕ) (left_since : D → ℕ → List ℕ → Type 0) (faults : D → ℕ) (Gave : List (List ℕ) → Type 0) (policy : Policy)
@@ -54,8 +57,9 @@ pub record DeliversButLast {D : Type 0} (seen : D → List ℕ) (moment : D → 
   pub mid : Store D
   pub written : Output
   pub delivered : Delivers moment left_since (λ texts. Gave (texts ++ last ∷ [])) policy rule old mid before written
-  pub unanswered : LeavesUnanswered error mid.repo.patches last policy rule new.repo.patches written now
-  pub any_moment : LeavesOnly moment left_since mid.journal.device new.journal.device (KeepsAnswered mid.repo.patches last policy rule)
+  pub kinds : kinds_in new ≡ kinds_in mid
+  pub unanswered : LeavesUnanswered error (kinds_in mid) mid.repo.patches last policy rule new.repo.patches written now
+  pub any_moment : LeavesOnly moment left_since mid.journal.device new.journal.device (KeepsAnswered (kinds_in mid) mid.repo.patches last policy rule)
   pub failed : error ≡ OfStore (WritingDevice Failed) → faults mid.journal.device < faults new.journal.device
   pub not_too_long : error ≡ OfStore TooLong → ⊥
   pub full : error ≡ OfStore Full → 2 ^ 62 < length (seen mid.journal.device)
@@ -68,7 +72,8 @@ pub record DeliversAllBut {D : Type 0} (moment : D → ℕ) (left_since : D → 
   pub mid : Store D
   pub delivered : Delivers moment left_since (λ texts. Gave (texts ++ last ∷ [])) policy rule old mid before now
   pub same : new.repo ≡ mid.repo
-  pub any_moment : LeavesOnly moment left_since mid.journal.device new.journal.device (λ file. KeepsRepo file mid.repo.patches)
+  pub kinds : kinds_in new ≡ kinds_in mid
+  pub any_moment : LeavesOnly moment left_since mid.journal.device new.journal.device (λ file. KeepsRepo (kinds_in mid) file mid.repo.patches)
   pub failed : IsFailure error → faults mid.journal.device < faults new.journal.device
   pub kind : (error ≢ TooLong) × (error ≢ Full)
 
@@ -86,5 +91,5 @@ EndsStore (Checkpoint why) = Unit {0}
 EndsStore (Answer why) = IsOfStore why
 
 -- texts came, and the file keeps the repository that the first of them leave, some or all
-abbrev pub KeepsSome : (List (List ℕ) → Type 0) → List Patch → Policy → HashRule → List ℕ → Type 0
-KeepsSome Gave repo policy rule file = (texts : List (List ℕ)) × (answers : List Reply) × Gave texts × KeepsFirst repo texts policy rule answers file
+abbrev pub KeepsSome : (List (List ℕ) → Type 0) → Kinds → List Patch → Policy → HashRule → List ℕ → Type 0
+KeepsSome Gave kinds repo policy rule file = (texts : List (List ℕ)) × (answers : List Reply) × Gave texts × KeepsFirst kinds repo texts policy rule answers file

@@ -1,7 +1,7 @@
 -- What a rule asks of the hash with which a bundle may end.
 use Rattle.std.specs.Prelude.{◌≡◌, ◌⊎◌, ℕ, List, drop, codes}
 use Rattle.memchr.specs.Find.{OccursAt}
-use Rattle.dm_bundle.specs.Bundles.{Contents, EndsAt}
+use Rattle.dm_bundle.specs.Bundles.{Contents, EndsAtIn}
 use Rattle.dm_named.specs.declared.limits.Limits.{Limits}
 use Rattle.dm_named.specs.Limits.{standard}
 use Rattle.dm_scratch.specs.Taking.{ReadsWithin}
@@ -33,7 +33,7 @@ RefusesTrailer Right IsRight kind = ⊥
 pub record HasTrailer (limits : Limits) (text : List ℕ) (trailer : Trailer) (at : ℕ) : Type 0 where
   pub bundle : Contents
   pub reads : ReadsWithin limits text bundle
-  pub ends : EndsAt text bundle (drop at text)
+  pub ends : EndsAtIn limits.kinds text bundle (drop at text)
   pub says : TrailerSays bundle.patches (drop at text) trailer
 
 -- the text is a bundle within the limits whose trailer the rule refuses, for this reason and at this place

@@ -1,9 +1,10 @@
 -- What holds of all texts that are answered.
 use Rattle.std.specs.Prelude.{ℕ, List, [], ◌∷◌}
+use Rattle.dm_named.specs.declared.limits.Kinds.{Kinds}
 use Rattle.dm_named.specs.Patches.{Patch}
 use Rattle.dm_repo.specs.declared.policy.Policy.{Policy}
 use Rattle.dm_scratch.specs.declared.verdict.Verdict.{Verdict as Judged}
-use Rattle.dm_scratch.specs.Taking.{TakesEach}
+use Rattle.dm_scratch.specs.Taking.{TakesEachIn}
 use Rattle.dm_deliver.specs.declared.answers.Answer.{Answer}
 use Rattle.dm_deliver.specs.declared.answers.Answer.TheVariants.{Verdict, Hash}
 use Rattle.dm_deliver.specs.declared.hash_rule.HashRule.{HashRule}
@@ -24,5 +25,5 @@ verdicts_of (Hash fault ∷ answers) = verdicts_of answers
 
 -- texts that are answered leave what those of them leave, taken in turn, that were answered by a verdict
 abbrev pub AnswersFold : Type 0
-AnswersFold = (repo : List Patch) (texts : List (List ℕ)) (policy : Policy) (rule : HashRule) (answers : List Answer) (after : List Patch) →
-    AnswersEach repo texts policy rule answers after → TakesEach repo (judged_texts texts answers) policy (verdicts_of answers) after
+AnswersFold = (kinds : Kinds) (repo : List Patch) (texts : List (List ℕ)) (policy : Policy) (rule : HashRule) (answers : List Answer) (after : List Patch) →
+    AnswersEach kinds repo texts policy rule answers after → TakesEachIn kinds repo (judged_texts texts answers) policy (verdicts_of answers) after

@@ -4,6 +4,7 @@ ghost use Rattle.dm_journal.specs.declared.device.DeviceError.TheVariants.{Faile
 ghost use Rattle.dm_journal.specs.declared.fault.WriteError.TheVariants.{Device as WritingDevice, TooLong, Full};
 ghost use Rattle.dm_journal.specs.Device.{LeavesOnly};
 ghost use Rattle.dm_journal.specs.Ready.{IsBeside, IsFailure};
+ghost use Rattle.dm_store.specs.Kinds.{kinds_in};
 ghost use Rattle.dm_store.specs.Keeping.{CrashesKeep, IsStored, KeepsRepo};
 ghost use Rattle.dm_deliver.specs.declared.answers.Answer.{Answer as Reply};
 ghost use Rattle.dm_deliver.specs.declared.fault.AnswerError.TheVariants.{Store as OfStore, NoMemory as NoRoom, Write as Unwritten};
@@ -13,12 +14,13 @@ ghost use Rattle.dm_deliver.specs.Outputs.{output, Puts};
 
 use crate::answers::{Answer, push_answer};
 use crate::fault::{AnswerError, DeliverError};
-use crate::hash_rule::{HashRule, hash_fault};
+use crate::hash_rule::{HashRule, hash_fault_within};
 use crate::line::write_line;
 use crate::observer::Observer;
 use crate::source::Source;
 use crate::watched::Watched;
 use dm_journal::{Device, WriteError};
+use dm_named::Limits;
 use dm_repo::{Policy, Refusal};
 use dm_scratch::Verdict;
 use dm_store::Store;
@@ -35,23 +37,25 @@ fn take_text<D: Device>(
 ) -> Result<Answer, AnswerError>
     requires { IsStored D.seen D.may_leave D.file_may_leave store.old }
 
-    ensures answers { IfOk result (λ answer. Answers store.old.repo.patches text.now policy rule answer store.new.repo.patches) }
+    ensures answers { IfOk result (λ answer. Answers (kinds_in store.old) store.old.repo.patches text.now policy rule answer store.new.repo.patches) }
     ensures no_memory { IfErr result (λ e. e ≡ NoRoom
-        → (store.new.repo.patches ≡ store.old.repo.patches) ⊎ ((answer : Reply) × Answers store.old.repo.patches text.now policy rule answer store.new.repo.patches)) }
+        → (store.new.repo.patches ≡ store.old.repo.patches) ⊎ ((answer : Reply) × Answers (kinds_in store.old) store.old.repo.patches text.now policy rule answer store.new.repo.patches)) }
     ensures only { IfErr result (λ e. e ≢ Unwritten) }
+    ensures kinds { kinds_in store.new ≡ kinds_in store.old }
     ensures stored { OnOk result (IsStored D.seen D.may_leave D.file_may_leave store.new) }
     ensures stored_err { IfErr result (λ e. ¬ IsOfStore e → IsStored D.seen D.may_leave D.file_may_leave store.new) }
-    ensures kept { OnOk result (CrashesKeep D.may_leave store.new.journal.device store.new.repo.patches) }
-    ensures kept_err { IfErr result (λ e. ¬ IsOfStore e → CrashesKeep D.may_leave store.new.journal.device store.new.repo.patches) }
+    ensures kept { OnOk result (CrashesKeep (kinds_in store.new) D.may_leave store.new.journal.device store.new.repo.patches) }
+    ensures kept_err { IfErr result (λ e. ¬ IsOfStore e → CrashesKeep (kinds_in store.new) D.may_leave store.new.journal.device store.new.repo.patches) }
     ensures any_moment { LeavesOnly D.moment D.left_since store.old.journal.device store.new.journal.device
-        (KeepsAnswered store.old.repo.patches text.now policy rule) }
+        (KeepsAnswered (kinds_in store.old) store.old.repo.patches text.now policy rule) }
     ensures either { OnOk result (LeavesOnly D.moment D.left_since store.old.journal.device store.new.journal.device
-        (KeepsEither store.old.repo.patches store.new.repo.patches)) }
+        (KeepsEither (kinds_in store.old) store.old.repo.patches store.new.repo.patches)) }
     ensures failed { IfErr result (λ e. e ≡ OfStore (WritingDevice Failed) → D.faults store.old.journal.device < D.faults store.new.journal.device) }
     ensures not_too_long { IfErr result (λ e. e ≡ OfStore TooLong → ⊥) }
     ensures full { IfErr result (λ e. e ≡ OfStore Full → 2 ^ 62 < length (D.seen store.old.journal.device)) }
 {
-    if let Some(fault) = hash_fault(alloc, text, rule)? {
+    let limits = Limits::STANDARD.with_kinds(store.kinds());
+    if let Some(fault) = hash_fault_within(alloc, text, limits, rule)? {
         return Ok(Answer::Hash(fault));
     }
     let verdict = store.take(alloc, text, policy)?;
@@ -77,23 +81,24 @@ pub fn answer<D: Device, W: Write>(
 ) -> Result<Answer, AnswerError>
     requires { IsStored D.seen D.may_leave D.file_may_leave store.old }
 
-    ensures answers { IfOk result (λ answer. Answers store.old.repo.patches text.now policy rule answer store.new.repo.patches) }
+    ensures answers { IfOk result (λ answer. Answers (kinds_in store.old) store.old.repo.patches text.now policy rule answer store.new.repo.patches) }
 
     // The line is written, and then flushed. There is no answer only for a cause: `Write` where a call of the writer failed.
     ensures line { IfOk result (λ answer. Puts (output W.contents writer.old) (output W.contents writer.new) (answer_line answer)) }
-    ensures unanswered { IfErr result (λ e. LeavesUnanswered e store.old.repo.patches text.now policy rule store.new.repo.patches
+    ensures unanswered { IfErr result (λ e. LeavesUnanswered e (kinds_in store.old) store.old.repo.patches text.now policy rule store.new.repo.patches
         (output W.contents writer.old) (output W.contents writer.new)) }
 
+    ensures kinds { kinds_in store.new ≡ kinds_in store.old }
     ensures stored { OnOk result (IsStored D.seen D.may_leave D.file_may_leave store.new) }
     ensures stored_err { IfErr result (λ e. ¬ IsOfStore e → IsStored D.seen D.may_leave D.file_may_leave store.new) }
-    ensures kept { OnOk result (CrashesKeep D.may_leave store.new.journal.device store.new.repo.patches) }
-    ensures kept_err { IfErr result (λ e. ¬ IsOfStore e → CrashesKeep D.may_leave store.new.journal.device store.new.repo.patches) }
+    ensures kept { OnOk result (CrashesKeep (kinds_in store.new) D.may_leave store.new.journal.device store.new.repo.patches) }
+    ensures kept_err { IfErr result (λ e. ¬ IsOfStore e → CrashesKeep (kinds_in store.new) D.may_leave store.new.journal.device store.new.repo.patches) }
 
     // A crash at any moment of the call leaves a file that keeps the repository from before it, or the one that the text leaves.
     ensures any_moment { LeavesOnly D.moment D.left_since store.old.journal.device store.new.journal.device
-        (KeepsAnswered store.old.repo.patches text.now policy rule) }
+        (KeepsAnswered (kinds_in store.old) store.old.repo.patches text.now policy rule) }
     ensures either { OnOk result (LeavesOnly D.moment D.left_since store.old.journal.device store.new.journal.device
-        (KeepsEither store.old.repo.patches store.new.repo.patches)) }
+        (KeepsEither (kinds_in store.old) store.old.repo.patches store.new.repo.patches)) }
 
     // It doesn't give up by itself.
     ensures failed { IfErr result (λ e. e ≡ OfStore (WritingDevice Failed) → D.faults store.old.journal.device < D.faults store.new.journal.device) }
@@ -112,8 +117,9 @@ pub fn answer<D: Device, W: Write>(
 fn settle<D: Device>(alloc: Global, store: &mut Store<D>, may: bool) -> Result<bool, WriteError>
     requires { IsStored D.seen D.may_leave D.file_may_leave store.old }
     ensures same { store.new.repo ≡ store.old.repo }
+    ensures kinds { kinds_in store.new ≡ kinds_in store.old }
     ensures stored { OnOk result (IsStored D.seen D.may_leave D.file_may_leave store.new) }
-    ensures any_moment { LeavesOnly D.moment D.left_since store.old.journal.device store.new.journal.device (λ file. KeepsRepo file store.old.repo.patches) }
+    ensures any_moment { LeavesOnly D.moment D.left_since store.old.journal.device store.new.journal.device (λ file. KeepsRepo (kinds_in store.old) file store.old.repo.patches) }
     ensures failed { IfErr result (λ e. IsFailure e → D.faults store.old.journal.device < D.faults store.new.journal.device) }
     ensures kind { IfErr result (λ e. (¬ IsBeside e) × ((e ≢ TooLong) × (e ≢ Full))) }
 {
@@ -156,14 +162,15 @@ pub fn deliver<D: Device, S: Source, O: Observer, W: Write>(
         rule e store.old store.new (output W.contents writer.old) (output W.contents writer.new)) }
 
     // Each crash from now on leaves a file that keeps what was taken.
+    ensures kinds { kinds_in store.new ≡ kinds_in store.old }
     ensures stored { OnOk result (IsStored D.seen D.may_leave D.file_may_leave store.new) }
     ensures stored_err { IfErr result (λ e. ¬ EndsStore e → IsStored D.seen D.may_leave D.file_may_leave store.new) }
-    ensures kept { OnOk result (CrashesKeep D.may_leave store.new.journal.device store.new.repo.patches) }
-    ensures kept_err { IfErr result (λ e. ¬ EndsStore e → CrashesKeep D.may_leave store.new.journal.device store.new.repo.patches) }
+    ensures kept { OnOk result (CrashesKeep (kinds_in store.new) D.may_leave store.new.journal.device store.new.repo.patches) }
+    ensures kept_err { IfErr result (λ e. ¬ EndsStore e → CrashesKeep (kinds_in store.new) D.may_leave store.new.journal.device store.new.repo.patches) }
 
     // A crash at any moment of the call leaves a file that keeps the repository after the first of the texts, some or all.
     ensures any_moment { LeavesOnly D.moment D.left_since store.old.journal.device store.new.journal.device
-        (KeepsSome (λ texts. S.gave source.old texts source.new) store.old.repo.patches policy rule) }
+        (KeepsSome (λ texts. S.gave source.old texts source.new) (kinds_in store.old) store.old.repo.patches policy rule) }
 {
     let mut all_accepted = true;
     let mut may_settle = true;

@@ -1,7 +1,7 @@
 //! Journals in files, and files that are refused.
 use crate::asking::texts_in;
 use dm_disk::{Access, DiskFile, Lock, OpenFault};
-use dm_journal::Journal;
+use dm_journal::{Format, Journal};
 use std::fs;
 use std::os::unix::fs::{MetadataExt, PermissionsExt, symlink};
 use std::test::Fail;
@@ -18,7 +18,7 @@ fn makes(rt: &HostRuntime) -> bool {
     if !file.is_empty() {
         return false;
     }
-    let Ok(mut journal) = Journal::create(rt.alloc(), file, &[]) else {
+    let Ok(mut journal) = Journal::create(rt.alloc(), file, Format::Second, &[]) else {
         return false;
     };
     journal.append(rt.alloc(), b"one").is_ok()
@@ -159,7 +159,7 @@ fn misses_its_name(rt: &HostRuntime) -> bool {
     let Ok(file) = DiskFile::open(rt, LOCKED, Access::Write, Lock::Try) else {
         return false;
     };
-    let Ok(mut journal) = Journal::create(rt.alloc(), file, &[]) else {
+    let Ok(mut journal) = Journal::create(rt.alloc(), file, Format::Second, &[]) else {
         return false;
     };
     if fs::remove_file(rt, LOCKED).is_err() {

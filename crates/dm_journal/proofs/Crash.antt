@@ -1,11 +1,11 @@
 -- What a crash leaves in each of the two writes of an append.
-use Rattle.std.proofs.Common.{◌≡◌, ◌≢◌, inl, inr, ℕ, ◌+◌, ◌-◌, ◌<◌, ◌≤◌, ◌^◌, List, [], ◌∷◌, ◌++◌, length, get_or, take, drop, refl, sym, ◌∙◌, ap, subst, arith, append_assoc, length-append, take-append-drop}
+use Rattle.std.proofs.Common.{◌≡◌, ◌≢◌, inl, inr, ℕ, ◌+◌, ◌-◌, ◌<◌, ◌≤◌, ◌^◌, List, [], ◌∷◌, ◌++◌, length, Option, get_or, take, drop, refl, sym, ◌∙◌, ap, subst, arith, append_assoc, length-append, take-append-drop}
 use Rattle.std.proofs.lemmas.List.{append-nil, take_at, take-take, drop_at, drop_more, drop_all, length-take-le}
 use Rattle.std.proofs.lemmas.Bool.{cases_eq}
 use Rattle.dm_journal.specs.declared.format.Format.{Format}
 use Rattle.dm_journal.specs.Format.{unit, filled}
 use Rattle.dm_journal.specs.Device.{Holds, Torn, IsDurable, IsSameBefore}
-use Rattle.dm_journal.specs.Journal.{checksum_of, next_link, link_after, link_bytes, IsGate, IsNext, Begins, StandsFor, IsZeros}
+use Rattle.dm_journal.specs.Journal.{checksum_of, next_link, link_after, link_bytes, IsNext, Begins, StandsIn, IsZeros}
 use Rattle.dm_journal.specs.Reading.{EndsSo, staged}
 use Rattle.dm_journal.specs.Ready.{HasTexts, StandsWithOrWithout}
 use Rattle.dm_journal.specs.declared.journal.Journal.{Journal}
@@ -82,9 +82,9 @@ module _ {D : Type 0} (seen : D → List ℕ) (may_leave file_may_leave : D → 
   fronts =
       let file = seen journal.device in
       let format = journal.end.format in
-      let rest = has.begins.1 in
-      let begins = subst (λ (f : Format). Begins f file texts rest) has.end.format has.begins.2 in
-      let gate = subst (λ (f : Format). IsGate f 0 has.rest rest) has.end.format has.begins.3 in
+      let rest = has.begins.0 in
+      let begins = has.begins.1 in
+      let gate = has.begins.2 in
       let f = file_front format file texts rest begins in
       record {
         front = f.0;
@@ -107,14 +107,14 @@ module _ {D : Type 0} (seen : D → List ℕ) (may_leave file_may_leave : D → 
       torn_front journal.end.gate journal.end.gate 1 mid c (omega arith) torn ∙ held_front journal.end.gate b bytes (seen journal.device) mid (omega (arith, at)) within holds
 
   -- the texts as they were
-  without : (f : Fronts) (r c : List ℕ) → c ≡ (f.front ++ 0 ∷ f.fill) ++ r → StandsFor c texts
+  without : (f : Fronts) (r c : List ℕ) → c ≡ (f.front ++ 0 ∷ f.fill) ++ r → StandsIn journal.end.format c texts
   without f r c is =
       let rest : List ℕ = 0 ∷ (f.fill ++ r) in
       let is' : c ≡ f.front ++ rest = is ∙ append_assoc f.front (0 ∷ f.fill) r in
-      (r, (journal.end.format, rest, subst (λ (l : List ℕ). Begins journal.end.format l texts rest) (sym is') (f.moves rest), record { fill = f.fill; filled = f.filled; is = refl }))
+      (r, (rest, subst (λ (l : List ℕ). Begins journal.end.format l texts rest) (sym is') (f.moves rest), record { fill = f.fill; filled = f.filled; is = refl }))
 
   -- each outcome of the first write stands for the texts as they were
-  pub first_leaves : (text : List ℕ) (n : ℕ) (c : List ℕ) → Torn b n (seen journal.device) c → StandsWithOrWithout texts text c
+  pub first_leaves : (text : List ℕ) (n : ℕ) (c : List ℕ) → Torn b n (seen journal.device) c → StandsWithOrWithout journal.end.format texts text c
   first_leaves text n c torn =
       let f = fronts in
       let torn' = subst (λ l. Torn b n l c) f.is torn in
@@ -156,35 +156,33 @@ module _ (format : Format) (texts : List (List ℕ)) (text : List ℕ) (gate : �
   with_text c g is_open is = subst (λ (l : List ℕ). Begins format l (texts ++ text ∷ []) s.stage.closing) (sym is) (opened g is_open)
 
   -- each outcome of the second write has the text or not
-  pub second_leaves : (c : List ℕ) → Torn gate 1 file c → StandsWithOrWithout texts text c
+  pub second_leaves : (c : List ℕ) → Torn gate 1 file c → StandsWithOrWithout format texts text c
   second_leaves c torn =
       let torn' = subst (λ l. Torn gate 1 l c) s.is torn in
       let is = torn_gate s.front (s.fill ++ bytes) gate s.size c torn' in
       elim (cases_eq (get_or c gate 0) 0) [
         | inl closed ↦ inl (closed_still c (is ∙ ap (λ (g : ℕ). s.front ++ g ∷ (s.fill ++ bytes)) closed))
-        | inr is_open ↦ inr (s.stage.behind, (format, s.stage.closing, with_text c (get_or c gate 0) is_open is, s.stage.closed))
+        | inr is_open ↦ inr (s.stage.behind, (s.stage.closing, with_text c (get_or c gate 0) is_open is, s.stage.closed))
       ]
     where
-      closed_still : (c : List ℕ) → c ≡ s.front ++ 0 ∷ (s.fill ++ bytes) → StandsFor c texts
+      closed_still : (c : List ℕ) → c ≡ s.front ++ 0 ∷ (s.fill ++ bytes) → StandsIn format c texts
       closed_still c is =
           let rest : List ℕ = 0 ∷ (s.fill ++ bytes) in
-          (bytes, (format, rest, subst (λ (l : List ℕ). Begins format l texts rest) (sym is) (s.moves rest), record { fill = s.fill; filled = s.filled; is = refl }))
+          (bytes, (rest, subst (λ (l : List ℕ). Begins format l texts rest) (sym is) (s.moves rest), record { fill = s.fill; filled = s.filled; is = refl }))
 
   -- and when it is done, it has the text
-  pub acknowledged : {D : Type 0} (seen : D → List ℕ) (may_leave file_may_leave : D → List ℕ → Type 0) (journal : Journal D) → Holds file gate (255 ∷ []) (seen journal.device) → IsDurable seen may_leave file_may_leave journal.device → journal.end.format ≡ format → link_bytes journal.end.link ≡ next_link format (checksum_of (link_after format [] texts) text) → journal.end.gate ≡ gate + unit format + filled format (40 + length text) → journal.end.size ≡ gate + unit format + length bytes → HasTexts seen may_leave file_may_leave journal (texts ++ text ∷ [])
-  acknowledged seen may_leave file_may_leave journal holds only formats links moved grown =
-      let is = written_gate s.front (s.fill ++ bytes) gate s.size (seen journal.device) (subst (λ l. Holds l gate (255 ∷ []) (seen journal.device)) s.is holds) in
-      let all : length (seen journal.device) ≡ gate + unit format + length bytes = omega (arith, ap length is, s.size, s.filled, length-append s.front (255 ∷ (s.fill ++ bytes)), length-append s.fill bytes) in
+  pub acknowledged : (new : List ℕ) (link : Option (List ℕ)) (place size : ℕ) → Holds file gate (255 ∷ []) new → link_bytes link ≡ next_link format (checksum_of (link_after format [] texts) text) → place ≡ gate + unit format + filled format (40 + length text) → size ≡ gate + unit format + length bytes → EndsSo new (texts ++ text ∷ []) (record { format = format; link = link; gate = place; size = size })
+  acknowledged new link place size holds links moved grown =
+      let is = written_gate s.front (s.fill ++ bytes) gate s.size new (subst (λ l. Holds l gate (255 ∷ []) new) s.is holds) in
+      let all : length new ≡ gate + unit format + length bytes = omega (arith, ap length is, s.size, s.filled, length-append s.front (255 ∷ (s.fill ++ bytes)), length-append s.fill bytes) in
       record {
-        rest = s.stage.behind;
-        begins = (format, s.stage.closing, with_text (seen journal.device) 255 (omega arith) is, s.stage.closed);
-        end = record {
-          format = sym formats;
-          link = links ∙ link_push format [] texts text ∙ ap (λ (f : Format). link_after f [] (texts ++ text ∷ [])) (sym formats);
+        behind = s.stage.behind;
+        closes = (s.stage.closing, with_text new 255 (omega arith) is, s.stage.closed);
+        is = record {
+          link = links ∙ link_push format [] texts text;
           place = omega (arith, moved, all, s.stage.long);
           size = omega (arith, grown, all);
         };
-        durable = only;
       }
 
   -- with zeros from the closed gate on

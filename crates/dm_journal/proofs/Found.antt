@@ -9,7 +9,7 @@ use Rattle.std.specs.List.{starts_with}
 use Rattle.std.proofs.lemmas.Bool.{false≢true}
 use Rattle.std.proofs.lemmas.Bool.Decides.{Decides-eqb}
 use Rattle.std.proofs.lemmas.Slice.Eq.{starts_is}
-use Rattle.dm_journal.specs.declared.format.Format.TheVariants.{First, Second}
+use Rattle.dm_journal.specs.declared.format.Format.TheVariants.{First, Second, Third}
 use Rattle.dm_journal.specs.Faults.{HasOtherChecksum, EndsInHeader, BeginsWith}
 use Rattle.dm_journal.specs.Hidden.{AreTwoBlocks}
 use Rattle.dm_journal.specs.Reading.{IsHeaded, IsWhole, StandsBehind, StandsAt}
@@ -27,9 +27,10 @@ begins_so s p r is so = (drop (length p) s, (starts_is Decides-eqb s p r is).0 s
 pub begins_otherwise : (s p : List ℕ) (r : Bool) → r ≡ starts_with nat_eq s p → r ≡ false → BeginsWith p s → ⊥
 begins_otherwise s p r is not w = absurd (false≢true (sym not ∙ (starts_is Decides-eqb s p r is).1 w.0 w.1))
 
-pub of_none : (file : List ℕ) → (BeginsWith (line First) file → ⊥) → (BeginsWith (line Second) file → ⊥) → (format : Format) → BeginsWith (line format) file → ⊥
-of_none file first second First = first
-of_none file first second Second = second
+pub of_none : (file : List ℕ) → (BeginsWith (line First) file → ⊥) → (BeginsWith (line Second) file → ⊥) → (BeginsWith (line Third) file → ⊥) → (format : Format) → BeginsWith (line format) file → ⊥
+of_none file first second third First = first
+of_none file first second third Second = second
+of_none file first second third Third = third
 
 pub cut_header : (format : Format) (file : List ℕ) (at : ℕ) → at ≡ filled format 13 → length file < at → BeginsWith (line format) file → EndsInHeader file at
 cut_header format file at is ends w =

@@ -4,7 +4,7 @@ use Rattle.std.proofs.Math.ListN.{replicate}
 use Rattle.std.proofs.lemmas.List.{append-nil, map-append, take_more, length-replicate, replicate-append-replicate}
 use Rattle.dm_journal.specs.declared.format.Format.{Format}
 use Rattle.dm_journal.specs.Format.{line, unit, filling, filled}
-use Rattle.dm_journal.specs.Journal.{block, checksum_of, next_link, link_after, IsGate, IsBlock, IsNext, Begins, StandsFor, link_bytes}
+use Rattle.dm_journal.specs.Journal.{block, checksum_of, next_link, link_after, IsGate, IsBlock, IsNext, Begins, StandsIn, link_bytes}
 use Rattle.dm_journal.specs.Reading.{staged, IsPushed, IsReading, IsWholeFile, EndsSo}
 use Rattle.dm_journal.specs.Texts.{ranges_of}
 use Rattle.dm_journal.specs.declared.reading.Reading.{Reading}
@@ -91,8 +91,8 @@ begins_long format file texts rest b = let f = file_front format file texts rest
 pub ends_so : (file : List ℕ) (reading : Reading) (size : ℕ) → IsReading file reading → size ≡ length file → EndsSo file (ranges_of file reading.ranges.items) (record { format = reading.format; link = reading.link; gate = reading.gate; size = size })
 ends_so file reading size r is = record {
   behind = r.behind;
-  closes = (reading.format, r.rest, r.begins, r.closed);
-  is = record { format = refl; link = r.link; place = r.place; size = is };
+  closes = (r.rest, r.begins, r.closed);
+  is = record { link = r.link; place = r.place; size = is };
 }
 
 -- how a file ends that is made
@@ -103,9 +103,9 @@ has_gate format file texts link w =
 pub made_so : (format : Format) (file : List ℕ) (texts : List (List ℕ)) (link : Option (List ℕ)) (gate size : ℕ) → IsWholeFile format file texts (link_bytes link) → gate + unit format ≡ length file → size ≡ length file → EndsSo file texts (record { format = format; link = link; gate = gate; size = size })
 made_so format file texts link gate size w place is = record {
   behind = [];
-  closes = (format, w.rest, w.begins, w.closed);
-  is = record { format = refl; link = w.is; place = omega (arith, place, w.closed.filled, ap length w.closed.is, length-append w.closed.fill []); size = is };
+  closes = (w.rest, w.begins, w.closed);
+  is = record { link = w.is; place = omega (arith, place, w.closed.filled, ap length w.closed.is, length-append w.closed.fill []); size = is };
 }
 
-pub stands_so : (format : Format) (file : List ℕ) (texts : List (List ℕ)) (link : List ℕ) → IsWholeFile format file texts link → StandsFor file texts
-stands_so format file texts link w = ([], (format, w.rest, w.begins, w.closed))
+pub stands_so : (format : Format) (file : List ℕ) (texts : List (List ℕ)) (link : List ℕ) → IsWholeFile format file texts link → StandsIn format file texts
+stands_so format file texts link w = ([], (w.rest, w.begins, w.closed))

@@ -4,7 +4,7 @@ use Rattle.std.specs.Int.{w64, to_le_bytes}
 use Rattle.std.proofs.lemmas.List.{take_at}
 use Rattle.sha2.proofs.Facts256.{length-sha256}
 use Rattle.dm_journal.specs.declared.format.Format.{Format}
-use Rattle.dm_journal.specs.declared.format.Format.TheVariants.{First, Second}
+use Rattle.dm_journal.specs.declared.format.Format.TheVariants.{First, Second, Third}
 use Rattle.dm_journal.specs.Format.{family, line, filling}
 use Rattle.dm_journal.specs.Journal.{block, checksum_of, next_link, link_after, IsGate, IsBlock, IsNext, AreBlocks, Begins}
 use Rattle.dm_journal.specs.Faults.{IsShort, EndsEarly, HasOtherChecksum, IsDamaged, BeginsWith}
@@ -31,18 +31,25 @@ pub in_family : (format : Format) (more : List ℕ) → BeginsWith family (line 
 unfolding line
 in_family First more = (49 ∷ 10 ∷ more, refl)
 in_family Second more = (50 ∷ 10 ∷ more, refl)
+in_family Third more = (52 ∷ 10 ∷ more, refl)
 
 pub length-line : (format : Format) → length (line format) ≡ 13
 unfolding line
 length-line First = refl
 length-line Second = refl
+length-line Third = refl
 
 pub one_line : (f g : Format) (m n : List ℕ) → line f ++ m ≡ line g ++ n → f ≡ g
 unfolding line
 one_line First First m n same = refl
 one_line First Second m n same = let h : 49 ≡ 50 = ap (λ (l : List ℕ). get_or l 11 0) same in absurd (omega (arith, h))
+one_line First Third m n same = let h : 49 ≡ 52 = ap (λ (l : List ℕ). get_or l 11 0) same in absurd (omega (arith, h))
 one_line Second First m n same = let h : 50 ≡ 49 = ap (λ (l : List ℕ). get_or l 11 0) same in absurd (omega (arith, h))
 one_line Second Second m n same = refl
+one_line Second Third m n same = let h : 50 ≡ 52 = ap (λ (l : List ℕ). get_or l 11 0) same in absurd (omega (arith, h))
+one_line Third First m n same = let h : 52 ≡ 49 = ap (λ (l : List ℕ). get_or l 11 0) same in absurd (omega (arith, h))
+one_line Third Second m n same = let h : 52 ≡ 50 = ap (λ (l : List ℕ). get_or l 11 0) same in absurd (omega (arith, h))
+one_line Third Third m n same = refl
 
 module _ (format : Format) where
   pub same_gate : (g h : ℕ) (a b bytes : List ℕ) → IsGate format g a bytes → IsGate format h b bytes → (g ≡ h) × (a ≡ b)

@@ -5,16 +5,19 @@ use Rattle.dm_journal.specs.Format.{family, line, filling}
 use Rattle.dm_journal.specs.Journal.{IsGate, Begins, link_after}
 use Rattle.dm_journal.specs.Faults.{EndsEarly, IsDamaged, StopsAt, EndsInHeader, BeginsWith, HasFault}
 use Rattle.dm_journal.specs.Hidden.{AreTwoBlocks, Hides}
-use Rattle.dm_journal.specs.Laws.{StandsForOneList, JournalsHaveNoFault, FilesHaveOneFault}
+use Rattle.dm_journal.specs.Laws.{StandsForOneList, FilesHaveOneFormat, JournalsHaveNoFault, FilesHaveOneFault}
 use Rattle.dm_journal.specs.declared.fault.Fault.TheVariants.{NotAJournal, Unknown, Cut, Damaged}
-use Rattle.dm_journal.proofs.Once.{in_family, one_line, HasNone, closed_has_none, early_has_none, damaged_has_none, closed_is_not_early, closed_is_not_damaged, early_is_not_damaged, same_gate, files_end_alike}
+use Rattle.dm_journal.proofs.Once.{in_family, one_line, HasNone, closed_has_none, early_has_none, damaged_has_none, closed_is_not_early, closed_is_not_damaged, early_is_not_damaged, same_gate, one_format, files_end_alike}
 
 closes_alike : (file : List ℕ) (f g : Format) (a b : List (List ℕ)) (r s m n : List ℕ) → Begins f file a r → IsGate f 0 m r → Begins g file b s → IsGate g 0 n s → (f ≡ g) × (a ≡ b) × (r ≡ s)
 closes_alike file f g a b r s m n p closed q closed' =
     files_end_alike f g file a b r s (closed_has_none f (link_after f [] a) m r closed) (closed_has_none g (link_after g [] b) n s closed') p q
 
 pub one_list : StandsForOneList
-one_list file a b p q = (closes_alike file p.1.0 q.1.0 a b p.1.1 q.1.1 p.0 q.0 p.1.2 p.1.3 q.1.2 q.1.3).1
+one_list file a b p q = (closes_alike file p.0 q.0 a b p.1.1.0 q.1.1.0 p.1.0 q.1.0 p.1.1.1 p.1.1.2 q.1.1.1 q.1.1.2).1
+
+pub one_file_format : FilesHaveOneFormat
+one_file_format file f g a b p q = one_format f g file a b p.1.0 q.1.0 p.1.1 q.1.1
 
 -- a file that begins so begins with a line
 has_line : (f : Format) (file : List ℕ) (texts : List (List ℕ)) (rest : List ℕ) → Begins f file texts rest → BeginsWith (line f) file
@@ -43,17 +46,17 @@ closed_at f g behind r s formats rests closed =
     subst (λ (l : List ℕ). IsGate g 0 behind l) rests (subst (λ (h : Format). IsGate h 0 behind r) formats closed)
 
 pub no_fault : JournalsHaveNoFault
-no_fault file texts NotAJournal p fault = fault (line_in_family p.1.0 file (has_line p.1.0 file texts p.1.1 p.1.2))
-no_fault file texts Unknown p fault = fault.1 p.1.0 (has_line p.1.0 file texts p.1.1 p.1.2)
-no_fault file texts (Cut at) p (inl fault) = whole_header p.1.0 file texts p.1.1 at p.1.2 fault
+no_fault file texts NotAJournal p fault = fault (line_in_family p.0 file (has_line p.0 file texts p.1.1.0 p.1.1.1))
+no_fault file texts Unknown p fault = fault.1 p.0 (has_line p.0 file texts p.1.1.0 p.1.1.1)
+no_fault file texts (Cut at) p (inl fault) = whole_header p.0 file texts p.1.1.0 at p.1.1.1 fault
 no_fault file texts (Cut at) p (inr s) =
     let link = link_after s.format [] s.texts in
-    let same = files_end_alike p.1.0 s.format file texts s.texts p.1.1 s.rest (closed_has_none p.1.0 (link_after p.1.0 [] texts) p.0 p.1.1 p.1.3) (early_has_none s.format link s.rest s.why) p.1.2 s.begins in
-    closed_is_not_early s.format link p.0 s.rest (closed_at p.1.0 s.format p.0 p.1.1 s.rest same.0 same.2 p.1.3) s.why
+    let same = files_end_alike p.0 s.format file texts s.texts p.1.1.0 s.rest (closed_has_none p.0 (link_after p.0 [] texts) p.1.0 p.1.1.0 p.1.1.2) (early_has_none s.format link s.rest s.why) p.1.1.1 s.begins in
+    closed_is_not_early s.format link p.1.0 s.rest (closed_at p.0 s.format p.1.0 p.1.1.0 s.rest same.0 same.2 p.1.1.2) s.why
 no_fault file texts (Damaged at) p s =
     let link = link_after s.format [] s.texts in
-    let same = files_end_alike p.1.0 s.format file texts s.texts p.1.1 s.rest (closed_has_none p.1.0 (link_after p.1.0 [] texts) p.0 p.1.1 p.1.3) (damaged_has_none s.format link s.rest s.why) p.1.2 s.begins in
-    closed_is_not_damaged s.format link p.0 s.rest (closed_at p.1.0 s.format p.0 p.1.1 s.rest same.0 same.2 p.1.3) s.why
+    let same = files_end_alike p.0 s.format file texts s.texts p.1.1.0 s.rest (closed_has_none p.0 (link_after p.0 [] texts) p.1.0 p.1.1.0 p.1.1.2) (damaged_has_none s.format link s.rest s.why) p.1.1.1 s.begins in
+    closed_is_not_damaged s.format link p.1.0 s.rest (closed_at p.0 s.format p.1.0 p.1.1.0 s.rest same.0 same.2 p.1.1.2) s.why
 
 -- a file that is cut or damaged begins with a line
 abbrev HasLine : List ℕ → Type 0

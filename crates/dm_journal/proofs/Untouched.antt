@@ -10,7 +10,7 @@ pub still_has : {D : Type 0} (seen : D → List ℕ) (may_leave file_may_leave :
     (journal : Journal D) (device : D) (texts : List (List ℕ)) → IsUntouched seen may_leave file_may_leave moment left_since journal.device device →
     HasTexts seen may_leave file_may_leave journal texts → HasTexts seen may_leave file_may_leave (record { device = device; end = journal.end; hidden = journal.hidden }) texts
 still_has seen may_leave file_may_leave moment left_since journal device texts untouched has =
-    let ends = subst (λ (file : List ℕ). (begins : Closes file texts has.rest) × IsEnd file texts has.rest begins journal.end) (sym untouched.same) (has.begins, has.end) in
+    let ends = subst (λ (file : List ℕ). (begins : Closes journal.end.format file texts has.rest) × IsEnd file texts has.rest journal.end begins) (sym untouched.same) (has.begins, has.end) in
     record {
       rest = has.rest;
       begins = ends.0;

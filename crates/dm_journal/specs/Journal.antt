@@ -4,7 +4,7 @@ use Rattle.std.proofs.Math.ListN.{replicate}
 use Rattle.std.specs.Int.{w64, to_le_bytes}
 use Rattle.sha2.specs.Sha256.{sha256}
 use Rattle.dm_journal.specs.declared.format.Format.{Format}
-use Rattle.dm_journal.specs.declared.format.Format.TheVariants.{First, Second}
+use Rattle.dm_journal.specs.declared.format.Format.TheVariants.{First, Second, Third}
 use Rattle.dm_journal.specs.Format.{line, unit, filling}
 
 -- a text's length in 8 bytes, this checksum, and the text
@@ -15,10 +15,11 @@ block checksum text = to_le_bytes w64 (length text) ++ (checksum ++ text)
 abbrev pub checksum_of : List ℕ → List ℕ → List ℕ
 checksum_of link text = sha256 (link ++ text)
 
--- what a block follows on that stands behind one with this checksum: in the first format on nothing, in the second on that checksum
+-- what a block follows on that stands behind one with this checksum: in the first format on nothing, in the others on that checksum
 unfoldable pub next_link : Format → List ℕ → List ℕ
 next_link First checksum = []
 next_link Second checksum = checksum
+next_link Third checksum = checksum
 
 -- what a block follows on that stands behind blocks of these texts
 abbrev pub link_after : Format → List ℕ → List (List ℕ) → List ℕ
@@ -70,12 +71,16 @@ pub record Begins (format : Format) (file : List ℕ) (texts : List (List ℕ)) 
   pub blocks : AreBlocks format [] bytes texts rest
 
 -- behind the blocks of the texts is a closed gate, which is 0, and behind its unit may be anything
-abbrev pub Closes : List ℕ → List (List ℕ) → List ℕ → Type 0
-Closes file texts behind = (format : Format) × (rest : List ℕ) × Begins format file texts rest × IsGate format 0 behind rest
+abbrev pub Closes : Format → List ℕ → List (List ℕ) → List ℕ → Type 0
+Closes format file texts behind = (rest : List ℕ) × Begins format file texts rest × IsGate format 0 behind rest
+
+-- the file has the format, and stands for the texts
+abbrev pub StandsIn : Format → List ℕ → List (List ℕ) → Type 0
+StandsIn format file texts = (behind : List ℕ) × Closes format file texts behind
 
 -- the file stands for the texts
 abbrev pub StandsFor : List ℕ → List (List ℕ) → Type 0
-StandsFor file texts = (behind : List ℕ) × Closes file texts behind
+StandsFor file texts = (format : Format) × StandsIn format file texts
 
 -- the bytes are zeros
 abbrev pub IsZeros : List ℕ → Type 0

@@ -2,13 +2,17 @@
 use Rattle.std.specs.Prelude.{◌≡◌, ◌<◌, ℕ, ◌+◌, ◌*◌, List, length}
 use Rattle.dm_journal.specs.declared.format.Format.{Format}
 use Rattle.dm_journal.specs.Format.{unit, filling, filled}
-use Rattle.dm_journal.specs.Journal.{Begins, StandsFor}
+use Rattle.dm_journal.specs.Journal.{Begins, StandsIn, StandsFor}
 use Rattle.dm_journal.specs.Faults.{HasFault}
 use Rattle.dm_journal.specs.declared.fault.Fault.{Fault}
 
 -- a file stands for at most one list of texts
 abbrev pub StandsForOneList : Type 0
 StandsForOneList = (file : List ℕ) (a b : List (List ℕ)) → StandsFor file a → StandsFor file b → a ≡ b
+
+-- a file that stands for texts has one format
+abbrev pub FilesHaveOneFormat : Type 0
+FilesHaveOneFormat = (file : List ℕ) (f g : Format) (a b : List (List ℕ)) → StandsIn f file a → StandsIn g file b → f ≡ g
 
 -- a file that stands for texts has no fault
 abbrev pub JournalsHaveNoFault : Type 0

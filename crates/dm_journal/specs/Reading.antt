@@ -47,10 +47,9 @@ IsFaultOf file (File fault) = HasFault file fault
 IsFaultOf file (Device error) = error ≡ Memory
 
 -- what a journal knows of the end of its file
-pub record IsEnd (file : List ℕ) (texts : List (List ℕ)) (behind : List ℕ) (closes : Closes file texts behind) (end : JournalEnd) : Type 0 where
-  pub format : closes.0 ≡ end.format
+pub record IsEnd (file : List ℕ) (texts : List (List ℕ)) (behind : List ℕ) (end : JournalEnd) (closes : Closes end.format file texts behind) : Type 0 where
   pub link : link_bytes end.link ≡ link_after end.format [] texts
-  pub place : end.gate + length closes.1 ≡ length file
+  pub place : end.gate + length closes.0 ≡ length file
   pub size : end.size ≡ length file
 
 -- what a file says up to its first closed gate
@@ -84,5 +83,5 @@ pub record IsPushed (format : Format) (link text old new : List ℕ) : Type 0 wh
 -- the file stands for the texts, and ends so
 pub record EndsSo (file : List ℕ) (texts : List (List ℕ)) (end : JournalEnd) : Type 0 where
   pub behind : List ℕ
-  pub closes : Closes file texts behind
-  pub is : IsEnd file texts behind closes end
+  pub closes : Closes end.format file texts behind
+  pub is : IsEnd file texts behind end closes

@@ -1,6 +1,6 @@
 //! The formats of a journal's file, and what differs between them.
 ghost use Rattle.std.specs.Prelude.{◌≡◌, ◌≤◌, ◌<◌, ◌+◌, ◌^◌};
-ghost use Rattle.dm_journal.specs.Format.{line, unit, filling, filled};
+ghost use Rattle.dm_journal.specs.Format.{line, unit, filling, filled, renewed};
 ghost use Rattle.dm_journal.specs.Journal.{checksum_of, next_link, link_bytes};
 
 use sha2::{Digest, Sha256};
@@ -12,6 +12,8 @@ pub enum Format {
     First,
     /// Each part begins a unit of 4,096 bytes, and each checksum follows on the one before it.
     Second,
+    /// As the second, with another line: version 4, since a turned bit makes 3 of 2.
+    Third,
 }
 
 /// What the next block follows on: a checksum, or nothing.
@@ -26,6 +28,7 @@ impl Format {
         match self {
             Format::First => *b"dm journal 1\n",
             Format::Second => *b"dm journal 2\n",
+            Format::Third => *b"dm journal 4\n",
         }
     }
 
@@ -38,7 +41,7 @@ impl Format {
     {
         match self {
             Format::First => 1,
-            Format::Second => 1 << 12,
+            Format::Second | Format::Third => 1 << 12,
         }
     }
 
@@ -60,7 +63,18 @@ impl Format {
     {
         match self {
             Format::First => None,
-            Format::Second => Some(checksum),
+            Format::Second | Format::Third => Some(checksum),
+        }
+    }
+
+    /// The format of a file that takes the place of one of this format.
+    #[tactic(auto, unfolding(crate::specs::Format::renewed))]
+    pub fn renewed(self) -> Format
+        ensures { result ≡ renewed self }
+    {
+        match self {
+            Format::First | Format::Second => Format::Second,
+            Format::Third => Format::Third,
         }
     }
 }

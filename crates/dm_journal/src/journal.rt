@@ -4,11 +4,12 @@ ghost use Rattle.dm_journal.specs.declared.device.DeviceError.TheVariants.{Faile
 ghost use Rattle.dm_journal.specs.declared.fault.OpenError.TheVariants.{Device as OpeningDevice, File as OpeningFile};
 ghost use Rattle.dm_journal.specs.declared.fault.WriteError.TheVariants.{Device as WritingDevice, TooLong, Full};
 ghost use Rattle.dm_journal.specs.declared.fault.Fault.{Fault as FileFault};
-ghost use Rattle.dm_journal.specs.declared.format.Format.TheVariants.{Second};
+ghost use Rattle.dm_journal.specs.declared.format.Format.{Format as FileFormat};
 ghost use Rattle.dm_journal.specs.Device.{IsDurable, LeavesOnly, IsSameBefore};
 ghost use Rattle.dm_journal.specs.Faults.{HasFault};
+ghost use Rattle.dm_journal.specs.Format.{renewed};
 ghost use Rattle.dm_journal.specs.Hidden.{TellsHidden};
-ghost use Rattle.dm_journal.specs.Journal.{StandsFor, IsZeros};
+ghost use Rattle.dm_journal.specs.Journal.{StandsIn, IsZeros};
 ghost use Rattle.dm_journal.specs.Reading.{EndsSo};
 ghost use Rattle.dm_journal.specs.Ready.{HasTexts, IsTooLong, IsBeside, IsFailure, StandsWithOrWithout, StandsForEither, IsUntouched};
 
@@ -48,7 +49,7 @@ impl<D: Device> Journal<D> {
     pub fn open(alloc: Global, mut device: D) -> Result<(Journal<D>, Texts), (OpenError, D)>
         // After a restart, what is read is what is on the disk.
         requires { IsDurable D.seen D.may_leave D.file_may_leave device }
-        ensures texts { IfOk result (λ r. StandsFor (D.seen device) r.1) }
+        ensures texts { IfOk result (λ r. StandsIn r.0.end.format (D.seen device) r.1) }
         ensures ready { IfOk result (λ r. HasTexts D.seen D.may_leave D.file_may_leave r.0 r.1) }
         ensures untouched { IfOk result (λ r. IsUntouched D.seen D.may_leave D.file_may_leave D.moment D.left_since device r.0.device) }
         ensures untouched_err { IfErr result (λ e. IsUntouched D.seen D.may_leave D.file_may_leave D.moment D.left_since device e.1) }
@@ -77,6 +78,13 @@ impl<D: Device> Journal<D> {
         self.hidden
     }
 
+    /// The format of the file.
+    pub fn format(&self) -> Format
+        ensures { result ≡ self.now.end.format }
+    {
+        self.end.format
+    }
+
     /// Appends a text. At `Ok` it is acknowledged: from then on each crash leaves a file that has it.
     pub fn append(&mut self, alloc: Global, text: &[u8]) -> Result<(), WriteError>
         requires { (texts : List (List ℕ)) × HasTexts D.seen D.may_leave D.file_may_leave self.old texts }
@@ -86,7 +94,7 @@ impl<D: Device> Journal<D> {
 
         // A crash at any moment of the call leaves the texts from before it, with the new one or without.
         ensures any_moment { (texts : List (List ℕ)) → HasTexts D.seen D.may_leave D.file_may_leave self.old texts
-            → LeavesOnly D.moment D.left_since self.old.device self.new.device (StandsWithOrWithout texts text.now) }
+            → LeavesOnly D.moment D.left_since self.old.device self.new.device (StandsWithOrWithout self.old.end.format texts text.now) }
 
         // Nor does it change a byte in front of the gate, which begins a unit: no write touches a unit with a block in it.
         ensures front { (texts : List (List ℕ)) → HasTexts D.seen D.may_leave D.file_may_leave self.old texts
@@ -135,26 +143,28 @@ impl<D: Device> Journal<D> {
         Ok(())
     }
 
-    /// Puts a journal of these texts in the place of the file, whatever is there, or nothing. At an error the device comes back.
+    /// Puts a journal of these texts, in this format, in the place of the file, whatever is there, or nothing. At an error the
+    /// device comes back.
     pub fn create(
         alloc: Global,
         mut device: D,
+        format: Format,
         texts: &[&[u8]],
     ) -> Result<Journal<D>, (WriteError, D)>
         requires { IsDurable D.seen D.may_leave D.file_may_leave device }
         ensures ok { IfOk result (λ journal. HasTexts D.seen D.may_leave D.file_may_leave journal (map (λ text. text.now) texts.now)) }
-        ensures format { IfOk result (λ journal. journal.end.format ≡ Second) }
+        ensures format { IfOk result (λ journal. journal.end.format ≡ format) }
 
         // A crash at any moment of the call leaves the file from before it, or a journal of the texts.
         ensures any_moment { IfOk result (λ journal. LeavesOnly D.moment D.left_since device journal.device
-            (λ c. (c ≡ D.seen device) ⊎ StandsFor c (map (λ text. text.now) texts.now))) }
+            (λ c. (c ≡ D.seen device) ⊎ StandsIn format c (map (λ text. text.now) texts.now))) }
         ensures any_moment_err { IfErr result (λ e. LeavesOnly D.moment D.left_since device e.1
-            (λ c. (c ≡ D.seen device) ⊎ StandsFor c (map (λ text. text.now) texts.now))) }
+            (λ c. (c ≡ D.seen device) ⊎ StandsIn format c (map (λ text. text.now) texts.now))) }
         ensures failed { IfErr result (λ e. IsFailure e.0 → D.faults device < D.faults e.1) }
         ensures too_long { IfErr result (λ e. e.0 ≡ TooLong → Any IsTooLong (map (λ text. text.now) texts.now)) }
         ensures not_full { IfErr result (λ e. e.0 ≡ Full → ⊥) }
     {
-        match put_journal(alloc, &mut device, texts) {
+        match put_journal(alloc, &mut device, format, texts) {
             Ok(end) => Ok(Journal {
                 device,
                 end,
@@ -165,41 +175,49 @@ impl<D: Device> Journal<D> {
     }
 
     /// Puts these texts in the place of those that the journal has. At `Ok` they are acknowledged: from then on each crash
-    /// leaves a file that has just these. At [`WriteError::Beside`] the journal can go on as it was.
+    /// leaves a file that has just these. At [`WriteError::Beside`] the journal can go on as it was. The new file has the old
+    /// one's format, or the second in place of the first.
     pub fn replace(&mut self, alloc: Global, texts: &[&[u8]]) -> Result<(), WriteError>
         requires { IsDurable D.seen D.may_leave D.file_may_leave self.old.device }
         ensures acknowledged { OnOk result (HasTexts D.seen D.may_leave D.file_may_leave self.new (map (λ text. text.now) texts.now)) }
-        ensures format { OnOk result (self.new.end.format ≡ Second) }
+        ensures format { OnOk result (self.new.end.format ≡ renewed self.old.end.format) }
+        ensures format_err { IfErr result (λ _. self.new.end.format ≡ self.old.end.format) }
 
         // A crash at any moment of the call leaves the old texts or the new ones.
-        ensures any_moment { (old : List (List ℕ)) → StandsFor (D.seen self.old.device) old
-            → LeavesOnly D.moment D.left_since self.old.device self.new.device (StandsForEither old (map (λ text. text.now) texts.now)) }
+        ensures any_moment { (format : FileFormat) (old : List (List ℕ)) → StandsIn format (D.seen self.old.device) old
+            → LeavesOnly D.moment D.left_since self.old.device self.new.device
+            (StandsForEither format old (renewed self.old.end.format) (map (λ text. text.now) texts.now)) }
         ensures untouched { IfErr result (λ e. IsBeside e → (old : List (List ℕ)) → HasTexts D.seen D.may_leave D.file_may_leave self.old old
             → HasTexts D.seen D.may_leave D.file_may_leave self.new old) }
         ensures failed { IfErr result (λ e. IsFailure e → D.faults self.old.device < D.faults self.new.device) }
         ensures too_long { IsErrOf result TooLong → Any IsTooLong (map (λ text. text.now) texts.now) }
         ensures not_full { IsErrOf result Full → ⊥ }
     {
-        self.end = put_journal(alloc, &mut self.device, texts)?;
+        let format = self.end.format.renewed();
+        self.end = put_journal(alloc, &mut self.device, format, texts)?;
         self.hidden = None;
         Ok(())
     }
 }
 
-// Puts a journal of these texts in the place of the file, in the newest format.
-fn put_journal<D: Device>(alloc: Global, device: &mut D, texts: &[&[u8]]) -> Result<End, WriteError>
+// Puts a journal of these texts in the place of the file.
+fn put_journal<D: Device>(
+    alloc: Global,
+    device: &mut D,
+    format: Format,
+    texts: &[&[u8]],
+) -> Result<End, WriteError>
     requires { IsDurable D.seen D.may_leave D.file_may_leave device.old }
     ensures texts { IfOk result (λ end. EndsSo (D.seen device.new) (map (λ text. text.now) texts.now) end) }
-    ensures format { IfOk result (λ end. end.format ≡ Second) }
+    ensures format { IfOk result (λ end. end.format ≡ format) }
     ensures durable { OnOk result (IsDurable D.seen D.may_leave D.file_may_leave device.new) }
     ensures any_moment { LeavesOnly D.moment D.left_since device.old device.new
-        (λ c. (c ≡ D.seen device.old) ⊎ StandsFor c (map (λ text. text.now) texts.now)) }
+        (λ c. (c ≡ D.seen device.old) ⊎ StandsIn format c (map (λ text. text.now) texts.now)) }
     ensures untouched { IfErr result (λ e. IsBeside e → IsUntouched D.seen D.may_leave D.file_may_leave D.moment D.left_since device.old device.new) }
     ensures failed { IfErr result (λ e. IsFailure e → D.faults device.old < D.faults device.new) }
     ensures too_long { IsErrOf result TooLong → Any IsTooLong (map (λ text. text.now) texts.now) }
     ensures not_full { IsErrOf result Full → ⊥ }
 {
-    let format = Format::Second;
     let (bytes, link) = whole(alloc, format, texts)?;
     replace_file(device, &bytes)?;
     Ok(End {

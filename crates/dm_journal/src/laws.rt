@@ -1,9 +1,10 @@
 //! Laws of the definitions alone. A call of them does nothing.
-ghost use Rattle.dm_journal.specs.Laws.{StandsForOneList, JournalsHaveNoFault, FilesHaveOneFault, GatesBeginUnits, UnitsAreFilled};
+ghost use Rattle.dm_journal.specs.Laws.{StandsForOneList, FilesHaveOneFormat, JournalsHaveNoFault, FilesHaveOneFault, GatesBeginUnits, UnitsAreFilled};
 
-/// A file has at most one answer: the texts that it stands for, or one fault.
+/// A file has at most one answer: the texts that it stands for and its format, or one fault.
 pub fn a_file_has_one_answer()
     ensures texts { StandsForOneList }
+    ensures format { FilesHaveOneFormat }
     ensures texts_or_fault { JournalsHaveNoFault }
     ensures fault { FilesHaveOneFault }
 {}

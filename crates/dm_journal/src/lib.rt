@@ -5,7 +5,8 @@
 //! or the new ones, and [`Journal::open`] writes nothing. The [`laws`] say that a file has one answer: the texts that it
 //! stands for, or one fault.
 //!
-//! A file has one of two formats ([`Format`]): both are read and appended to, and new files have the second.
+//! A file has one of three formats ([`Format`]): all are read and appended to. A new file is given its format. One that takes
+//! the place of a journal has the journal's own, or the second in place of the first.
 //!
 //! The crate knows the disk as a [`Device`], and [`Memory`] is one. No contract can say that a real file is such a device.
 #![tactic(auto)]

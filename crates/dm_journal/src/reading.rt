@@ -125,6 +125,9 @@ fn known_format(bytes: &[u8]) -> Option<Format>
     if bytes.starts_with(&Format::Second.line()) {
         return Some(Format::Second);
     }
+    if bytes.starts_with(&Format::Third.line()) {
+        return Some(Format::Third);
+    }
     None
 }
 

@@ -1,10 +1,12 @@
-//! The second format: its bytes, its chain, and what a closed gate hides.
+//! The second and the third format: their bytes, their chain, and what a closed gate hides.
 
 use crate::asking::{fault_of, hidden_in, texts_in};
-use dm_journal::{Fault, Journal, Memory};
+use dm_journal::{Fault, Format, Journal, Memory};
 use std::alloc::Global;
 
 const HEADER: &[u8] = b"dm journal 2\n";
+
+const THIRD: &[u8] = b"dm journal 4\n";
 
 const OPEN: &[u8] = &[255];
 
@@ -56,9 +58,9 @@ fn file_of(alloc: Global, parts: &[&[u8]]) -> Vec<u8> {
 }
 
 /// Whether a new journal of the text "abc" takes "d" and "e", and the file is then of these bytes.
-fn takes_two(alloc: Global, wanted: &[u8]) -> bool {
-    let Ok(mut journal) = Journal::create(alloc, Memory::new(alloc, Vec::new(alloc)), &[b"abc"])
-    else {
+fn takes_two(alloc: Global, format: Format, wanted: &[u8]) -> bool {
+    let empty = Memory::new(alloc, Vec::new(alloc));
+    let Ok(mut journal) = Journal::create(alloc, empty, format, &[b"abc"]) else {
         return false;
     };
     journal.append(alloc, b"d").is_ok()
@@ -66,7 +68,7 @@ fn takes_two(alloc: Global, wanted: &[u8]) -> bool {
         && journal.device.bytes() == wanted
 }
 
-/// Whether a file of the first format that is replaced is of these bytes.
+/// Whether a file that is replaced is of these bytes.
 fn becomes(alloc: Global, old: &[u8], wanted: &[u8]) -> bool {
     let Ok(old) = old.to_vec(alloc) else {
         return false;
@@ -81,12 +83,31 @@ fn becomes(alloc: Global, old: &[u8], wanted: &[u8]) -> bool {
 fn a_second_journal_has_these_bytes(rt: HostRuntime) {
     let alloc = rt.alloc();
     let three = file_of(alloc, &[HEADER, OPEN, ABC, OPEN, D, OPEN, E, CLOSED]);
-    assert!(rt; takes_two(alloc, &three), "a new journal takes two texts");
+    assert!(rt;
+        takes_two(alloc, Format::Second, &three),
+        "a new journal takes two texts"
+    );
     assert!(rt; texts_in(alloc, &three) == Some(3), "all are read");
     let one = file_of(alloc, &[HEADER, OPEN, ABC, CLOSED]);
     assert!(rt;
         becomes(alloc, b"dm journal 1\n\0", &one),
         "a file of the first format is replaced by one of the second"
+    );
+}
+
+#[test]
+fn a_third_journal_has_these_bytes(rt: HostRuntime) {
+    let alloc = rt.alloc();
+    let three = file_of(alloc, &[THIRD, OPEN, ABC, OPEN, D, OPEN, E, CLOSED]);
+    assert!(rt;
+        takes_two(alloc, Format::Third, &three),
+        "a new journal takes two texts"
+    );
+    assert!(rt; texts_in(alloc, &three) == Some(3), "all are read");
+    let one = file_of(alloc, &[THIRD, OPEN, ABC, CLOSED]);
+    assert!(rt;
+        becomes(alloc, &three, &one),
+        "it is replaced by one of the same format"
     );
 }
 

@@ -4,7 +4,9 @@ use Rattle.std.specs.List.{Contains}
 use Rattle.std.proofs.lemmas.List.Elements.{Contains-append_left, Contains-append_right}
 use Rattle.dm_info.specs.PatchInfo.{PatchInfo}
 use Rattle.dm_prim.specs.Rectangles.{CellRow, none, next}
+use Rattle.dm_named.specs.Laws.{with_kinds}
 use Rattle.dm_named.specs.Limits.{standard}
+use Rattle.dm_named.specs.declared.limits.Kinds.{Kinds}
 use Rattle.dm_named.specs.Patches.{Patch}
 use Rattle.dm_bundle.specs.Bundles.{Contents}
 use Rattle.dm_bundle.specs.Patches.{infos_of}
@@ -22,7 +24,7 @@ use Rattle.dm_repo.proofs.Placed.{patches_placed}
 use Rattle.dm_repo.proofs.SiftLemmas.{policies_agree, some_new}
 use Rattle.dm_scratch.specs.declared.verdict.Verdict.{Verdict}
 use Rattle.dm_scratch.specs.declared.verdict.Verdict.TheVariants.{Taken, TakenSome, NothingNew, Malformed, Refused}
-use Rattle.dm_scratch.specs.Taking.{Takes, Reads, IsAccepted, bundle, malformed, no_memory}
+use Rattle.dm_scratch.specs.Taking.{TakesIn, ReadsWithin, IsAccepted, bundle, malformed, no_memory}
 use Rattle.dm_scratch.proofs.OneOutcome.{taking_one}
 use Rattle.dm_store.specs.Laws.{TwiceIsOnce}
 
@@ -79,21 +81,21 @@ merged_held repo b policy merged m =
     }
 
 -- a text whose bundle brings nothing new has that verdict
-has_nothing_new : (repo : List Patch) (text : List ℕ) (b : Contents) (policy : Policy) (w : Verdict) (last : List Patch) → Reads text b → IsNothingNew repo b → w ≢ Refused NoMemory → Takes repo text policy w last → (w ≡ NothingNew) × (last ≡ repo)
-has_nothing_new repo text b policy w last r n m t =
-    taking_one standard repo text policy w NothingNew last repo m (λ e. absurd (subst (λ (v : Verdict). IsAccepted v) e tt)) t (bundle b r (n, refl))
+has_nothing_new : (kinds : Kinds) (repo : List Patch) (text : List ℕ) (b : Contents) (policy : Policy) (w : Verdict) (last : List Patch) → ReadsWithin (with_kinds standard kinds) text b → IsNothingNew repo b → w ≢ Refused NoMemory → TakesIn kinds repo text policy w last → (w ≡ NothingNew) × (last ≡ repo)
+has_nothing_new kinds repo text b policy w last r n m t =
+    taking_one (with_kinds standard kinds) repo text policy w NothingNew last repo m (λ e. absurd (subst (λ (v : Verdict). IsAccepted v) e tt)) t (bundle b r (n, refl))
 
 pub twice : TwiceIsOnce
-twice repo text first (Taken count) after others ok (bundle b r t) policy w last m s =
+twice kinds repo text first (Taken count) after others ok (bundle b r t) policy w last m s =
     let n = subst (λ (l : List Patch). IsNothingNew l b) (sym t.appended) (merged_held repo b first t.merged t.is_merge) in
-    has_nothing_new (after ++ others) text b policy w last r (nothing_new_on after others b n) m s
-twice repo text first (Taken count) after others ok (malformed f at e same) policy w last m s = absurd (subst (λ (v : Verdict). IsAccepted v) e tt)
-twice repo text first (Taken count) after others ok (no_memory e same) policy w last m s = absurd (subst (λ (v : Verdict). IsAccepted v) e tt)
-twice repo text first NothingNew after others ok (bundle b r t) policy w last m s =
+    has_nothing_new kinds (after ++ others) text b policy w last r (nothing_new_on after others b n) m s
+twice kinds repo text first (Taken count) after others ok (malformed f at e same) policy w last m s = absurd (subst (λ (v : Verdict). IsAccepted v) e tt)
+twice kinds repo text first (Taken count) after others ok (no_memory e same) policy w last m s = absurd (subst (λ (v : Verdict). IsAccepted v) e tt)
+twice kinds repo text first NothingNew after others ok (bundle b r t) policy w last m s =
     let n = subst (λ (l : List Patch). IsNothingNew l b) (sym t.1) t.0 in
-    has_nothing_new (after ++ others) text b policy w last r (nothing_new_on after others b n) m s
-twice repo text first NothingNew after others ok (malformed f at e same) policy w last m s = absurd (subst (λ (v : Verdict). IsAccepted v) e tt)
-twice repo text first NothingNew after others ok (no_memory e same) policy w last m s = absurd (subst (λ (v : Verdict). IsAccepted v) e tt)
-twice repo text first (TakenSome count skipped) after others ok t policy w last m s = absurd ok
-twice repo text first (Malformed fault) after others ok t policy w last m s = absurd ok
-twice repo text first (Refused why) after others ok t policy w last m s = absurd ok
+    has_nothing_new kinds (after ++ others) text b policy w last r (nothing_new_on after others b n) m s
+twice kinds repo text first NothingNew after others ok (malformed f at e same) policy w last m s = absurd (subst (λ (v : Verdict). IsAccepted v) e tt)
+twice kinds repo text first NothingNew after others ok (no_memory e same) policy w last m s = absurd (subst (λ (v : Verdict). IsAccepted v) e tt)
+twice kinds repo text first (TakenSome count skipped) after others ok t policy w last m s = absurd ok
+twice kinds repo text first (Malformed fault) after others ok t policy w last m s = absurd ok
+twice kinds repo text first (Refused why) after others ok t policy w last m s = absurd ok

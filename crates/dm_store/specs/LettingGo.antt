@@ -1,7 +1,8 @@
 -- What a store lets go of, while another file has it.
 use Rattle.std.specs.Prelude.{◌⊎◌, ℕ, List}
+use Rattle.dm_named.specs.declared.limits.Kinds.{Kinds}
 use Rattle.dm_named.specs.Patches.{Patch}
-use Rattle.dm_bundle.specs.Bundles.{Contents, BundleText}
+use Rattle.dm_bundle.specs.Bundles.{Contents, BundleTextIn}
 use Rattle.dm_bundle.specs.Patches.{infos_of, SameMembers}
 use Rattle.dm_repo.specs.declared.policy.Policy.TheVariants.{Refuse}
 use Rattle.dm_scratch.specs.declared.verdict.Verdict.{Verdict}
@@ -9,10 +10,11 @@ use Rattle.dm_scratch.specs.Taking.{TakesBundle, IsAccepted}
 use Rattle.dm_journal.specs.Device.{Within}
 use Rattle.dm_store.specs.Keeping.{KeepsRepo}
 
--- the text stands for a bundle that what stays takes whole, and has then patches of just the names that the repository has
-pub record GivesBack (repo stays : List Patch) (text : List ℕ) : Type 0 where
+-- the text stands for a bundle, of primitives of these kinds, that what stays takes whole, and has then patches of just the names that
+-- the repository has
+pub record GivesBack (kinds : Kinds) (repo stays : List Patch) (text : List ℕ) : Type 0 where
   pub gone : Contents
-  pub stands : BundleText text gone
+  pub stands : BundleTextIn kinds text gone
   pub verdict : Verdict
   pub accepted : IsAccepted verdict
   pub after : List Patch
@@ -20,6 +22,6 @@ pub record GivesBack (repo stays : List Patch) (text : List ℕ) : Type 0 where
   pub names : SameMembers (infos_of repo) (infos_of after)
 
 -- the file keeps the repository; or it keeps what stays, and whatever a crash leaves of the other file gives back what is gone
-abbrev pub LosesNothing : List Patch → List Patch → (List ℕ → Type 0) → List ℕ → Type 0
-LosesNothing repo stays other_may_leave file =
-    KeepsRepo file repo ⊎ (KeepsRepo file stays × Within other_may_leave (GivesBack repo stays))
+abbrev pub LosesNothing : Kinds → List Patch → List Patch → (List ℕ → Type 0) → List ℕ → Type 0
+LosesNothing kinds repo stays other_may_leave file =
+    KeepsRepo kinds file repo ⊎ (KeepsRepo kinds file stays × Within other_may_leave (GivesBack kinds repo stays))

@@ -1,4 +1,5 @@
 pub mod Entries
+pub mod Kinds
 pub mod Keeping
 pub mod LettingGo
 pub mod Opening

@@ -3,12 +3,16 @@ ghost use Rattle.std.specs.Prelude.{◌≡◌, ◌≢◌, ◌⊎◌, ◌<◌, Li
 ghost use Rattle.dm_journal.specs.declared.fault.WriteError.TheVariants.{TooLong, Full};
 ghost use Rattle.dm_journal.specs.Device.{IsDurable, LeavesOnly};
 ghost use Rattle.dm_journal.specs.Ready.{HasTexts, IsBeside, IsFailure};
+ghost use Rattle.dm_bundle.specs.Patches.{AreAllOf};
 ghost use Rattle.dm_named.specs.Patches.{Patch};
+ghost use Rattle.dm_store.specs.Kinds.{kinds_of, format_of};
 ghost use Rattle.dm_store.specs.Keeping.{KeepsRepo, KeepsEither, IsOrKeeps, FoldTo, FitsOneEntry, entries_of_all};
 
 use crate::growth::Growth;
+use crate::kinds::{format_of, kinds_of};
 use crate::whole::entry_of_repo;
 use dm_journal::{Device, Journal, WriteError};
+use dm_named::Kinds;
 use dm_repo::Repo;
 use std::alloc::Global;
 
@@ -16,35 +20,38 @@ use std::alloc::Global;
 pub fn begin<D: Device>(
     alloc: Global,
     device: D,
+    kinds: Kinds,
     repo: &Repo<Global>,
 ) -> Result<(Journal<D>, Growth), (WriteError, D)>
     requires { IsDurable D.seen D.may_leave D.file_may_leave device }
-    ensures stored { IfOk result (λ r. (entries : List (List ℕ)) × HasTexts D.seen D.may_leave D.file_may_leave r.0 entries × FoldTo entries repo.now.patches) }
-    ensures any_moment { IfOk result (λ r. LeavesOnly D.moment D.left_since device r.0.device (IsOrKeeps (D.seen device) repo.now.patches)) }
-    ensures any_moment_err { IfErr result (λ e. LeavesOnly D.moment D.left_since device e.1 (IsOrKeeps (D.seen device) repo.now.patches)) }
+    ensures stored { IfOk result (λ r. (entries : List (List ℕ)) × HasTexts D.seen D.may_leave D.file_may_leave r.0 entries × FoldTo kinds entries repo.now.patches) }
+    ensures format { IfOk result (λ r. r.0.end.format ≡ format_of kinds) }
+    ensures any_moment { IfOk result (λ r. LeavesOnly D.moment D.left_since device r.0.device (IsOrKeeps kinds (D.seen device) repo.now.patches)) }
+    ensures any_moment_err { IfErr result (λ e. LeavesOnly D.moment D.left_since device e.1 (IsOrKeeps kinds (D.seen device) repo.now.patches)) }
     ensures failed { IfErr result (λ e. IsFailure e.0 → D.faults device < D.faults e.1) }
-    ensures too_long { IfErr result (λ e. e.0 ≡ TooLong → (repo.now.patches ≢ []) × (FitsOneEntry repo.now.patches → ⊥)) }
+    ensures too_long { IfErr result (λ e. e.0 ≡ TooLong → AreAllOf kinds repo.now.patches → (repo.now.patches ≢ []) × (FitsOneEntry repo.now.patches → ⊥)) }
     ensures not_full { IfErr result (λ e. e.0 ≡ Full → ⊥) }
 {
+    let format = format_of(kinds);
     if repo.is_empty() {
-        return match Journal::create(alloc, device, &[]) {
+        return match Journal::create(alloc, device, format, &[]) {
             Ok(journal) => Ok((journal, Growth::of_whole(0))),
             Err(error) => Err(error),
         };
     }
-    let entry = match entry_of_repo(alloc, repo) {
+    let entry = match entry_of_repo(alloc, kinds, repo) {
         Ok(Some(entry)) => entry,
         Ok(None) => return Err((WriteError::TooLong, device)),
         Err(error) => return Err((error, device)),
     };
-    match Journal::create(alloc, device, &[entry.as_slice()]) {
+    match Journal::create(alloc, device, format, &[entry.as_slice()]) {
         Ok(journal) => Ok((journal, Growth::of_whole(entry.len()))),
         Err(error) => Err(error),
     }
 }
 
 // Puts the entries of this repository in the place of those that the journal has: none of one without patches, and one of any
-// other, if it fits. `None` where it doesn't.
+// other, if it fits and is of the journal's kinds. `None` where it doesn't, or isn't.
 pub fn put_repo<D: Device>(
     alloc: Global,
     journal: &mut Journal<D>,
@@ -52,12 +59,15 @@ pub fn put_repo<D: Device>(
 ) -> Result<Option<Growth>, WriteError>
     requires { IsDurable D.seen D.may_leave D.file_may_leave journal.old.device }
     ensures entries { IfOk result (λ put. IfSome put (λ _. HasTexts D.seen D.may_leave D.file_may_leave journal.new (entries_of_all repo.now.patches))) }
-    ensures folds { IfOk result (λ put. IfSome put (λ _. FoldTo (entries_of_all repo.now.patches) repo.now.patches)) }
+    ensures folds { IfOk result (λ put. IfSome put (λ _. FoldTo (kinds_of journal.old.end.format) (entries_of_all repo.now.patches) repo.now.patches)) }
+    ensures of_kinds { IfOk result (λ put. IfSome put (λ _. AreAllOf (kinds_of journal.old.end.format) repo.now.patches)) }
     ensures fits { IfOk result (λ put. IfSome put (λ _. (repo.now.patches ≡ []) ⊎ FitsOneEntry repo.now.patches)) }
-    ensures none { IfOk result (λ put. IfNone put ((repo.now.patches ≢ []) × (FitsOneEntry repo.now.patches → ⊥))) }
+    ensures some { IfOk result (λ put. IfNone put (repo.now.patches ≢ [])) }
+    ensures none { IfOk result (λ put. IfNone put (AreAllOf (kinds_of journal.old.end.format) repo.now.patches → FitsOneEntry repo.now.patches → ⊥)) }
+    ensures kinds { kinds_of journal.new.end.format ≡ kinds_of journal.old.end.format }
     ensures unwritten { IfOk result (λ put. IfNone put (journal.new ≡ journal.old)) }
-    ensures any_moment { (old : List Patch) → KeepsRepo (D.seen journal.old.device) old
-        → LeavesOnly D.moment D.left_since journal.old.device journal.new.device (KeepsEither old repo.now.patches) }
+    ensures any_moment { (old : List Patch) → KeepsRepo (kinds_of journal.old.end.format) (D.seen journal.old.device) old
+        → LeavesOnly D.moment D.left_since journal.old.device journal.new.device (KeepsEither (kinds_of journal.old.end.format) old repo.now.patches) }
     ensures untouched { IfErr result (λ e. IsBeside e → (old : List (List ℕ)) → HasTexts D.seen D.may_leave D.file_may_leave journal.old old
         → HasTexts D.seen D.may_leave D.file_may_leave journal.new old) }
     ensures failed { IfErr result (λ e. IsFailure e → D.faults journal.old.device < D.faults journal.new.device) }
@@ -68,7 +78,8 @@ pub fn put_repo<D: Device>(
         journal.replace(alloc, &[])?;
         return Ok(Some(Growth::of_whole(0)));
     }
-    let Some(entry) = entry_of_repo(alloc, repo)? else {
+    let kinds = kinds_of(journal.format());
+    let Some(entry) = entry_of_repo(alloc, kinds, repo)? else {
         return Ok(None);
     };
     journal.replace(alloc, &[entry.as_slice()])?;

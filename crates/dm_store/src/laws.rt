@@ -1,5 +1,5 @@
 //! Laws of the definitions alone. A call of them does nothing.
-ghost use Rattle.dm_store.specs.Laws.{KeepsOneRepo, KeepsOrHasBadEntry, TwiceIsOnce, RepositoryIsTakenAgain};
+ghost use Rattle.dm_store.specs.Laws.{KeepsOneRepo, KeepsItsKinds, KeepsOrHasBadEntry, TwiceIsOnce, RepositoryIsTakenAgain};
 
 use dm_journal::laws::a_file_has_one_answer;
 
@@ -10,6 +10,11 @@ pub fn a_file_keeps_one_repository()
 {
     a_file_has_one_answer();
 }
+
+/// A file that is for some kinds of primitives keeps no others.
+pub fn a_file_keeps_its_kinds()
+    ensures { KeepsItsKinds }
+{}
 
 /// A bundle that was accepted, under either policy, and comes again, under either, to any repository that begins with the
 /// patches which it left, brings nothing new. One that was taken in part isn't accepted.

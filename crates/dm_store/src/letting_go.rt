@@ -1,9 +1,11 @@
 //! A store that lets patches go which another file has.
 ghost use Rattle.std.specs.Prelude.{◌≡◌, ◌⊎◌, ◌↔◌, ◌<◌, [], IfOk, IfErr, OnOk, IsErrOf, IsTrue};
+ghost use Rattle.dm_bundle.specs.Patches.{AreAllOf};
 ghost use Rattle.dm_journal.specs.declared.fault.WriteError.TheVariants.{TooLong, Full};
 ghost use Rattle.dm_journal.specs.Device.{LeavesOnly, Within};
 ghost use Rattle.dm_journal.specs.Ready.{HasTexts, IsBeside, IsFailure};
 ghost use Rattle.dm_store.specs.Keeping.{CrashesKeep, IsStored, FitsOneEntry, entries_of_all};
+ghost use Rattle.dm_store.specs.Kinds.{kinds_in};
 ghost use Rattle.dm_store.specs.LettingGo.{GivesBack, LosesNothing};
 
 use crate::store::Store;
@@ -21,19 +23,22 @@ impl<D: Device> Store<D> {
         kept: &F,
     ) -> Result<bool, WriteError>
         requires stored { IsStored D.seen D.may_leave D.file_may_leave self.old }
-        requires saved { Within (F.may_leave kept.now) (GivesBack self.old.repo.patches stays.patches) }
+        requires saved { Within (F.may_leave kept.now) (GivesBack (kinds_in self.old) self.old.repo.patches stays.patches) }
 
         ensures repo { IfOk result (λ done. IsTrue done → self.new.repo ≡ stays) }
+        ensures kinds { kinds_in self.new ≡ kinds_in self.old }
         ensures stored { OnOk result (IsStored D.seen D.may_leave D.file_may_leave self.new) }
-        ensures kept { OnOk result (CrashesKeep D.may_leave self.new.journal.device self.new.repo.patches) }
-        ensures fits { IfOk result (λ done. IsTrue done ↔ ((stays.patches ≡ []) ⊎ FitsOneEntry stays.patches)) }
+        ensures kept { OnOk result (CrashesKeep (kinds_in self.new) D.may_leave self.new.journal.device self.new.repo.patches) }
+        ensures of_kinds { IfOk result (λ done. IsTrue done → AreAllOf (kinds_in self.old) stays.patches) }
+        ensures fits { IfOk result (λ done. AreAllOf (kinds_in self.old) stays.patches
+            → IsTrue done ↔ ((stays.patches ≡ []) ⊎ FitsOneEntry stays.patches)) }
         ensures entries { IfOk result (λ done. IsTrue done
             → HasTexts D.seen D.may_leave D.file_may_leave self.new.journal (entries_of_all stays.patches)) }
         ensures unwritten { IfOk result (λ done. ¬ IsTrue done → self.new ≡ self.old) }
 
         // A crash at any moment of the call loses no patch: the one file or the other has it.
         ensures any_moment { LeavesOnly D.moment D.left_since self.old.journal.device self.new.journal.device
-            (LosesNothing self.old.repo.patches stays.patches (F.may_leave kept.now)) }
+            (LosesNothing (kinds_in self.old) self.old.repo.patches stays.patches (F.may_leave kept.now)) }
 
         ensures same_err { IfErr result (λ _. self.new.repo ≡ self.old.repo) }
         ensures stored_beside { IfErr result (λ e. IsBeside e → IsStored D.seen D.may_leave D.file_may_leave self.new) }

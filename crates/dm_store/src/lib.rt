@@ -7,6 +7,8 @@
 //! bundle of all patches, with an empty context. [`Store::replace`] puts that of another repository there, and
 //! [`Store::let_go`] that of the patches that stay, while another file has the others.
 //!
+//! The format of its file says which kinds of primitives a store reads ([`Store::kinds`]), so no call says it again.
+//!
 //! The [`laws`] say that a file keeps one repository, that a bundle that comes twice is taken once, and that an empty
 //! repository which takes all patches of another has just these.
 //!
@@ -17,6 +19,7 @@ mod entries;
 mod fault;
 mod growth;
 mod keeping;
+mod kinds;
 pub mod laws;
 mod letting_go;
 mod opening;
@@ -24,4 +27,5 @@ mod store;
 mod whole;
 
 pub use fault::StoreError;
+pub use kinds::are_of;
 pub use store::Store;

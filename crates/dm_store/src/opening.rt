@@ -9,9 +9,9 @@ use crate::entries::{split_entry, strip_whole};
 use crate::fault::StoreError;
 use bumpalo::Bump;
 use dm_journal::Texts;
-use dm_named::Limits;
+use dm_named::{Kinds, Limits};
 use dm_repo::{Policy, Refusal, Repo};
-use dm_scratch::{Verdict, take, take_within};
+use dm_scratch::{Verdict, take_in, take_within};
 use std::alloc::Global;
 
 // Whether something was taken.
@@ -28,14 +28,18 @@ pub fn has_taken(verdict: &Verdict) -> bool
 }
 
 // The repository that the entries leave, and the arena in which they were tried.
-pub fn take_again(alloc: Global, entries: &Texts) -> Result<(Repo<Global>, Bump), StoreError>
-    ensures folds { IfOk result (λ r. FoldTo entries.now r.0.patches) }
-    ensures stops { IfErr result (StopsFor entries.now) }
+pub fn take_again(
+    alloc: Global,
+    kinds: Kinds,
+    entries: &Texts,
+) -> Result<(Repo<Global>, Bump), StoreError>
+    ensures folds { IfOk result (λ r. FoldTo kinds entries.now r.0.patches) }
+    ensures stops { IfErr result (StopsFor kinds entries.now) }
 {
     let mut repo = Repo::new(alloc);
     let mut arena = Bump::new(alloc);
     for i in 0..entries.len() {
-        take_entry(alloc, &mut repo, &mut arena, entries.text(i), i)?;
+        take_entry(alloc, &mut repo, &mut arena, kinds, entries.text(i), i)?;
     }
     Ok((repo, arena))
 }
@@ -45,19 +49,20 @@ fn take_entry(
     alloc: Global,
     repo: &mut Repo<Global>,
     arena: &mut Bump,
+    kinds: Kinds,
     entry: &[u8],
     number: usize,
 ) -> Result<(), StoreError>
-    ensures ok { OnOk result (TakesEntry repo.old.patches entry.now repo.new.patches) }
-    ensures err { IfErr result (λ e. (e ≡ NoMemory) ⊎ ((e ≡ BadEntry number) × IsBadEntry repo.old.patches entry.now)) }
+    ensures ok { OnOk result (TakesEntry kinds repo.old.patches entry.now repo.new.patches) }
+    ensures err { IfErr result (λ e. (e ≡ NoMemory) ⊎ ((e ≡ BadEntry number) × IsBadEntry kinds repo.old.patches entry.now)) }
 {
     if let Some(text) = strip_whole(entry) {
-        return take_whole(alloc, repo, text, number);
+        return take_whole(alloc, repo, kinds, text, number);
     }
     let Some((policy, text)) = split_entry(entry) else {
         return Err(StoreError::BadEntry(number));
     };
-    let verdict = take(repo, arena, text, policy);
+    let verdict = take_in(repo, arena, text, kinds, policy);
     if has_taken(&verdict) {
         return Ok(());
     }
@@ -68,16 +73,18 @@ fn take_entry(
 fn take_whole(
     alloc: Global,
     repo: &mut Repo<Global>,
+    kinds: Kinds,
     text: &[u8],
     number: usize,
 ) -> Result<(), StoreError>
-    ensures ok { OnOk result (TakesEntry repo.old.patches (whole_entry text.now) repo.new.patches) }
-    ensures err { IfErr result (λ e. (e ≡ NoMemory) ⊎ ((e ≡ BadEntry number) × IsBadEntry repo.old.patches (whole_entry text.now))) }
+    ensures ok { OnOk result (TakesEntry kinds repo.old.patches (whole_entry text.now) repo.new.patches) }
+    ensures err { IfErr result (λ e. (e ≡ NoMemory) ⊎ ((e ≡ BadEntry number) × IsBadEntry kinds repo.old.patches (whole_entry text.now))) }
 {
     if !repo.is_empty() {
         return Err(StoreError::BadEntry(number));
     }
-    let verdict = take_within(repo, alloc, text, Limits::OWN, Policy::Refuse);
+    let limits = Limits::OWN.with_kinds(kinds);
+    let verdict = take_within(repo, alloc, text, limits, Policy::Refuse);
     if has_taken(&verdict) {
         return Ok(());
     }

@@ -7,21 +7,25 @@ ghost use Rattle.dm_journal.specs.declared.fault.WriteError.TheVariants.{Device 
 ghost use Rattle.dm_journal.specs.Device.{IsDurable, LeavesOnly};
 ghost use Rattle.dm_journal.specs.Faults.{HasFault};
 ghost use Rattle.dm_journal.specs.Hidden.{TellsHidden};
+ghost use Rattle.dm_bundle.specs.Patches.{AreAllOf};
 ghost use Rattle.dm_journal.specs.Ready.{HasTexts, IsUntouched, IsBeside, IsFailure};
-ghost use Rattle.dm_scratch.specs.Taking.{Takes};
+ghost use Rattle.dm_scratch.specs.Taking.{TakesIn};
 ghost use Rattle.dm_store.specs.declared.fault.StoreError.TheVariants.{Journal as OpeningJournal, BadEntry};
 ghost use Rattle.dm_store.specs.Keeping.{HasTaken, KeepsRepo, KeepsWithOrWithout, KeepsEither, IsOrKeeps, CrashesKeep, IsStored, FitsOneEntry, entry_of_all, entries_of_all};
+ghost use Rattle.dm_store.specs.Kinds.{kinds_of, kinds_in, format_of};
 ghost use Rattle.dm_store.specs.Opening.{HasBadEntry};
 
 use crate::entries::make_entry;
 use crate::fault::StoreError;
 use crate::growth::{Growth, growth_of};
 use crate::keeping::{begin, put_repo};
+use crate::kinds::kinds_of;
 use crate::opening::{has_taken, take_again};
 use bumpalo::Bump;
 use dm_journal::{Device, Journal, WriteError};
+use dm_named::Kinds;
 use dm_repo::{Policy, Repo};
-use dm_scratch::{Verdict, take};
+use dm_scratch::{Verdict, take_in};
 use std::alloc::Global;
 
 /// A repository that lasts. After an error of [`Store::take`], [`Store::checkpoint`] or [`Store::replace`], open the file again:
@@ -41,7 +45,7 @@ impl<D: Device> Store<D> {
     pub fn open(alloc: Global, device: D) -> Result<Store<D>, (StoreError, D)>
         // After a restart, what is read is what is on the disk.
         requires { IsDurable D.seen D.may_leave D.file_may_leave device }
-        ensures keeps { IfOk result (λ store. KeepsRepo (D.seen device) store.repo.patches) }
+        ensures keeps { IfOk result (λ store. KeepsRepo (kinds_in store) (D.seen device) store.repo.patches) }
         ensures stored { IfOk result (IsStored D.seen D.may_leave D.file_may_leave) }
         ensures untouched { IfOk result (λ store. IsUntouched D.seen D.may_leave D.file_may_leave D.moment D.left_since device store.journal.device) }
         ensures untouched_err { IfErr result (λ e. IsUntouched D.seen D.may_leave D.file_may_leave D.moment D.left_since device e.1) }
@@ -54,7 +58,7 @@ impl<D: Device> Store<D> {
             Ok(opened) => opened,
             Err((error, device)) => return Err((StoreError::Journal(error), device)),
         };
-        match take_again(alloc, &entries) {
+        match take_again(alloc, kinds_of(journal.format()), &entries) {
             Ok((repo, arena)) => Ok(Store {
                 journal,
                 repo,
@@ -65,24 +69,32 @@ impl<D: Device> Store<D> {
         }
     }
 
-    /// Makes a store of a repository of a file that has no bytes, or isn't there: no store is lost. At an error the device comes
-    /// back; [`WriteError::TooLong`] is told of a repository that is past [`dm_named::Limits::OWN`].
-    pub fn create(alloc: Global, device: D, repo: Repo<Global>) -> Result<Store<D>, (WriteError, D)>
+    /// Makes a store of a repository of a file that has no bytes, or isn't there: no store is lost. It reads these kinds of
+    /// primitives then, and so does each that opens the file. At an error the device comes back; [`WriteError::TooLong`] is told
+    /// of a repository that is past [`dm_named::Limits::OWN`], or has primitives of other kinds.
+    pub fn create(
+        alloc: Global,
+        device: D,
+        repo: Repo<Global>,
+        kinds: Kinds,
+    ) -> Result<Store<D>, (WriteError, D)>
         requires durable { IsDurable D.seen D.may_leave D.file_may_leave device }
         requires empty { D.seen device ≡ [] }
         ensures same { IfOk result (λ store. store.repo ≡ repo) }
         ensures stored { IfOk result (IsStored D.seen D.may_leave D.file_may_leave) }
+        ensures kinds { IfOk result (λ store. kinds_in store ≡ kinds) }
+        ensures format { IfOk result (λ store. store.journal.end.format ≡ format_of kinds) }
 
         // A crash at any moment of the call leaves the file from before it, or one that keeps the repository.
-        ensures any_moment { IfOk result (λ store. LeavesOnly D.moment D.left_since device store.journal.device (IsOrKeeps (D.seen device) repo.patches)) }
-        ensures any_moment_err { IfErr result (λ e. LeavesOnly D.moment D.left_since device e.1 (IsOrKeeps (D.seen device) repo.patches)) }
+        ensures any_moment { IfOk result (λ store. LeavesOnly D.moment D.left_since device store.journal.device (IsOrKeeps kinds (D.seen device) repo.patches)) }
+        ensures any_moment_err { IfErr result (λ e. LeavesOnly D.moment D.left_since device e.1 (IsOrKeeps kinds (D.seen device) repo.patches)) }
 
         // It doesn't give up by itself.
         ensures failed { IfErr result (λ e. IsFailure e.0 → D.faults device < D.faults e.1) }
-        ensures too_long { IfErr result (λ e. e.0 ≡ TooLong → (repo.patches ≢ []) × (FitsOneEntry repo.patches → ⊥)) }
+        ensures too_long { IfErr result (λ e. e.0 ≡ TooLong → AreAllOf kinds repo.patches → (repo.patches ≢ []) × (FitsOneEntry repo.patches → ⊥)) }
         ensures not_full { IfErr result (λ e. e.0 ≡ Full → ⊥) }
     {
-        match begin(alloc, device, &repo) {
+        match begin(alloc, device, kinds, &repo) {
             Ok((journal, growth)) => Ok(Store {
                 journal,
                 repo,
@@ -115,6 +127,13 @@ impl<D: Device> Store<D> {
         &self.repo
     }
 
+    /// The kinds of primitives that it reads. Its file tells them, and no call changes them.
+    pub fn kinds(&self) -> Kinds
+        ensures { result ≡ kinds_in self.now }
+    {
+        kinds_of(self.journal.format())
+    }
+
     /// The place of the closed gate behind the last entry, if it hid more of them when the file was opened: none is lost, but the
     /// byte there was changed. No crash leaves such a file.
     pub fn hidden(&self) -> Option<usize>
@@ -134,21 +153,23 @@ impl<D: Device> Store<D> {
     ) -> Result<Verdict, WriteError>
         requires { IsStored D.seen D.may_leave D.file_may_leave self.old }
 
-        ensures takes { IfOk result (λ verdict. Takes self.old.repo.patches text.now policy verdict self.new.repo.patches) }
+        ensures takes { IfOk result (λ verdict. TakesIn (kinds_in self.old) self.old.repo.patches text.now policy verdict self.new.repo.patches) }
         ensures stored { OnOk result (IsStored D.seen D.may_leave D.file_may_leave self.new) }
-        ensures kept { OnOk result (CrashesKeep D.may_leave self.new.journal.device self.new.repo.patches) }
+        ensures kept { OnOk result (CrashesKeep (kinds_in self.new) D.may_leave self.new.journal.device self.new.repo.patches) }
+        ensures kinds { kinds_in self.new ≡ kinds_in self.old }
         ensures unwritten { IfOk result (λ verdict. ¬ HasTaken verdict → self.new.journal ≡ self.old.journal) }
 
         // A crash at any moment of the call leaves a file that keeps the repository from before it, or the one that the text leaves.
         ensures any_moment { LeavesOnly D.moment D.left_since self.old.journal.device self.new.journal.device
-            (KeepsWithOrWithout self.old.repo.patches text.now policy) }
+            (KeepsWithOrWithout (kinds_in self.old) self.old.repo.patches text.now policy) }
 
         // It doesn't give up by itself.
         ensures failed { IsErrOf result (WritingDevice Failed) → D.faults self.old.journal.device < D.faults self.new.journal.device }
         ensures not_too_long { IsErrOf result TooLong → ⊥ }
         ensures full { IsErrOf result Full → 2 ^ 62 < length (D.seen self.old.journal.device) }
     {
-        let verdict = take(&mut self.repo, &mut self.arena, text, policy);
+        let kinds = self.kinds();
+        let verdict = take_in(&mut self.repo, &mut self.arena, text, kinds, policy);
         if !has_taken(&verdict) {
             return Ok(verdict);
         }
@@ -177,8 +198,9 @@ impl<D: Device> Store<D> {
         requires { IsStored D.seen D.may_leave D.file_may_leave self.old }
 
         ensures same { self.new.repo ≡ self.old.repo }
+        ensures kinds { kinds_in self.new ≡ kinds_in self.old }
         ensures stored { OnOk result (IsStored D.seen D.may_leave D.file_may_leave self.new) }
-        ensures kept { OnOk result (CrashesKeep D.may_leave self.new.journal.device self.new.repo.patches) }
+        ensures kept { OnOk result (CrashesKeep (kinds_in self.new) D.may_leave self.new.journal.device self.new.repo.patches) }
         ensures fits { IfOk result (λ done. IsTrue done ↔ FitsOneEntry self.old.repo.patches) }
         ensures one_entry { IfOk result (λ done. IsTrue done
             → HasTexts D.seen D.may_leave D.file_may_leave self.new.journal (entry_of_all self.old.repo.patches ∷ [])) }
@@ -186,7 +208,7 @@ impl<D: Device> Store<D> {
 
         // A crash at any moment of the call leaves a file that keeps the same repository.
         ensures any_moment { LeavesOnly D.moment D.left_since self.old.journal.device self.new.journal.device
-            (λ file. KeepsRepo file self.old.repo.patches) }
+            (λ file. KeepsRepo (kinds_in self.old) file self.old.repo.patches) }
 
         ensures stored_beside { IfErr result (λ e. IsBeside e → IsStored D.seen D.may_leave D.file_may_leave self.new) }
 
@@ -207,23 +229,26 @@ impl<D: Device> Store<D> {
 
     /// Puts another repository in the place of this one: its entry, and nothing of this one, is what the journal has then.
     ///
-    /// `false` where the other has patches, and they or their text are past [`dm_named::Limits::OWN`]: the store is as it was
-    /// then. So it is after [`WriteError::Beside`], and can go on. After another error open the file again: it keeps the one or
+    /// `false` where the other has patches, and they or their text are past [`dm_named::Limits::OWN`], or not of the store's
+    /// kinds: the store is as it was then. So it is after [`WriteError::Beside`], and can go on. After another error open the file again: it keeps the one or
     /// the other.
     pub fn replace(&mut self, alloc: Global, repo: Repo<Global>) -> Result<bool, WriteError>
         requires { IsStored D.seen D.may_leave D.file_may_leave self.old }
 
         ensures repo { IfOk result (λ done. IsTrue done → self.new.repo ≡ repo) }
+        ensures kinds { kinds_in self.new ≡ kinds_in self.old }
         ensures stored { OnOk result (IsStored D.seen D.may_leave D.file_may_leave self.new) }
-        ensures kept { OnOk result (CrashesKeep D.may_leave self.new.journal.device self.new.repo.patches) }
-        ensures fits { IfOk result (λ done. IsTrue done ↔ ((repo.patches ≡ []) ⊎ FitsOneEntry repo.patches)) }
+        ensures kept { OnOk result (CrashesKeep (kinds_in self.new) D.may_leave self.new.journal.device self.new.repo.patches) }
+        ensures of_kinds { IfOk result (λ done. IsTrue done → AreAllOf (kinds_in self.old) repo.patches) }
+        ensures fits { IfOk result (λ done. AreAllOf (kinds_in self.old) repo.patches
+            → IsTrue done ↔ ((repo.patches ≡ []) ⊎ FitsOneEntry repo.patches)) }
         ensures entries { IfOk result (λ done. IsTrue done
             → HasTexts D.seen D.may_leave D.file_may_leave self.new.journal (entries_of_all repo.patches)) }
         ensures unwritten { IfOk result (λ done. ¬ IsTrue done → self.new ≡ self.old) }
 
         // A crash at any moment of the call leaves a file that keeps the repository from before it, or the other one.
         ensures any_moment { LeavesOnly D.moment D.left_since self.old.journal.device self.new.journal.device
-            (KeepsEither self.old.repo.patches repo.patches) }
+            (KeepsEither (kinds_in self.old) self.old.repo.patches repo.patches) }
 
         ensures same_err { IfErr result (λ _. self.new.repo ≡ self.old.repo) }
         ensures stored_beside { IfErr result (λ e. IsBeside e → IsStored D.seen D.may_leave D.file_may_leave self.new) }

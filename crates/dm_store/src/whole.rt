@@ -1,44 +1,58 @@
 //! The entry of a whole repository.
 ghost use Rattle.std.specs.Prelude.{◌≡◌, ◌≤◌, [], length, IfOk, IfErr, IfSome, IfNone, MatchBool};
 ghost use Rattle.std.specs.List.{AllByRecursion};
-ghost use Rattle.dm_bundle.specs.Patches.{AreFewWithin};
+ghost use Rattle.dm_bundle.specs.Patches.{AreAllOf, AreFewWithin};
 ghost use Rattle.dm_journal.specs.declared.device.DeviceError.TheVariants.{Memory};
 ghost use Rattle.dm_journal.specs.declared.fault.WriteError.TheVariants.{Beside};
 ghost use Rattle.dm_named.specs.Limits.{own};
 ghost use Rattle.dm_store.specs.Keeping.{TakesEntry, FitsOneEntry, entry_of_all};
 
 use crate::entries::make_whole_entry;
+use crate::kinds::are_of;
 use dm_bundle::write_bundle;
 use dm_journal::{DeviceError, WriteError};
-use dm_named::{Limits, Named};
+use dm_named::{Kinds, Limits, Named};
 use dm_repo::Repo;
 use std::alloc::{AllocError, Global};
 
-// The entry that leaves this repository where it is taken first, if the repository fits one.
-pub fn entry_of_repo(alloc: Global, repo: &Repo<Global>) -> Result<Option<Vec<u8>>, WriteError>
+// The entry that leaves this repository where it is taken first, if the repository is of these kinds and fits one.
+pub fn entry_of_repo(
+    alloc: Global,
+    kinds: Kinds,
+    repo: &Repo<Global>,
+) -> Result<Option<Vec<u8>>, WriteError>
     ensures entry { IfOk result (λ found. IfSome found (λ entry. entry.items ≡ entry_of_all repo.now.patches)) }
+    ensures of_kinds { IfOk result (λ found. IfSome found (λ _. AreAllOf kinds repo.now.patches)) }
     ensures fits { IfOk result (λ found. IfSome found (λ _. FitsOneEntry repo.now.patches)) }
-    ensures takes { IfOk result (λ found. IfSome found (λ entry. TakesEntry [] entry.items repo.now.patches)) }
-    ensures none { IfOk result (λ found. IfNone found (FitsOneEntry repo.now.patches → ⊥)) }
+    ensures takes { IfOk result (λ found. IfSome found (λ entry. TakesEntry kinds [] entry.items repo.now.patches)) }
+    ensures none { IfOk result (λ found. IfNone found (AreAllOf kinds repo.now.patches → FitsOneEntry repo.now.patches → ⊥)) }
     ensures err { IfErr result (λ e. e ≡ Beside Memory) }
 {
-    match write_whole(alloc, repo) {
+    match write_whole(alloc, kinds, repo) {
         Ok(found) => Ok(found),
         Err(_) => Err(WriteError::Beside(DeviceError::Memory)),
     }
 }
 
-fn write_whole(alloc: Global, repo: &Repo<Global>) -> Result<Option<Vec<u8>>, AllocError>
+fn write_whole(
+    alloc: Global,
+    kinds: Kinds,
+    repo: &Repo<Global>,
+) -> Result<Option<Vec<u8>>, AllocError>
     ensures entry { IfOk result (λ found. IfSome found (λ entry. entry.items ≡ entry_of_all repo.now.patches)) }
+    ensures of_kinds { IfOk result (λ found. IfSome found (λ _. AreAllOf kinds repo.now.patches)) }
     ensures fits { IfOk result (λ found. IfSome found (λ _. FitsOneEntry repo.now.patches)) }
-    ensures takes { IfOk result (λ found. IfSome found (λ entry. TakesEntry [] entry.items repo.now.patches)) }
-    ensures none { IfOk result (λ found. IfNone found (FitsOneEntry repo.now.patches → ⊥)) }
+    ensures takes { IfOk result (λ found. IfSome found (λ entry. TakesEntry kinds [] entry.items repo.now.patches)) }
+    ensures none { IfOk result (λ found. IfNone found (AreAllOf kinds repo.now.patches → FitsOneEntry repo.now.patches → ⊥)) }
 {
     if repo.len() == 0 {
         return Ok(None);
     }
     let bundle = repo.to_bundle(alloc)?;
     if !are_few(bundle.new_patches()) {
+        return Ok(None);
+    }
+    if !are_of(kinds, bundle.new_patches()) {
         return Ok(None);
     }
     let text = write_bundle(alloc, &bundle)?;

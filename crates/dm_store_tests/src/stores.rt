@@ -2,7 +2,8 @@
 
 use crate::asking::{bad_entry_in, patches_in};
 use crate::repositories::first_patch;
-use dm_journal::{Journal, Memory};
+use dm_journal::{Format, Journal, Memory};
+use dm_named::Kinds;
 use dm_repo::{Policy, Repo};
 use dm_scratch::Verdict;
 use dm_store::Store;
@@ -20,10 +21,14 @@ const CONFLICT: &[u8] =
 const NEXT: &[u8] =
     b"New patches:\n\n[q\np**d] hunk ./f 2\n+y\n\nContext:\n\n[m\np**d]\n[a\np**d]\n";
 
+/// A patch (b) that adds a file and gives it two bytes.
+const BINARY: &[u8] =
+    b"New patches:\n\n[b\np**d] {\naddfile ./b\nbinary ./b\noldhex\n*\nnewhex\n*00ff\n}\n\nContext:\n\n";
+
 /// Whether a new store takes two patches once, skips one of two others, and has three when it is opened again.
 fn lasts(alloc: Global) -> bool {
-    let Ok(mut store) = Store::create(alloc, Memory::new(alloc, Vec::new(alloc)), Repo::new(alloc))
-    else {
+    let file = Memory::new(alloc, Vec::new(alloc));
+    let Ok(mut store) = Store::create(alloc, file, Repo::new(alloc), Kinds::Six) else {
         return false;
     };
     let Ok(Verdict::Taken(2)) = store.take(alloc, TWO, Policy::Refuse) else {
@@ -47,7 +52,7 @@ fn a_store_is_opened_again(rt: HostRuntime) {
 /// Whether a store of two texts has the same patches when it is opened again after a checkpoint, and takes another text then.
 fn lasts_in_one_entry(alloc: Global) -> bool {
     let file = Memory::new(alloc, Vec::new(alloc));
-    let Ok(mut store) = Store::create(alloc, file, Repo::new(alloc)) else {
+    let Ok(mut store) = Store::create(alloc, file, Repo::new(alloc), Kinds::Six) else {
         return false;
     };
     let Ok(false) = store.checkpoint(alloc) else {
@@ -85,7 +90,7 @@ fn a_checkpoint_is_opened_again(rt: HostRuntime) {
 /// Whether a store of two patches is replaced by the first alone, takes the second again, and is replaced by no patch.
 fn is_replaced(alloc: Global) -> bool {
     let file = Memory::new(alloc, Vec::new(alloc));
-    let Ok(mut store) = Store::create(alloc, file, Repo::new(alloc)) else {
+    let Ok(mut store) = Store::create(alloc, file, Repo::new(alloc), Kinds::Six) else {
         return false;
     };
     let Ok(Verdict::Taken(2)) = store.take(alloc, TWO, Policy::Refuse) else {
@@ -115,9 +120,35 @@ fn a_store_is_replaced(rt: HostRuntime) {
     assert!(rt; is_replaced(rt.alloc()), "one patch, two patches, none");
 }
 
+/// Whether a new store for these kinds takes a patch with a binary, has it in one entry when it is opened again, and reads all
+/// kinds then.
+fn keeps_a_binary(alloc: Global, kinds: Kinds) -> bool {
+    let file = Memory::new(alloc, Vec::new(alloc));
+    let Ok(mut store) = Store::create(alloc, file, Repo::new(alloc), kinds) else {
+        return false;
+    };
+    let Ok(Verdict::Taken(1)) = store.take(alloc, BINARY, Policy::Refuse) else {
+        return false;
+    };
+    let Ok(true) = store.checkpoint(alloc) else {
+        return false;
+    };
+    let Ok(opened) = Store::open(alloc, store.into_device()) else {
+        return false;
+    };
+    opened.kinds() == Kinds::All && opened.repo().len() == 1
+}
+
+#[test]
+fn a_store_keeps_its_kinds(rt: HostRuntime) {
+    assert!(rt; keeps_a_binary(rt.alloc(), Kinds::All), "all kinds");
+    assert!(rt; !keeps_a_binary(rt.alloc(), Kinds::Six), "six kinds");
+}
+
 /// Whether a journal of this text isn't opened, for its entry.
 fn is_bad(alloc: Global, text: &[u8]) -> bool {
-    let Ok(journal) = Journal::create(alloc, Memory::new(alloc, Vec::new(alloc)), &[text]) else {
+    let file = Memory::new(alloc, Vec::new(alloc));
+    let Ok(journal) = Journal::create(alloc, file, Format::Second, &[text]) else {
         return false;
     };
     bad_entry_in(alloc, journal.device.bytes()) == Some(0)

@@ -29,7 +29,7 @@ returns-in_err-may_settle-in-Ok-Some-clause-delivers_until g c =
     let q = err_from_is_err_and c.from_residual.result c.from_residual.ensures.1 in
     rw (q.1, q.2) (checkpoint_failed d.moment d.left_since d.faults (λ (texts : List (List ℕ)). g.S.Source.gave source texts c.loop-text.source) (λ (texts : List (List ℕ)). g.S.Source.gave source texts c.next_text.new.self)
     c.args.policy c.args.rule c.in_err-may_settle-in-Ok-Some.field-0.0 c.args.store.now c.loop-text.store c.settle.new.store (output g.W.Write.contents c.args.writer.now) (output g.W.Write.contents c.loop-text.writer)
-    so_far.0 text came c.settle.ensures.same c.settle.ensures.any_moment c.in_err-may_settle-in-Ok-Some.ensures.failed c.in_err-may_settle-in-Ok-Some.ensures.kind.1)
+    so_far.0 text came c.settle.ensures.same c.settle.ensures.kinds c.settle.ensures.any_moment c.in_err-may_settle-in-Ok-Some.ensures.failed c.in_err-may_settle-in-Ok-Some.ensures.kind.1)
 
 pub returns-in_err-may_settle-in-Ok-Some-clause-stored_err :
     goal.returns-in_err-may_settle-in-Ok-Some-clause-stored_err
@@ -61,7 +61,7 @@ returns-in_err-reply-in-Ok-Some-clause-delivers_until g c =
     let source = c.args.source.now in
     let so_far = c.loop-text.invariant.0 in
     let ready = settled d.moment d.left_since (λ (texts : List (List ℕ)). g.S.Source.gave source texts c.loop-text.source) c.args.policy c.args.rule c.args.store.now c.loop-text.store c.settle.new.store (output g.W.Write.contents c.args.writer.now) (output g.W.Write.contents c.loop-text.writer)
-    c.loop-text.all_accepted so_far c.settle.ensures.same c.settle.ensures.any_moment in
+    c.loop-text.all_accepted so_far c.settle.ensures.same c.settle.ensures.kinds c.settle.ensures.any_moment in
     let failed = c.in_err-reply-in-Ok-Some.ensures in
     let text = c.as_slice-bytes.result.now in
     let gives = subst (λ (t : List ℕ). g.S.Source.gave c.loop-text.source (t ∷ []) c.next_text.new.self) (sym c.as_slice-bytes.ensures.value) (rw c.in-Ok-Some.field-0-is at c.in-Ok-Some.ensures.some) in
@@ -70,7 +70,7 @@ returns-in_err-reply-in-Ok-Some-clause-delivers_until g c =
     rw (q.1, q.2) (but_last d.moment d.left_since d.seen d.faults (λ (texts : List (List ℕ)). g.S.Source.gave source texts c.loop-text.source) (λ (texts : List (List ℕ)). g.S.Source.gave source texts c.next_text.new.self)
     c.args.policy c.args.rule c.in_err-reply-in-Ok-Some.field-0.0 c.args.store.now c.settle.new.store c.answer.new.store
     (output g.W.Write.contents c.args.writer.now) (output g.W.Write.contents c.loop-text.writer) (output g.W.Write.contents c.answer.new.writer)
-    ready.0 text came failed.unanswered c.answer.ensures.any_moment failed.failed failed.not_too_long failed.full)
+    ready.0 text came c.answer.ensures.kinds failed.unanswered c.answer.ensures.any_moment failed.failed failed.not_too_long failed.full)
 
 pub returns-in_err-reply-in-Ok-Some-clause-stored_err :
     goal.returns-in_err-reply-in-Ok-Some-clause-stored_err
@@ -91,7 +91,7 @@ returns-in_err-reply-in-Ok-Some-clause-any_moment g c =
     let source = c.args.source.now in
     let so_far = c.loop-text.invariant.0 in
     let ready = settled d.moment d.left_since (λ (texts : List (List ℕ)). g.S.Source.gave source texts c.loop-text.source) c.args.policy c.args.rule c.args.store.now c.loop-text.store c.settle.new.store (output g.W.Write.contents c.args.writer.now) (output g.W.Write.contents c.loop-text.writer)
-    c.loop-text.all_accepted so_far c.settle.ensures.same c.settle.ensures.any_moment in
+    c.loop-text.all_accepted so_far c.settle.ensures.same c.settle.ensures.kinds c.settle.ensures.any_moment in
     let text = c.as_slice-bytes.result.now in
     let gives = subst (λ (t : List ℕ). g.S.Source.gave c.loop-text.source (t ∷ []) c.next_text.new.self) (sym c.as_slice-bytes.ensures.value) (rw c.in-Ok-Some.field-0-is at c.in-Ok-Some.ensures.some) in
     let came = g.met.S.Source.gave_more source c.loop-text.source c.next_text.new.self ready.0.texts (text ∷ []) ready.0.came gives in
@@ -104,7 +104,7 @@ loop-text-preserved g c =
     let source = c.args.source.now in
     let so_far = c.loop-text.invariant.0 in
     let ready = settled d.moment d.left_since (λ (texts : List (List ℕ)). g.S.Source.gave source texts c.loop-text.source) c.args.policy c.args.rule c.args.store.now c.loop-text.store c.settle.new.store (output g.W.Write.contents c.args.writer.now) (output g.W.Write.contents c.loop-text.writer)
-    c.loop-text.all_accepted so_far c.settle.ensures.same c.settle.ensures.any_moment in
+    c.loop-text.all_accepted so_far c.settle.ensures.same c.settle.ensures.kinds c.settle.ensures.any_moment in
     let answered = c.in_ok-reply-in-Ok-Some.ensures in
     let text = c.as_slice-bytes.result.now in
     let gives = subst (λ (t : List ℕ). g.S.Source.gave c.loop-text.source (t ∷ []) c.next_text.new.self) (sym c.as_slice-bytes.ensures.value) (rw c.in-Ok-Some.field-0-is at c.in-Ok-Some.ensures.some) in
@@ -117,7 +117,7 @@ loop-text-preserved g c =
     ] in (
       one_more d.moment d.left_since (λ (texts : List (List ℕ)). g.S.Source.gave source texts c.loop-text.source) (λ (texts : List (List ℕ)). g.S.Source.gave source texts c.next_text.new.self)
           c.args.policy c.args.rule c.args.store.now c.settle.new.store c.answer.new.store (output g.W.Write.contents c.args.writer.now) (output g.W.Write.contents c.loop-text.writer) (output g.W.Write.contents c.answer.new.writer)
-          c.loop-text.all_accepted c.if-all_accepted.all_accepted ready text v came answered.answers answered.line answered.either both,
+          c.loop-text.all_accepted c.if-all_accepted.all_accepted ready text v came c.answer.ensures.kinds answered.answers answered.line answered.either both,
       answered.stored,
       answered.kept,
     )

@@ -10,10 +10,10 @@ returns-in_err-take_entry-clause-stops c =
     let q = err_from_is_err_and c.from_residual.result c.from_residual.ensures.1 in
     let entries = c.args.entries.now in
     rw (q.1, q.2)
-    (⊎_elim (λ e. subst (λ (f : StoreError). StopsFor entries f) (sym e) tt)
-    (λ e. subst (λ (f : StoreError). StopsFor entries f) (sym e.0) (stops_at entries c.loop-i.i _ c.loop-i.repo.patches (omega (arith, c.loop-i-test.true, c.len-i-end.ensures)) c.loop-i.invariant (rw c.text.ensures at e.1)))
+    (⊎_elim (λ e. subst (λ (f : StoreError). StopsFor c.args.kinds entries f) (sym e) tt)
+    (λ e. subst (λ (f : StoreError). StopsFor c.args.kinds entries f) (sym e.0) (stops_at c.args.kinds entries c.loop-i.i _ c.loop-i.repo.patches (omega (arith, c.loop-i-test.true, c.len-i-end.ensures)) c.loop-i.invariant (rw c.text.ensures at e.1)))
     c.in_err-take_entry.ensures.err)
 
 pub loop-i-preserved : goal.loop-i-preserved
 loop-i-preserved c =
-    fold_more c.args.entries.now c.loop-i.i _ c.loop-i.repo.patches c.take_entry.new.repo.patches (omega (arith, c.loop-i-test.true, c.len-i-end.ensures)) c.loop-i.invariant (rw c.text.ensures at c.in_ok-take_entry.ensures.ok)
+    fold_more c.args.kinds c.args.entries.now c.loop-i.i _ c.loop-i.repo.patches c.take_entry.new.repo.patches (omega (arith, c.loop-i-test.true, c.len-i-end.ensures)) c.loop-i.invariant (rw c.text.ensures at c.in_ok-take_entry.ensures.ok)

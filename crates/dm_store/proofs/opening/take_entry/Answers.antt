@@ -6,13 +6,13 @@ use Rattle.dm_store.proofs.opening.take_entry.Goals as goal
 
 pub returns-then-has_taken-clause-ok : goal.returns-then-has_taken-clause-ok
 returns-then-has_taken-clause-ok c =
-    inl (entry_taken c.args.repo.now.patches c.args.entry.now c.in-Some-split_entry.policy c.in-Some-split_entry.text.now c.take-verdict.result c.take-verdict.new.repo.patches
-    c.in-Some-split_entry.ensures.some (c.if-has_taken.ensures.0 refl) c.take-verdict.ensures)
+    inl (entry_taken c.args.kinds c.args.repo.now.patches c.args.entry.now c.in-Some-split_entry.policy c.in-Some-split_entry.text.now c.take_in-verdict.result c.take_in-verdict.new.repo.patches
+    c.in-Some-split_entry.ensures.some (c.if-has_taken.ensures.0 refl) c.take_in-verdict.ensures)
 
 pub returns-clause-err : goal.returns-clause-err
 returns-clause-err c =
     ⊎_elim (λ e. inl e.1)
-    (λ e. inr (e.1, not_taken c.args.repo.now.patches c.args.entry.now c.in-Some-split_entry.policy c.in-Some-split_entry.text.now c.take-verdict.result c.take-verdict.new.repo.patches c.in-Some-split_entry.ensures.some e.0 (refuted c.if-has_taken.ensures) c.take-verdict.ensures))
+    (λ e. inr (e.1, not_taken c.args.kinds c.args.repo.now.patches c.args.entry.now c.in-Some-split_entry.policy c.in-Some-split_entry.text.now c.take_in-verdict.result c.take_in-verdict.new.repo.patches c.in-Some-split_entry.ensures.some e.0 (refuted c.if-has_taken.ensures) c.take_in-verdict.ensures))
     c.fault_of.ensures
 
 pub returns-in-Some-clause-err : goal.returns-in-Some-clause-err

@@ -5,11 +5,11 @@ use Rattle.dm_store.proofs.opening.take_whole.Goals as goal
 
 pub returns-then-has_taken-clause-ok : goal.returns-then-has_taken-clause-ok
 returns-then-has_taken-clause-ok c =
-    whole_taken c.args.repo.now.patches c.args.text.now c.take_within-verdict.result c.take_within-verdict.new.repo.patches
-    (c.if-not-is_empty.ensures.0 refl) (c.if-has_taken.ensures.0 refl) c.take_within-verdict.ensures
+    whole_taken c.args.kinds c.args.repo.now.patches c.args.text.now c.take_within-verdict.result c.take_within-verdict.new.repo.patches
+    (c.if-not-is_empty.ensures.0 refl) (c.if-has_taken.ensures.0 refl) (rw c.with_kinds-limits.ensures at c.take_within-verdict.ensures)
 
 pub returns-clause-err : goal.returns-clause-err
 returns-clause-err c =
     ⊎_elim (λ e. inl e.1)
-    (λ e. inr (e.1, whole_untaken c.args.repo.now.patches c.args.text.now c.take_within-verdict.result c.take_within-verdict.new.repo.patches (c.if-not-is_empty.ensures.0 refl) e.0 (refuted c.if-has_taken.ensures) c.take_within-verdict.ensures))
+    (λ e. inr (e.1, whole_untaken c.args.kinds c.args.repo.now.patches c.args.text.now c.take_within-verdict.result c.take_within-verdict.new.repo.patches (c.if-not-is_empty.ensures.0 refl) e.0 (refuted c.if-has_taken.ensures) (rw c.with_kinds-limits.ensures at c.take_within-verdict.ensures)))
     c.fault_of.ensures

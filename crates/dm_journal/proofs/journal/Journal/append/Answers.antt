@@ -2,7 +2,7 @@ use Rattle.std.proofs.Common.{◌≤◌, ◌<◌, ◌+◌, ◌^◌, ℕ, List, l
 use Rattle.dm_journal.specs.Format.{unit}
 use Rattle.dm_journal.specs.Journal.{checksum_of, next_link}
 use Rattle.dm_journal.proofs.Moments.{weakened, followed}
-use Rattle.dm_journal.proofs.Crash.{first_leaves, staged_by, second_leaves, acknowledged, first_front, second_front, cleared}
+use Rattle.dm_journal.proofs.Crash.{first_leaves, staged_by, second_leaves, acknowledged, has_texts, first_front, second_front, cleared}
 use Rattle.dm_journal.proofs.journal.Journal.append.Goals as goal
 
 pub returns-in_err-write_synced-clause-any_moment :
@@ -34,7 +34,8 @@ returns-clause-acknowledged g c texts has =
     let some : 1 ≤ unit format = omega (arith, c.unit.ensures.is, c.unit.ensures.some) in
     let s = staged_by d.seen d.may_leave d.file_may_leave c.args.self.now texts has _ at text c.checksum-checksum.result _ _ _ c.checksum-checksum.ensures c.saturating_sub-room.ensures (c.deref.ensures.value ∙ c.in_ok-staged.ensures.bytes) fits some c.in_ok-write_synced.ensures.written in
     let links = c.next_link.ensures ∙ ap (next_link format) (c.checksum-checksum.ensures ∙ ap (λ (l : List ℕ). checksum_of l text) has.end.link) in
-    acknowledged format texts text _ _ _ s d.seen d.may_leave d.file_may_leave _ c.in_ok-write_synced-2.ensures.written c.in_ok-write_synced-2.ensures.durable refl links (omega (arith, c.unit.ensures.is, c.filled.ensures.is)) (omega (arith, c.unit.ensures.is, c.len.ensures, c.deref.ensures.len))
+    let ends = acknowledged format texts text _ _ _ s _ _ _ _ c.in_ok-write_synced-2.ensures.written links (omega (arith, c.unit.ensures.is, c.filled.ensures.is)) (omega (arith, c.unit.ensures.is, c.len.ensures, c.deref.ensures.len)) in
+    has_texts d.seen d.may_leave d.file_may_leave _ _ _ ends refl c.in_ok-write_synced-2.ensures.durable
 
 pub returns-clause-any_moment : goal.returns-clause-any_moment
 returns-clause-any_moment g c texts has =

@@ -1,14 +1,16 @@
-use Rattle.std.proofs.Common.{List, ℕ, inl, inr, ⊎_elim, sym, subst}
-use Rattle.dm_journal.specs.Journal.{StandsFor}
+use Rattle.std.proofs.Common.{List, ℕ, map, inl, inr, ⊎_elim, sym, subst}
+use Rattle.dm_journal.specs.Journal.{StandsIn}
+use Rattle.dm_journal.specs.declared.format.Format.{Format}
 use Rattle.dm_journal.proofs.Moments.{weakened}
 use Rattle.std.proofs.lemmas.Result.{err_from_is_err_and}
 use Rattle.dm_journal.proofs.Untouched.{still_has}
 use Rattle.dm_journal.proofs.journal.Journal.replace.Goals as goal
 
 pub returns-clause-any_moment : goal.returns-clause-any_moment
-returns-clause-any_moment g c old stands =
+returns-clause-any_moment g c format old stands =
     let d = g.D.Device in
-    weakened d.moment d.left_since _ _ _ _ (λ file. ⊎_elim (λ same. inl (subst (λ (l : List ℕ). StandsFor l old) (sym same) stands)) (λ made. inr made)) c.put_journal.ensures.any_moment
+    let new = map (λ text. text.now) c.args.texts.now in
+    weakened d.moment d.left_since _ _ _ _ (λ file. ⊎_elim (λ same. inl (subst (λ (l : List ℕ). StandsIn format l old) (sym same) stands)) (λ made. inr (subst (λ (f : Format). StandsIn f file new) c.renewed-format.ensures made))) c.put_journal.ensures.any_moment
 
 pub returns-in_err-self-clause-untouched : goal.returns-in_err-self-clause-untouched
 returns-in_err-self-clause-untouched g c =

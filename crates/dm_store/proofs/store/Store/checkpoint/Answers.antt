@@ -1,6 +1,8 @@
 use Rattle.std.proofs.Common.{ℕ, List, subst}
 use Rattle.dm_tree.proofs.Fronts.{refuted}
 use Rattle.dm_journal.specs.Ready.{HasTexts}
+use Rattle.dm_store.specs.Kinds.{kinds_in}
+use Rattle.dm_store.proofs.KeptKinds.{fold_kinds}
 use Rattle.dm_store.proofs.StoredLemmas.{keeps, weakened}
 use Rattle.dm_store.proofs.WholeLemmas.{one_of_all, same_keeps}
 use Rattle.dm_store.proofs.store.Store.checkpoint.Goals as goal
@@ -10,7 +12,13 @@ returns-in_err-growth-clause-any_moment g c =
     let d = g.D.Device in
     let repo = c.args.self.now.repo.patches in
     let kept = keeps d.seen d.may_leave d.file_may_leave c.args.self.now.journal c.requires.entries repo c.requires.has c.requires.folds in
-    weakened d.moment d.left_since _ _ _ _ (same_keeps repo) (c.put_repo.ensures.any_moment repo kept)
+    weakened d.moment d.left_since _ _ _ _ (same_keeps (kinds_in c.args.self.now) repo) (c.put_repo.ensures.any_moment repo kept)
+
+pub returns-in_default-clause-fits : goal.returns-in_default-clause-fits
+returns-in_default-clause-fits g c =
+    let repo = c.args.self.now.repo.patches in
+    let unfit = (rw c.in_default.is at c.in_ok-growth.ensures.none) (fold_kinds (kinds_in c.args.self.now) c.requires.entries repo c.requires.folds) in
+    (λ done. absurd (cc), λ fits. absurd (unfit fits))
 
 pub returns-clause-one_entry : goal.returns-clause-one_entry
 returns-clause-one_entry g c =
@@ -24,4 +32,4 @@ returns-clause-any_moment g c =
     let d = g.D.Device in
     let repo = c.args.self.now.repo.patches in
     let kept = keeps d.seen d.may_leave d.file_may_leave c.args.self.now.journal c.requires.entries repo c.requires.has c.requires.folds in
-    weakened d.moment d.left_since _ _ _ _ (same_keeps repo) (c.put_repo.ensures.any_moment repo kept)
+    weakened d.moment d.left_since _ _ _ _ (same_keeps (kinds_in c.args.self.now) repo) (c.put_repo.ensures.any_moment repo kept)
