@@ -1,16 +1,18 @@
 -- Contexts that stand alone.
 use Rattle.std.proofs.Common.{◌≡◌, ◌≢◌, ℕ, false, eqb, List, [], ◌∷◌, length, refl, sym, ◌∙◌}
 use Rattle.dm_info.specs.PatchInfo.{PatchInfo}
+use Rattle.dm_named.specs.declared.limits.Kinds.{Kinds}
 use Rattle.dm_named.specs.declared.limits.Limits.{Limits}
 use Rattle.dm_named.specs.declared.fault.FaultKind.TheVariants.{NoMemory, NoNewPatches}
 use Rattle.dm_named.specs.declared.fault.ReadFault.{ReadFault}
-use Rattle.dm_bundle.specs.Bundles.{BundleText, Contents}
+use Rattle.dm_bundle.specs.Bundles.{BundleTextIn, Contents}
 use Rattle.dm_bundle.specs.Faults.{FaultWithin}
 use Rattle.dm_send.specs.Telling.{LacksHeading, named_in}
 
 -- a bundle without new patches names its context alone
-pub alone : {text : List ℕ} {names : List PatchInfo} (b : Contents) → b.patches ≡ [] → names ≡ named_in b → BundleText text b → BundleText text (record { patches = []; context = names })
-alone {text} {names} b none named stands =
+pub alone : {kinds : Kinds} {text : List ℕ} {names : List PatchInfo} (b : Contents) → b.patches ≡ [] → names ≡ named_in b → BundleTextIn kinds text b
+    → BundleTextIn kinds text (record { patches = []; context = names })
+alone {kinds} {text} {names} b none named stands =
     let whole : b ≡ record { patches = []; context = b.context } = rw none refl in
     rw (named, none) (rw whole at stands)
 

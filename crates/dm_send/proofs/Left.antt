@@ -22,12 +22,13 @@ use Rattle.dm_repo.proofs.Members.{here, one_of, none_of, infos_of-append}
 use Rattle.dm_repo.proofs.Squares.{named_back, named_runs}
 use Rattle.dm_repo.proofs.Staircases.{runs_on, runs_part, split_back, split_in, split_out, split_runs}
 use Rattle.dm_send.specs.Leaving.{Leaves, nothing, goes, stays, follows}
+use Rattle.dm_send.specs.Minimizing.{Minimizes}
 use Rattle.dm_send.specs.Obliterating.{Obliterates, RefusesToObliterate}
 use Rattle.dm_send.specs.Sending.{Accepts, IsRefusedAs, Parts, RefusesThere, behind, just, no_names, inside, outside}
+use Rattle.dm_send.proofs.Minimal as minimal
 use Rattle.dm_send.proofs.Parting.{front_distinct, no_doubles}
 use Rattle.dm_send.proofs.Sent.{is_memory}
 use Rattle.dm_send.proofs.Stairs.{rect_infos, row_infos}
-use Rattle.dm_send.proofs.Whole.{takes_whole}
 
 -- names stay where patches pass others
 rect_names : {xs xs' ys ys' : List Patch} → Rectangle NamedCommutes xs ys ys' xs' → infos_of xs' ≡ infos_of xs
@@ -124,7 +125,7 @@ module _ (repo : List Patch) (chosen : List PatchInfo) (stay go : List Patch) (b
   pub stay_alone : HasNoDoubles stay []
   stay_alone = front_distinct (Contains (infos_of stay)) stay go (length go) parts distinct
 
-  pub go_apart : HasNoDoubles go (reverse (infos_of stay))
+  go_apart : HasNoDoubles go (reverse (infos_of stay))
   go_apart = rw (take_all (length go) go (omega arith)) at (no_doubles (Contains (infos_of stay)) stay go (length go) parts distinct)
 
   pub same_tree : (t : LawfulMap) → Fold repo t ↔ Fold (stay ++ go) t
@@ -140,30 +141,41 @@ module _ (repo : List Patch) (chosen : List PatchInfo) (stay go : List Patch) (b
           let a = runs_part stay f.runs in
           record { start = f.start; is_root = f.is_root; runs = split_back Patch LawfulMap NamedCommutes PatchLeads named_runs named_back _ split a.1 a.2 }
 
-  pub obliterates : IsRepo stay → Accepts stay (behind stay go) → Obliterates repo chosen stay (behind stay go) bound
-  obliterates ok a = record {
-    go = go;
-    leaves = l;
-    names = parts;
-    is_repo = ok;
-    is_bundle = refl;
-    is_taken = takes_whole stay go (λ i c h. apart l distinct h c) a;
-    same_tree = same_tree;
-  }
+  go_new : (i : PatchInfo) → Contains (infos_of go) i → Contains (infos_of stay) i → ⊥
+  go_new i c h = apart l distinct h c
 
   -- what stays, or the bundle, is refused
   pub refuses_stay : (why told : Refusal) → (why ≡ NoMemory → told ≡ NoMemory) → (why ≢ NoMemory → told ≡ Full) → IsRefusedAs [] (just stay) why → RefusesToObliterate repo chosen told
   refuses_stay why told memory full r = elim (is_memory why) [ inl e ↦ rw (memory e) tt | inr n ↦ rw (full n) (stay, go, bound, l, inl (why, n, r)) ]
 
-  pub refuses_bundle : (why : Refusal) → RefusesThere stay (behind stay go) why → RefusesToObliterate repo chosen why
-  refuses_bundle Full r = (stay, go, bound, l, inr r)
-  refuses_bundle NoMemory r = tt
-  refuses_bundle (MissingContext c) r = absurd r
-  refuses_bundle (MissingDependency n d) r = absurd r
-  refuses_bundle (ContextDepends h k) r = absurd r
-  refuses_bundle (HeldDepends h n) r = absurd r
-  refuses_bundle (DoesNotFit n) r = absurd r
-  refuses_bundle (Conflicts n h) r = absurd r
+  module _ (needed sent passed : List Patch) (m : Minimizes NamedCommutes stay go needed sent passed) where
+    pub sent_apart : IsRepo stay → HasNoDoubles sent (reverse (infos_of needed))
+    sent_apart ok = minimal.sent_apart stay go ok go_new needed sent passed m go_apart
+
+    pub obliterates : IsRepo stay → Accepts stay (behind needed sent) → Obliterates repo chosen stay (behind needed sent) bound
+    obliterates ok a = record {
+      go = go;
+      leaves = l;
+      names = parts;
+      is_repo = ok;
+      needed = needed;
+      sent = sent;
+      passed = passed;
+      minimizes = m;
+      is_bundle = refl;
+      is_taken = minimal.takes stay go ok go_new needed sent passed m a;
+      same_tree = same_tree;
+    }
+
+    pub refuses_bundle : (why : Refusal) → RefusesThere stay (behind needed sent) why → RefusesToObliterate repo chosen why
+    refuses_bundle Full r = (stay, go, bound, l, inr (needed, sent, passed, m, r))
+    refuses_bundle NoMemory r = tt
+    refuses_bundle (MissingContext c) r = absurd r
+    refuses_bundle (MissingDependency n d) r = absurd r
+    refuses_bundle (ContextDepends h k) r = absurd r
+    refuses_bundle (HeldDepends h n) r = absurd r
+    refuses_bundle (DoesNotFit n) r = absurd r
+    refuses_bundle (Conflicts n h) r = absurd r
 
 -- a square that was tried with a copy of what stands before
 pub tried_before : (comes : Bool) (x y t y' x' : Patch) → t ≡ x → MatchBool comes (NamedCommutes t y y' x') ((q p : Patch) → NamedCommutes t y q p → ⊥) →

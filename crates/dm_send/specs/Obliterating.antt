@@ -3,6 +3,7 @@ use Rattle.std.specs.Prelude.{◌≡◌, ◌↔◌, ◌⊎◌, List, [], ◌++�
 use Rattle.dm_prim.specs.Primitives.{LawfulMap}
 use Rattle.dm_info.specs.PatchInfo.{PatchInfo}
 use Rattle.dm_named.specs.Patches.{Patch}
+use Rattle.dm_named.specs.Commuting.{NamedCommutes}
 use Rattle.dm_bundle.specs.Patches.{infos_of}
 use Rattle.dm_bundle.specs.Bundles.{Contents}
 use Rattle.dm_repo.specs.declared.refusal.Refusal.{Refusal}
@@ -10,6 +11,7 @@ use Rattle.dm_repo.specs.declared.refusal.Refusal.TheVariants.{Full, NoMemory}
 use Rattle.dm_repo.specs.Folds.{Fold}
 use Rattle.dm_repo.specs.Repositories.{IsRepo}
 use Rattle.dm_send.specs.Leaving.{Leaves}
+use Rattle.dm_send.specs.Minimizing.{Minimizes}
 use Rattle.dm_send.specs.Sending.{IsRefused, Parts, TakesAs, behind, just}
 
 -- patches of these names go, and those that are bound to them; what stays is a repository, and the bundle of what goes brings the tree back
@@ -19,15 +21,20 @@ pub record Obliterates (repo : List Patch) (chosen : List PatchInfo) (stay : Lis
   -- each patch stays or goes, and in its order
   pub names : Parts (Contains (infos_of stay)) (infos_of repo) (infos_of stay) (infos_of go)
   pub is_repo : IsRepo stay
-  -- the bundle has what goes, behind all that stays
-  pub is_bundle : b ≡ behind stay go
-  -- what stays takes it as it is, and then the tree is that of the repository
+  -- the bundle has what goes, and names of what stays only those that can't pass it, and each other
+  pub needed : List Patch
+  pub sent : List Patch
+  pub passed : List Patch
+  pub minimizes : Minimizes NamedCommutes stay go needed sent passed
+  pub is_bundle : b ≡ behind needed sent
+  -- what stays takes it, and has then what goes behind its own; the tree is that of the repository
   pub is_taken : TakesAs stay b go
   pub same_tree : (t : LawfulMap) → Fold repo t ↔ Fold (stay ++ go) t
 
 -- an empty repository refuses what stays, or what stays refuses the bundle of what goes; memory may run out at any time
 abbrev pub RefusesToObliterate : List Patch → List PatchInfo → Refusal → Type 0
 RefusesToObliterate repo chosen Full = (stay : List Patch) × (go : List Patch) × (bound : List (PatchInfo × PatchInfo)) ×
-    Leaves chosen repo stay go bound × (IsRefused [] (just stay) ⊎ IsRefused stay (behind stay go))
+    Leaves chosen repo stay go bound × (IsRefused [] (just stay) ⊎
+    ((needed : List Patch) × (sent : List Patch) × (passed : List Patch) × Minimizes NamedCommutes stay go needed sent passed × IsRefused stay (behind needed sent)))
 RefusesToObliterate repo chosen NoMemory = Unit {0}
 RefusesToObliterate repo chosen other = ⊥

@@ -4,7 +4,7 @@ use Rattle.dm_info.specs.PatchInfo.{PatchInfo}
 use Rattle.dm_named.specs.declared.limits.Limits.{Limits}
 use Rattle.dm_named.specs.declared.fault.FaultKind.TheVariants.{NoNewPatches}
 use Rattle.dm_named.specs.declared.fault.ReadFault.{ReadFault}
-use Rattle.dm_bundle.specs.Bundles.{BundleText, Contents}
+use Rattle.dm_bundle.specs.Bundles.{BundleTextIn, Contents}
 use Rattle.dm_bundle.specs.Faults.{FaultWithin}
 use Rattle.dm_bundle.specs.Heading.{heading_line}
 use Rattle.dm_bundle.specs.Patches.{infos_of}
@@ -21,16 +21,16 @@ named_in b = infos_of b.patches ++ b.context
 abbrev pub LacksHeading : Limits → List ℕ → Type 0
 LacksHeading limits text = (end : ℕ) × FaultWithin limits text NoNewPatches end
 
--- these are the names in the bundle that the text stands for; or a heading is missing, and with it the text stands for a bundle of no patches that
--- rests on these
+-- these are the names in the bundle that the text stands for, whose primitives are of the kinds that the limits allow; or a heading is missing, and with it
+-- the text stands for a bundle of no patches that rests on these
 abbrev pub TellsNames : Limits → List ℕ → List PatchInfo → Type 0
 TellsNames limits text names =
-    ((b : Contents) × BundleText text b × (names ≡ named_in b)) ⊎
-    (LacksHeading limits text × BundleText (headed text) (record { patches = []; context = names }))
+    ((b : Contents) × BundleTextIn limits.kinds text b × (names ≡ named_in b)) ⊎
+    (LacksHeading limits text × BundleTextIn limits.kinds (headed text) (record { patches = []; context = names }))
 
 -- why a text, read within these limits, tells no names: it has a heading and this fault; or a heading is missing, and with it the text has this fault, or
 -- new patches
 pub data IsNamesFault (limits : Limits) (text : List ℕ) (e : ReadFault) : Type 0 where
   in_bundle : e.kind ≢ NoNewPatches → FaultWithin limits text e.kind e.at → IsNamesFault limits text e
   in_context : LacksHeading limits text → (at : ℕ) → FaultWithin limits (headed text) e.kind at → e.at ≡ at - 13 → IsNamesFault limits text e
-  has_patches : e.kind ≡ NoNewPatches → FaultWithin limits text e.kind e.at → (b : Contents) → BundleText (headed text) b → b.patches ≢ [] → IsNamesFault limits text e
+  has_patches : e.kind ≡ NoNewPatches → FaultWithin limits text e.kind e.at → (b : Contents) → BundleTextIn limits.kinds (headed text) b → b.patches ≢ [] → IsNamesFault limits text e

@@ -3,7 +3,7 @@ ghost use Rattle.std.specs.Prelude.{IfErr, IfOk};
 ghost use Rattle.dm_send.specs.Obliterating.{Obliterates, RefusesToObliterate};
 
 use crate::leaving::part;
-use crate::minimizing::named_all;
+use crate::minimizing::{minimize, named_all};
 use crate::sending::{accepted, is_lawful, names_of, refused_there, repo_of};
 use dm_bundle::Bundle;
 use dm_info::Info;
@@ -15,7 +15,7 @@ use std::alloc::Allocator;
 pub struct Obliterated<A: Allocator> {
     /// What stays.
     pub repo: Repo<A>,
-    /// What goes, behind all that stays.
+    /// What goes, behind those that stay and that it can't pass: its context names these, and no others.
     pub bundle: Bundle<A>,
     /// The names of those that go though they weren't chosen, in their order. Each stands with the name of one that it can't do
     /// without: the last of those that stop it.
@@ -24,6 +24,9 @@ pub struct Obliterated<A: Allocator> {
 
 /// Takes the patches of these names out of a repository, and with them each patch that can't do without one that goes. A name that
 /// isn't held is passed over. The repository stays as it was.
+///
+/// The bundle's context names those of what stays that what goes can't pass, and what these need (`darcs obliterate -o` does so).
+/// What stays takes the bundle, and so does any repository that holds these.
 ///
 /// It refuses with [`Refusal::Full`] where a repository of what stays can't be made, or refuses the bundle. The contract doesn't
 /// say why it would; the one cause that we know is a path of too many names.
@@ -38,14 +41,15 @@ pub fn obliterate<A: Allocator, B: Allocator + Copy>(
     is_lawful(repo);
     let parting = part(alloc, repo, chosen)?;
     let list = named_all(alloc, parting.stay)?;
-    let names = names_of(alloc, &list)?;
     let gone = named_all(alloc, parting.go)?;
     let stays = match repo_of(alloc, list) {
         Ok(stays) => stays,
         Err(why) => return Err(refused_there(why)),
     };
     is_lawful(&stays);
-    let bundle = accepted(alloc, &stays, Bundle::without_doubles(gone, names))?;
+    let minimal = minimize(alloc, &stays, gone)?;
+    let names = names_of(alloc, &minimal.needed)?;
+    let bundle = accepted(alloc, &stays, Bundle::without_doubles(minimal.sent, names))?;
     Ok(Obliterated {
         repo: stays,
         bundle,

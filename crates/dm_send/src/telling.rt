@@ -1,6 +1,6 @@
 //! Reading what somebody holds.
 ghost use Rattle.std.specs.Prelude.{◌≡◌, ◌≢◌, ℕ, ◌-◌, [], IfErr, IfOk, IsTrue, MatchOption};
-ghost use Rattle.dm_bundle.specs.Bundles.{BundleText, Contents};
+ghost use Rattle.dm_bundle.specs.Bundles.{BundleTextIn, Contents};
 ghost use Rattle.dm_bundle.specs.Faults.{FaultWithin};
 ghost use Rattle.dm_send.specs.Telling.{IsNamesFault, TellsNames, headed, named_in};
 
@@ -46,8 +46,8 @@ fn names_of_context<A: Allocator + Copy>(
     limits: Limits,
 ) -> Result<Option<Vec<Info<A>, A>>, ReadFault>
     ensures found { IfOk result (λ found. MatchOption found
-        ((b : Contents) × BundleText (headed text.now) b × (b.patches ≢ []))
-        (λ names. BundleText (headed text.now) (record { patches = []; context = names.items }))) }
+        ((b : Contents) × BundleTextIn limits.kinds (headed text.now) b × (b.patches ≢ []))
+        (λ names. BundleTextIn limits.kinds (headed text.now) (record { patches = []; context = names.items }))) }
     ensures fault { IfErr result (λ e. e.kind ≢ FaultKind.NoMemory → (at : ℕ) × (e.at ≡ at - 13) × FaultWithin limits (headed text.now) e.kind at) }
 {
     let whole = match with_heading(alloc, text) {

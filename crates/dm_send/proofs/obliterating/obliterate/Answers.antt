@@ -1,6 +1,6 @@
 use Rattle.std.proofs.Common.{◌∙◌}
 use Rattle.std.proofs.lemmas.Result.{err_from_is_err_and}
-use Rattle.dm_send.proofs.Left.{go_apart, obliterates, refuses_bundle, refuses_stay, stay_alone}
+use Rattle.dm_send.proofs.Left.{obliterates, refuses_bundle, refuses_stay, sent_apart, stay_alone}
 use Rattle.dm_send.proofs.obliterating.obliterate.Goals as goal
 
 pub repo_of-requires : goal.repo_of-requires
@@ -17,21 +17,31 @@ returns-in-Err-clause-refusal g c =
 pub without_doubles-requires : goal.without_doubles-requires
 without_doubles-requires g c =
     let p = c.in_ok-parting.parting in
-    rw (c.in_ok-gone.ensures, c.in_ok-names.ensures, c.deref.ensures.value, c.in_ok-list.ensures)
-    (go_apart c.args.repo.now.patches c.args.chosen.now p.stay.items p.go.items p.bound.items c.is_lawful.ensures.distinct c.in_ok-parting.ensures)
+    let stays = c.in-Ok.ensures ∙ c.in_ok-list.ensures in
+    let minimal = c.in_ok-minimal.minimal in
+    let m = rw (stays, c.in_ok-gone.ensures) at c.in_ok-minimal.ensures.1 in
+    rw (c.in_ok-names.ensures, c.deref.ensures.value)
+    (sent_apart c.args.repo.now.patches c.args.chosen.now p.stay.items p.go.items p.bound.items c.is_lawful.ensures.distinct c.in_ok-parting.ensures
+    minimal.needed.items minimal.sent.items c.in_ok-minimal.ensures.0 m (rw stays at c.is_lawful-2.ensures))
 
 pub returns-in_err-bundle-clause-refusal : goal.returns-in_err-bundle-clause-refusal
 returns-in_err-bundle-clause-refusal g c =
     let p = c.in_ok-parting.parting in
     let stays = c.in-Ok.ensures ∙ c.in_ok-list.ensures in
-    let refused = rw (c.without_doubles.ensures, c.in_ok-gone.ensures, c.in_ok-names.ensures, c.deref.ensures.value, c.in_ok-list.ensures, stays) at c.in_err-bundle.ensures.refusal in
+    let minimal = c.in_ok-minimal.minimal in
+    let m = rw (stays, c.in_ok-gone.ensures) at c.in_ok-minimal.ensures.1 in
+    let refused = rw (c.without_doubles.ensures, c.in_ok-names.ensures, c.deref.ensures.value, stays) at c.in_err-bundle.ensures.refusal in
     let e = err_from_is_err_and c.from_residual-in_err-bundle.result c.from_residual-in_err-bundle.ensures.1 in
-    rw (e.1, e.2) (refuses_bundle c.args.repo.now.patches c.args.chosen.now p.stay.items p.go.items p.bound.items c.is_lawful.ensures.distinct c.in_ok-parting.ensures _ refused)
+    rw (e.1, e.2) (refuses_bundle c.args.repo.now.patches c.args.chosen.now p.stay.items p.go.items p.bound.items c.is_lawful.ensures.distinct c.in_ok-parting.ensures
+    minimal.needed.items minimal.sent.items c.in_ok-minimal.ensures.0 m _ refused)
 
 pub returns-clause-obliterates : goal.returns-clause-obliterates
 returns-clause-obliterates g c =
     let p = c.in_ok-parting.parting in
     let stays = c.in-Ok.ensures ∙ c.in_ok-list.ensures in
-    let accepted = rw (c.without_doubles.ensures, c.in_ok-gone.ensures, c.in_ok-names.ensures, c.deref.ensures.value, c.in_ok-list.ensures, stays) at c.in_ok-bundle.ensures.accepted in
+    let minimal = c.in_ok-minimal.minimal in
+    let m = rw (stays, c.in_ok-gone.ensures) at c.in_ok-minimal.ensures.1 in
+    let accepted = rw (c.without_doubles.ensures, c.in_ok-names.ensures, c.deref.ensures.value, stays) at c.in_ok-bundle.ensures.accepted in
     rw (accepted.0, stays)
-    (obliterates c.args.repo.now.patches c.args.chosen.now p.stay.items p.go.items p.bound.items c.is_lawful.ensures.distinct c.in_ok-parting.ensures (rw stays at c.is_lawful-2.ensures) accepted.1)
+    (obliterates c.args.repo.now.patches c.args.chosen.now p.stay.items p.go.items p.bound.items c.is_lawful.ensures.distinct c.in_ok-parting.ensures
+    minimal.needed.items minimal.sent.items c.in_ok-minimal.ensures.0 m (rw stays at c.is_lawful-2.ensures) accepted.1)
