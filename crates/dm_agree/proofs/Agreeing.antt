@@ -1,10 +1,10 @@
 -- A mirror of a run has taken its texts in turn, and they are those that the posters sent.
-use Rattle.std.proofs.Common.{◌≡◌, ◌↔◌, ℕ, zero, suc, List, [], ◌∷◌, Option, Some, None, slice_get, length, inl, inr, ◌++◌, ap, sym, subst, arith}
+use Rattle.std.proofs.Common.{◌≡◌, ◌↔◌, ℕ, zero, suc, List, [], ◌∷◌, Option, Some, None, slice_get, length, ap, sym, subst, arith}
 use Rattle.std.specs.List.{All, Contains, AllByRecursion}
-use Rattle.std.proofs.lemmas.List.Elements.{Contains-append_cases}
 use Rattle.std.proofs.lemmas.Option.{slice_get_within, slice_get-get_or}
 use Rattle.dm_named.specs.declared.limits.Limits.{Limits}
 use Rattle.dm_named.specs.Patches.{Patch}
+use Rattle.dm_bundle.specs.Patches.{infos_of, SameMembers}
 use Rattle.dm_repo.specs.declared.policy.Policy.{Policy}
 use Rattle.dm_repo.specs.declared.policy.Policy.TheVariants.{Refuse}
 use Rattle.dm_repo.specs.Repositories.{Repository, IsRepo}
@@ -12,17 +12,16 @@ use Rattle.dm_repo.proofs.Keeps.{merge_is_repo}
 use Rattle.dm_repo.proofs.Trees.{empty_repo}
 use Rattle.dm_scratch.specs.declared.verdict.Verdict.{Verdict}
 use Rattle.dm_scratch.specs.Taking.{TakesWithin, IsAccepted, bundle, malformed, no_memory}
-use Rattle.dm_mirror.specs.declared.mirror.Mirror.{Mirror}
+use Rattle.dm_mirror.specs.TheMirror.{Mirror}
 use Rattle.dm_mirror.specs.declared.outcome.Outcome.{Outcome}
 use Rattle.dm_mirror.specs.PlainFolds.{bundle_texts, verdicts_given}
 use Rattle.dm_mirror.specs.Plans.{IsStart, empty, taken}
 use Rattle.dm_mirror.specs.Runs.{AllAccepted, IsAt, IsFine, IsServed, IsRunOf, mirror_mails}
 use Rattle.dm_mirror.proofs.DeliveryLemmas.{item_at}
 use Rattle.dm_mirror.proofs.ListLemmas.{one_by_one}
-use Rattle.dm_converge.specs.Pools.{NamesStandForOne}
 use Rattle.dm_converge.proofs.Converging.{taken_or_kept, same_trees}
-use Rattle.dm_converge.proofs.Networks.{taken_texts_converge}
-use Rattle.dm_converge.proofs.Accepting.{accepted_texts_converge, same_way}
+use Rattle.dm_converge.proofs.Accepting.{same_way}
+use Rattle.dm_agree.proofs.Reading.{trees_agree}
 use Rattle.dm_agree.specs.Laws as laws
 use Rattle.dm_agree.specs.Laws.{sent_texts, IsMirrorOver}
 use Rattle.dm_agree.proofs.Texts.{of_poster, by_poster, all_mails_texts, sent_by, among_sent}
@@ -88,25 +87,17 @@ mirrors_take_what_is_sent texts starts policies bound o run m l text =
     subst (λ ms. Contains (bundle_texts ms) text ↔ Contains (sent_texts texts) text) (sym (ap mirror_mails mirror.1))
     (took_sent texts start.0 policy.0 mirror.0 (run.each m start.0 policy.0 mirror.0 start.1 policy.1 mirror.1) text)
 
--- in fewer texts a name stands for one patch too
-fewer_stand : (pool more : List (List ℕ)) (base : List Patch) → ((text : List ℕ) → Contains pool text → Contains more text) → NamesStandForOne more base → NamesStandForOne pool base
-fewer_stand pool more base f n = record {
-  among = λ b c i h k. n.among b c i (h.0, f h.0 h.1, h.2) (k.0, f k.0 k.1, k.2);
-  beside = λ b i h. n.beside b i (h.0, f h.0 h.1, h.2);
-}
-
 pub mirrors_agree : laws.MirrorsAgree
 mirrors_agree texts starts policies bound o run limits text base one other m n stand same =
     let a = took texts starts policies bound o run limits text base one m in
     let b = took texts starts policies bound o run limits text base other n in
     let f = took_sent texts base a.policy a.mirror a.served in
     let g = took_sent texts base b.policy b.mirror b.served in
-    let both = fewer_stand (texts_of a.mirror ++ texts_of b.mirror) (sent_texts texts) base (λ x c. elim (Contains-append_cases (texts_of a.mirror) (texts_of b.mirror) x c) [ inl k ↦ (f x).0 k | inr k ↦ (g x).0 k ]) stand in
     let names = rw (ap (λ r. r.patches) a.is_repo, ap (λ r. r.patches) b.is_repo) at same in
     record {
       trees = rw (a.is_repo, b.is_repo) (same_trees a.mirror.repo.patches b.mirror.repo.patches
-          (taken_texts_converge base (texts_of a.mirror) (texts_of b.mirror) a.policy b.policy (verdicts_given a.mirror.verdicts.items) (verdicts_given b.mirror.verdicts.items) a.mirror.repo.patches b.mirror.repo.patches
-          (start_repo limits text base m.is_start) both a.served.folded.taken b.served.folded.taken names));
+          (trees_agree (sent_texts texts) (texts_of a.mirror) (texts_of b.mirror) base a.policy b.policy (verdicts_given a.mirror.verdicts.items) (verdicts_given b.mirror.verdicts.items) a.mirror.repo.patches b.mirror.repo.patches
+          (λ x. (f x).0) (λ x. (g x).0) (start_repo limits text base m.is_start) stand a.served.folded.taken b.served.folded.taken names));
       names = same;
     }
 
@@ -133,15 +124,10 @@ accepting_mirrors_agree texts starts policies bound o run all limits text base o
     let g = took_sent texts base b.policy b.mirror b.served in
     let fine = accepted_at o a.number a.mirror all a.is_at in
     let other_fine = accepted_at o b.number b.mirror all b.is_at in
-    let stands = fewer_stand (texts_of a.mirror) (sent_texts texts) base (λ x. (f x).0) stand in
     let vs = verdicts_given a.mirror.verdicts.items in
     let ws = verdicts_given b.mirror.verdicts.items in
-    record {
-      trees = rw (a.is_repo, b.is_repo) (same_trees a.mirror.repo.patches b.mirror.repo.patches
-          (accepted_texts_converge base (texts_of a.mirror) (texts_of b.mirror) a.policy b.policy vs ws a.mirror.repo.patches b.mirror.repo.patches
-          (start_repo limits text base m.is_start) stands (λ x. ((λ c. (g x).1 ((f x).0 c)), (λ c. (f x).1 ((g x).0 c)))) a.served.folded.taken b.served.folded.taken fine other_fine));
-      names = rw (a.is_repo, b.is_repo) (λ i. (
-        same_way base (texts_of a.mirror) (texts_of b.mirror) a.policy b.policy vs ws a.mirror.repo.patches b.mirror.repo.patches (λ x c. (g x).1 ((f x).0 c)) a.served.folded.taken b.served.folded.taken fine other_fine i,
-        same_way base (texts_of b.mirror) (texts_of a.mirror) b.policy a.policy ws vs b.mirror.repo.patches a.mirror.repo.patches (λ x c. (f x).1 ((g x).0 c)) b.served.folded.taken a.served.folded.taken other_fine fine i,
-      ));
-    }
+    let names : SameMembers (infos_of one.patches) (infos_of other.patches) = rw (a.is_repo, b.is_repo) (λ i. (
+      same_way base (texts_of a.mirror) (texts_of b.mirror) a.policy b.policy vs ws a.mirror.repo.patches b.mirror.repo.patches (λ x c. (g x).1 ((f x).0 c)) a.served.folded.taken b.served.folded.taken fine other_fine i,
+      same_way base (texts_of b.mirror) (texts_of a.mirror) b.policy a.policy ws vs b.mirror.repo.patches a.mirror.repo.patches (λ x c. (f x).1 ((g x).0 c)) b.served.folded.taken a.served.folded.taken other_fine fine i,
+    )) in
+    mirrors_agree texts starts policies bound o run limits text base one other m n stand names

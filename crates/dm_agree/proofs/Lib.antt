@@ -1,2 +1,10 @@
 mod Texts
+mod Reading
 mod Agreeing
+mod Sames
+mod Sets
+mod Alike
+mod Agreed
+mod Owning
+mod Searching
+mod Bringing

@@ -2,7 +2,8 @@
 ghost use Rattle.dm_agree.specs.Laws.{AcceptingMirrorsAgree, MirrorsAgree, MirrorsTakeWhatIsSent};
 
 /// Two mirrors of a run over one base whose repositories hold the same names have the same tree, in whatever order they took the
-/// bundles, under whatever policies, and whatever was refused, where a name stands for one patch in what the posters send.
+/// bundles, under whatever policies, and whatever was refused, where a name stands for one patch in what is read of what the posters
+/// send.
 pub fn mirrors_agree()
     ensures { MirrorsAgree }
 {}
@@ -13,7 +14,7 @@ pub fn mirrors_take_what_is_sent()
 {}
 
 /// Where a run accepted all, two of its mirrors over one base have the same names and the same tree, in whatever order they took the
-/// bundles and under whatever policies, where a name stands for one patch in what the posters send.
+/// bundles and under whatever policies, where a name stands for one patch in what is read of what the posters send.
 pub fn accepting_mirrors_agree()
     ensures { AcceptingMirrorsAgree }
 {}

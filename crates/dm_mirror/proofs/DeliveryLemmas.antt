@@ -8,7 +8,7 @@ use Rattle.dm_mail.specs.declared.ends.Sent.{Sent}
 use Rattle.dm_mail.specs.Mails.{bundle, mark, mails_of, is_closed, count_bundles, numbered_mails, AllBelow}
 use Rattle.dm_mail.specs.Ends.{MailId, outlet_of, sent_id, sent_poster, sent_mails}
 use Rattle.dm_mail.specs.Laws.{total, AllTakenIsAllSent}
-use Rattle.dm_mirror.specs.declared.mirror.Mirror.{Mirror}
+use Rattle.dm_mirror.specs.TheMirror.{Mirror}
 use Rattle.dm_mirror.specs.Deliveries.{all_mails, mails_in}
 use Rattle.dm_mirror.specs.Jobs.{IsSentIn}
 use Rattle.dm_mirror.specs.Lists.{EachFrom}

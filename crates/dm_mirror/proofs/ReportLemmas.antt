@@ -7,7 +7,7 @@ use Rattle.dm_repo.specs.Repositories.{IsTreeOf}
 use Rattle.dm_scratch.specs.Printing.{line_of, listing_text}
 use Rattle.dm_scratch.specs.declared.verdict.Verdict.{Verdict}
 use Rattle.dm_mail.specs.declared.mail.Mail.{Mail}
-use Rattle.dm_mirror.specs.declared.mirror.Mirror.{Mirror}
+use Rattle.dm_mirror.specs.TheMirror.{Mirror}
 use Rattle.dm_mirror.specs.Report.{mail_text, mails_text, closed_text, IsMirrorText, AreMirrorTexts, receipt_text, sent_text}
 
 -- one mail more

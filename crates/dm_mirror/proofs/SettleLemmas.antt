@@ -7,7 +7,7 @@ use Rattle.dm_mail.specs.Ends.{MailId, inlet_id}
 use Rattle.dm_mirror.specs.declared.jobs.Kept.{Kept}
 use Rattle.dm_mirror.specs.declared.jobs.PostJob.{PostJob}
 use Rattle.dm_mirror.specs.declared.jobs.TakeJob.{TakeJob}
-use Rattle.dm_mirror.specs.declared.mirror.Mirror.{Mirror}
+use Rattle.dm_mirror.specs.TheMirror.{Mirror}
 use Rattle.dm_mirror.specs.declared.plan.Plan.{Plan}
 use Rattle.dm_mirror.specs.Jobs.{IsSentIn, AreSent, AreRowsSent, IsJobOf, IsOpened, IsKept, IsSettled, DoesPost, DoesTake}
 use Rattle.dm_mirror.specs.Mirrors.{IsReady}

@@ -12,7 +12,7 @@ use Rattle.dm_mirror.specs.declared.jobs.PostJob.{PostJob}
 use Rattle.dm_mirror.specs.declared.jobs.TakeJob.{TakeJob}
 use Rattle.dm_mirror.specs.declared.jobs.Kept.{Kept}
 use Rattle.dm_mirror.specs.declared.poster.Poster.{Poster}
-use Rattle.dm_mirror.specs.declared.mirror.Mirror.{Mirror}
+use Rattle.dm_mirror.specs.TheMirror.{Mirror}
 use Rattle.dm_mirror.specs.Deliveries.{all_mails, mails_in}
 use Rattle.dm_mirror.specs.Lists.{EachWith, EachFrom}
 use Rattle.dm_mirror.specs.PlainFolds.{IsPlainFold}

@@ -1,3 +1,4 @@
+pub mod TheMirror
 pub mod Limits
 pub mod Lists
 pub mod Deliveries

@@ -1,6 +1,6 @@
 -- A mirror before, during and after a run. For the clauses of private functions and for ghost fields alone.
 use Rattle.std.specs.Prelude.{◌≡◌, ◌≤◌, ℕ, List, [], length, vec_capacity, slice_get, Some}
-use Rattle.dm_mirror.specs.declared.mirror.Mirror.{Mirror}
+use Rattle.dm_mirror.specs.TheMirror.{Mirror}
 
 -- it has taken nothing, and has room for so many mails with their verdicts, and for a receipt of each of so many posters
 pub record IsReady (posters expected : ℕ) (mirror : Mirror) : Type 0 where

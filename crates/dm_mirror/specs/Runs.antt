@@ -10,7 +10,7 @@ use Rattle.dm_mail.specs.declared.mail.Mail.{Mail}
 use Rattle.dm_mail.specs.declared.ends.Inlet.{Inlet}
 use Rattle.dm_mail.specs.Mails.{mails_of, is_closed, AllBelow}
 use Rattle.dm_mail.specs.Ends.{inlet_bound, all_taken}
-use Rattle.dm_mirror.specs.declared.mirror.Mirror.{Mirror}
+use Rattle.dm_mirror.specs.TheMirror.{Mirror}
 use Rattle.dm_mirror.specs.declared.outcome.Outcome.{Outcome}
 use Rattle.dm_mirror.specs.Deliveries.{all_mails}
 use Rattle.dm_mirror.specs.PlainFolds.{IsPlainFold}

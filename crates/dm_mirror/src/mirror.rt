@@ -11,16 +11,20 @@ use dm_scratch::Verdict;
 use std::alloc::{AllocError, Global};
 
 // A mirror: its repository, the mails that it took, the verdict of each (none of a mark), and what each poster sent to it:
-// how many bundles, and whether its mark.
+// how many bundles, and whether its mark. Generic, so that it is seen once that the rest may be sent to a thread where the
+// repository may.
 #[derive(Drop)]
-pub(crate) struct Mirror {
-    pub(crate) repo: Repo<Global>,
+pub(crate) struct MirrorOf<R> {
+    pub(crate) repo: R,
     pub(crate) mails: Vec<Mail>,
     pub(crate) verdicts: Vec<Option<Verdict>>,
     pub(crate) receipts: Vec<(usize, bool)>,
 }
 
-impl Mirror {
+// A mirror of a repository.
+pub(crate) type Mirror = MirrorOf<Repo<Global>>;
+
+impl MirrorOf<Repo<Global>> {
     /// A mirror of this repository, with room for so many mails, and for what so many posters sent.
     pub(crate) fn new(
         alloc: Global,
@@ -31,14 +35,16 @@ impl Mirror {
         ensures ready { IfOk result (IsReady posters expected) }
         ensures repo { IfOk result (λ mirror. mirror.repo.patches ≡ repo.patches) }
     {
-        Ok(Mirror {
+        Ok(MirrorOf {
             repo,
             mails: Vec::with_capacity(alloc, expected)?,
             verdicts: Vec::with_capacity(alloc, expected)?,
             receipts: Vec::with_capacity(alloc, posters)?,
         })
     }
+}
 
+impl<R> MirrorOf<R> {
     /// Whether it took the mark of a poster.
     pub(crate) fn has_mark(&self, poster: usize) -> bool
         ensures { result ≡ is_closed (mails_of poster self.now.mails.items) }

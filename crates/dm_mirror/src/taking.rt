@@ -7,7 +7,7 @@ ghost use Rattle.dm_mirror.specs.PlainFolds.{IsPlainFold, TakesBody};
 
 use crate::gate::Gate;
 use crate::jobs::Kept;
-use crate::mirror::Mirror;
+use crate::mirror::{Mirror, MirrorOf};
 use bumpalo::Bump;
 use dm_mail::{Body, Inlet};
 use dm_repo::{Policy, Repo};
@@ -53,7 +53,7 @@ pub(crate) fn take_mails<R: Wait, G: Gate>(
     ensures receipts { result.mirror.receipts ≡ mirror.receipts }
 {
     let mut inlet = inlet;
-    let Mirror {
+    let MirrorOf {
         mut repo,
         mut mails,
         mut verdicts,
@@ -74,7 +74,7 @@ pub(crate) fn take_mails<R: Wait, G: Gate>(
             Err(_) => thread::yield_now(),
         }
     }
-    let mirror = Mirror {
+    let mirror = MirrorOf {
         repo,
         mails,
         verdicts,
