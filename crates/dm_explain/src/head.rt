@@ -1,7 +1,8 @@
 //! How a primitive and a path are shown.
+use crate::shown::Shown;
 use bstr::ByteSlice;
-use dm_prim::Prim;
-use dm_tree::Path;
+use dm_prim::{Binary, Preference, Prim};
+use dm_tree::{Lines, Path};
 use std::alloc::Global;
 use std::fmt::{self, Display, Formatter, Write};
 
@@ -90,7 +91,80 @@ impl Display for ShownMoved<'_> {
     }
 }
 
-/// The first line of a primitive.
+/// A count, with a comma before each three digits.
+#[derive(Clone, Copy)]
+struct Grouped(u128);
+
+impl Display for Grouped {
+    fn fmt<W: Write>(&self, f: &mut Formatter<W>) -> fmt::Result {
+        let count = self.0;
+        match count {
+            0..=999 => write!(f, "{count}"),
+            1000..=999_999 => write!(f, "{},{:03}", count / 1000, count % 1000),
+            _ => write!(
+                f,
+                "{},{:03},{:03}",
+                count / 1_000_000,
+                count / 1000 % 1000,
+                count % 1000
+            ),
+        }
+    }
+}
+
+/// How many bytes a file has.
+#[derive(Clone, Copy)]
+pub(crate) struct Bytes(pub(crate) u128);
+
+impl Bytes {
+    /// Those of all lines of a file, with a newline between each two.
+    pub(crate) fn of(lines: &Lines<Global>) -> Bytes {
+        let newlines = lines.len().saturating_sub(1);
+        Bytes(lines.size() as u128 + newlines as u128)
+    }
+}
+
+impl Display for Bytes {
+    fn fmt<W: Write>(&self, f: &mut Formatter<W>) -> fmt::Result {
+        match self.0 {
+            1 => f.write_str("1 byte"),
+            count => write!(f, "{} bytes", Grouped(count)),
+        }
+    }
+}
+
+/// Writes the path of a binary, and how many bytes the file has before and after.
+fn write_binary<W: Write>(f: &mut Formatter<W>, binary: &Binary<Global>) -> fmt::Result {
+    let path = ShownPath {
+        path: binary.path(),
+    };
+    let before = Bytes::of(binary.old());
+    let Bytes(after) = Bytes::of(binary.new_lines());
+    write!(
+        f,
+        "binary {path}, {before} before, {} after",
+        Grouped(after)
+    )
+}
+
+/// Writes the name of a preference, and its value before and after.
+fn write_preference<W: Write>(
+    f: &mut Formatter<W>,
+    preference: &Preference<Global>,
+) -> fmt::Result {
+    let name = Shown {
+        text: preference.name(),
+    };
+    let before = Shown {
+        text: preference.old(),
+    };
+    let after = Shown {
+        text: preference.new_value(),
+    };
+    write!(f, "changepref {name}, {before} before, {after} after")
+}
+
+/// A primitive: its first line, or of a binary or a preference what it changes.
 #[derive(Clone, Copy)]
 pub(crate) struct Head<'a> {
     pub(crate) prim: &'a Prim<Global>,
@@ -112,6 +186,8 @@ impl Display for Head<'_> {
                 let path = ShownPath { path: hunk.path() };
                 write!(f, "hunk {path} {}", hunk.line())
             }
+            Prim::Binary(binary) => write_binary(f, binary),
+            Prim::ChangePref(preference) => write_preference(f, preference),
         }
     }
 }

@@ -25,6 +25,6 @@ mod skips;
 pub use account::{Account, Clashing, account_of};
 pub use depth::Depth;
 pub use fates::{Fate, Fates};
-pub use malformed::Malformed;
+pub use malformed::{Malformed, Remedy};
 pub use printing::AccountWithSkips;
 pub use skips::{NamedSkip, Reason, Skips, skips_of};

@@ -13,6 +13,17 @@ const WIDTH: usize = 60;
 /// So many of them at most before the place.
 const BEFORE: usize = 40;
 
+/// What helps where a text has a binary or a change of a preference, and six kinds of primitives are read.
+#[derive(Clone, Copy, PartialEq, Eq, Debug)]
+pub enum Remedy {
+    /// Nothing.
+    Nothing,
+    /// The word by which a command reads all kinds.
+    Word,
+    /// Another mirror, which reads all kinds.
+    Mirror,
+}
+
 /// A text that is no bundle, and its fault. It prints itself in lines for people.
 #[derive(Clone, Copy)]
 pub struct Malformed<'a> {
@@ -20,15 +31,22 @@ pub struct Malformed<'a> {
     pub text: &'a [u8],
     /// Its fault.
     pub fault: ReadFault,
+    /// What helps where a kind of primitives isn't read.
+    pub remedy: Remedy,
 }
 
 impl<'a> Malformed<'a> {
     /// The fault of a text.
-    pub fn new(text: &'a [u8], fault: ReadFault) -> Malformed<'a>
+    pub fn new(text: &'a [u8], fault: ReadFault, remedy: Remedy) -> Malformed<'a>
         ensures text { result.text.now ≡ text.now }
         ensures fault { result.fault ≡ fault }
+        ensures remedy { result.remedy ≡ remedy }
     {
-        Malformed { text, fault }
+        Malformed {
+            text,
+            fault,
+            remedy,
+        }
     }
 }
 
@@ -51,6 +69,10 @@ fn due(kind: FaultKind) -> &'static str {
         FaultKind::Unclosed => "the text ends here, before the `}` that ends the patch",
         FaultKind::NoContext => "the next patch was due, or the line `Context:`",
         FaultKind::Doubled => "this patch stands in the bundle before",
+        FaultKind::BadHex =>
+            "the bytes of a file were due: `oldhex` or `newhex`, and lines of a `*` and two hex digits for each byte",
+        FaultKind::BadPreference =>
+            "a preference was due: its name, and on the next two lines its old and its new value",
         FaultKind::TooLarge | FaultKind::TooMany => "this is more than a bundle has",
         FaultKind::NoMemory => "memory ran out here",
     }
@@ -62,6 +84,7 @@ fn write_due<W: Write>(f: &mut Formatter<W>, kind: FaultKind) -> fmt::Result {
         bytes,
         patches,
         prims,
+        ..
     } = Limits::STANDARD;
     match kind {
         FaultKind::TooLarge => writeln!(
@@ -111,6 +134,22 @@ fn write_place<W: Write>(f: &mut Formatter<W>, text: &[u8], place: Place, at: us
     writeln!(f, "^")
 }
 
+/// Whether a binary or a change of a preference begins a text.
+fn begins_wider(text: &[u8]) -> bool {
+    text.starts_with(b"binary".as_slice()) || text.starts_with(b"changepref".as_slice())
+}
+
+/// Writes what helps.
+fn write_remedy<W: Write>(f: &mut Formatter<W>, remedy: Remedy) -> fmt::Result {
+    f.write_str(match remedy {
+        Remedy::Nothing => "",
+        Remedy::Word => "--all-kinds reads binaries and changes of preferences, too.\n",
+        Remedy::Mirror => {
+            "This mirror reads neither binaries nor changes of preferences. Make one that does, of a bundle of all patches:\n  dm init --mirror NEW --all-kinds --repository BUNDLE\n"
+        }
+    })
+}
+
 /// Whether a fault is of the text as a whole.
 fn is_of_whole(kind: FaultKind) -> bool {
     kind == FaultKind::TooLarge || kind == FaultKind::NoNewPatches
@@ -128,6 +167,9 @@ impl Display for Malformed<'_> {
             write!(f, "line {}, column {column}: ", place.line)?;
             write_due(f, kind)?;
             write_place(f, self.text, place, at)?;
+            if kind == FaultKind::Unsupported && begins_wider(&self.text[at..]) {
+                write_remedy(f, self.remedy)?;
+            }
         }
         match seeming_of(self.text) {
             Some(seeming) => writeln!(f, "{seeming}"),

@@ -1,7 +1,7 @@
 //! What a new patch wants where it doesn't apply, and what stands there.
-use crate::head::Head;
+use crate::head::{Bytes, Head};
 use crate::shown::Shown;
-use dm_prim::{Hunk, Prim};
+use dm_prim::{Binary, Hunk, Prim};
 use dm_repo::Misfit;
 use dm_tree::{Entry, FileRef, Lines};
 use std::alloc::Global;
@@ -60,6 +60,23 @@ fn write_hunk<W: Write>(
     write_file(f, file, from, hunk.old().len().min(MOST_LINES))
 }
 
+/// Writes how many bytes a binary wants in its file, and how many stand there.
+fn write_binary<W: Write>(
+    f: &mut Formatter<W>,
+    binary: &Binary<Global>,
+    misfit: &Misfit<Global>,
+) -> fmt::Result {
+    let Some(Entry::File(file)) = misfit.tree.entry(binary.path()) else {
+        return Ok(());
+    };
+    let wanted = Bytes::of(binary.old());
+    let there = Bytes(file.bytes());
+    writeln!(
+        f,
+        "It wants a file of {wanted} there. There stands another, of {there}."
+    )
+}
+
 /// Writes which primitive of a new patch doesn't apply, and why.
 pub(crate) fn write_misfit<W: Write>(f: &mut Formatter<W>, misfit: &Misfit<Global>) -> fmt::Result {
     let Some(prim) = misfit.patch.prims().get(misfit.prim) else {
@@ -68,6 +85,7 @@ pub(crate) fn write_misfit<W: Write>(f: &mut Formatter<W>, misfit: &Misfit<Globa
     writeln!(f, "at `{}`: {}.", Head { prim }, misfit.fault)?;
     match prim {
         Prim::Hunk(hunk) => write_hunk(f, hunk, misfit),
+        Prim::Binary(binary) => write_binary(f, binary, misfit),
         _ => Ok(()),
     }
 }

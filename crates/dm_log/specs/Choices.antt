@@ -2,8 +2,8 @@
 use Rattle.std.specs.Prelude.{ℕ, ◌+◌, ◌-◌, min, Bool, List, ◌++◌, codes, length, drop, reverse, Option, Some, None, if◌then◌else◌}
 use Rattle.std.specs.List.{join_by}
 use Rattle.dm_named.specs.Patches.{Patch}
-use Rattle.dm_named.specs.Canonical.{patch_text}
 use Rattle.dm_log.specs.Entries.{entry_text}
+use Rattle.dm_log.specs.Verbose.{patch_shown}
 use Rattle.dm_log.specs.declared.options.LogOptions.{LogOptions}
 
 -- how many of so many are shown
@@ -24,9 +24,9 @@ abbrev pub chosen : LogOptions → List Patch → List Patch
 chosen o patches =
     if o.reverse then reverse (newest (count_of o.last (length patches)) patches) else newest (count_of o.last (length patches)) patches
 
--- the entry of a patch, and behind an empty line its canonical text, if that is shown
+-- the entry of a patch, and behind an empty line what it does, if that is shown
 abbrev pub long_entry : Bool → Patch → List ℕ
-long_entry verbose p = if verbose then entry_text p.info ++ codes "\n" ++ patch_text p else entry_text p.info
+long_entry verbose p = if verbose then entry_text p.info ++ codes "\n" ++ patch_shown p else entry_text p.info
 
 -- the chosen entries, with an empty line between each two
 abbrev pub entries_text : LogOptions → List Patch → List ℕ

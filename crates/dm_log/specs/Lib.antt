@@ -1,6 +1,7 @@
 pub mod Shown
 pub mod Dates
 pub mod Entries
+pub mod Verbose
 pub mod Finding
 pub mod Choices
 pub mod Contexts

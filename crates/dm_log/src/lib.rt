@@ -1,14 +1,14 @@
 //! The text of a log: what `darcs log` tells of each patch.
 //!
 //! [`write_entries`] writes the entries of a repository's patches, or of a bundle's new ones ([`Patches`]): the hash by which Darcs
-//! names the patch, its author, its date, its name and its log, and the patch's canonical text where that is asked for
-//! ([`LogOptions`]). [`write_context`] writes what `darcs log --context` prints, which `darcs send --context` reads. The theorem of
+//! names the patch, its author, its date, its name and its log, and what it does where that is asked for
+//! ([`LogOptions`]): its canonical text, but of a binary its path alone. [`write_context`] writes what `darcs log --context` prints, which `darcs send --context` reads. The theorem of
 //! the crate is what the text is, byte for byte. [`write_paths`] writes a line for each path that the patches touch.
 //!
 //! What a stranger wrote is shown by one rule. A text in UTF-8 stands as it is, but for control characters other than the
 //! tab, and for marks that end a line or turn the direction of writing: of these each byte is escaped, as `\x1b`. Of a text
 //! that isn't UTF-8 each byte past ASCII is escaped too. A backslash stands as it is. So no terminal acts on a log ([`laws`]).
-//! The canonical text of a patch, and a context, stand as they are: they are for a pipe.
+//! What a patch does, and a context, stand as they are: they are for a pipe.
 #![tactic(auto)]
 
 mod context;
@@ -23,6 +23,7 @@ mod options;
 mod patches;
 mod paths;
 mod shown;
+mod verbose;
 
 pub use context::write_context;
 pub use entry::push_entry;

@@ -7,7 +7,8 @@ ghost use Rattle.dm_log.specs.Choices.{count_of, entries_text, long_entry, place
 use crate::entry::push_entry;
 use crate::options::LogOptions;
 use crate::patches::Patches;
-use dm_named::{Named, push_named};
+use crate::verbose::push_patch;
+use dm_named::Named;
 use dm_repo::Repo;
 use std::alloc::{AllocError, Allocator};
 
@@ -36,7 +37,7 @@ fn place_of(reverse: bool, all: usize, count: usize, k: usize) -> usize
     }
 }
 
-/// Appends the entry of a patch, and its canonical text if that is asked for.
+/// Appends the entry of a patch, and all that it does if that is asked for.
 fn push_long_entry<A: Allocator, B: Allocator + Copy>(
     patch: &Named<A>,
     verbose: bool,
@@ -47,12 +48,12 @@ fn push_long_entry<A: Allocator, B: Allocator + Copy>(
     push_entry(patch.info(), out)?;
     if verbose {
         out.push(b'\n')?;
-        push_named(patch, out)?;
+        push_patch(patch, out)?;
     }
     Ok(())
 }
 
-/// The entries that are chosen, with an empty line between each two; no text where there is none. The canonical text of a patch
+/// The entries that are chosen, with an empty line between each two; no text where there is none. What a patch does
 /// stands as it is, byte for byte, and is no text for a terminal.
 pub fn write_entries<B: Allocator + Copy, P: Patches>(
     alloc: B,

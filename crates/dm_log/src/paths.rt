@@ -74,6 +74,8 @@ impl<A: Allocator + Copy> PathLines<A> {
             Prim::RmDir(path) => self.add_path(path),
             Prim::Move(from, to) => self.add_move(from, to),
             Prim::Hunk(hunk) => self.add_path(hunk.path()),
+            Prim::Binary(binary) => self.add_path(binary.path()),
+            Prim::ChangePref(_) => Ok(()),
         }
     }
 
