@@ -16,6 +16,7 @@ told_less all less (d, accepted) = (
     texts = d.texts;
     answers = d.answers;
     came = less d.texts d.came;
+    kinds = d.kinds;
     takes = d.takes;
     lines = d.lines;
     flushed = d.flushed;

@@ -3,6 +3,7 @@ use Rattle.std.proofs.Common.{◌≡◌, ◌≢◌, ◌⊎◌, ◌+◌, ℕ, Boo
 use Rattle.dm_info.specs.PatchInfo.{PatchInfo}
 use Rattle.dm_named.specs.declared.fault.FaultKind.TheVariants as kind
 use Rattle.dm_named.specs.declared.fault.ReadFault.{ReadFault}
+use Rattle.dm_named.specs.declared.limits.Kinds.{Kinds}
 use Rattle.dm_named.specs.declared.limits.Limits.{Limits}
 use Rattle.dm_named.specs.Patches.{Patch}
 use Rattle.dm_repo.specs.Repositories.{Holds}
@@ -41,19 +42,19 @@ pub unheld_more : (repo : List Patch) (names : List PatchInfo) (i : PatchInfo) (
 unheld_more repo names i count h c = (c.0, c.1 ++ i ∷ [], outside_more i h c.2, omega (arith, c.3, length-append c.1 (i ∷ [])))
 
 -- why there is no answer, by why there are no names, or no bundle
-pub by_names : (is_minimal : Bool) (repo : List Patch) (theirs : Option Base) (most : ℕ) (e : ToolFault) → RefusesTheirs theirs e
-    → RefusesTexts is_minimal repo theirs most e
-by_names is_minimal repo None most e h = absurd h
-by_names is_minimal repo (Some t) most NoMemory h = tt
-by_names is_minimal repo (Some t) most (BadNames fault) h = h
-by_names is_minimal repo (Some t) most Read h = absurd h
-by_names is_minimal repo (Some t) most Write h = absurd h
-by_names is_minimal repo (Some t) most (BadBase v) h = absurd h
-by_names is_minimal repo (Some t) most TooManyToSend h = absurd h
-by_names is_minimal repo (Some t) most (BadPlan fault) h = absurd h
-by_names is_minimal repo (Some t) most NoThread h = absurd h
+pub by_names : (kinds : Kinds) (is_minimal : Bool) (repo : List Patch) (theirs : Option Base) (most : ℕ) (e : ToolFault) → RefusesTheirs theirs e
+    → RefusesTexts kinds is_minimal repo theirs most e
+by_names kinds is_minimal repo None most e h = absurd h
+by_names kinds is_minimal repo (Some t) most NoMemory h = tt
+by_names kinds is_minimal repo (Some t) most (BadNames fault) h = h
+by_names kinds is_minimal repo (Some t) most Read h = absurd h
+by_names kinds is_minimal repo (Some t) most Write h = absurd h
+by_names kinds is_minimal repo (Some t) most (BadBase v) h = absurd h
+by_names kinds is_minimal repo (Some t) most TooManyToSend h = absurd h
+by_names kinds is_minimal repo (Some t) most (BadPlan fault) h = absurd h
+by_names kinds is_minimal repo (Some t) most NoThread h = absurd h
 
-pub by_bundle : (is_minimal : Bool) (repo : List Patch) (theirs : Option Base) (most : ℕ) (e : ToolFault) (names : List PatchInfo) → TheirNames theirs names
-    → (e ≡ NoMemory) ⊎ ((e ≡ TooManyToSend) × IsPastLimits is_minimal repo names most) → RefusesTexts is_minimal repo theirs most e
-by_bundle is_minimal repo theirs most e names tells (inl x) = rw x tt
-by_bundle is_minimal repo theirs most e names tells (inr x) = rw x.0 (names, tells, x.1)
+pub by_bundle : (kinds : Kinds) (is_minimal : Bool) (repo : List Patch) (theirs : Option Base) (most : ℕ) (e : ToolFault) (names : List PatchInfo) → TheirNames theirs names
+    → (e ≡ NoMemory) ⊎ ((e ≡ TooManyToSend) × IsPastLimits kinds is_minimal repo names most) → RefusesTexts kinds is_minimal repo theirs most e
+by_bundle kinds is_minimal repo theirs most e names tells (inl x) = rw x tt
+by_bundle kinds is_minimal repo theirs most e names tells (inr x) = rw x.0 (names, tells, x.1)

@@ -3,6 +3,7 @@ use Rattle.std.proofs.Common.{◌≡◌, ℕ, List, [], ◌∷◌, ◌++◌, len
 use Rattle.std.specs.List.{Contains}
 use Rattle.std.proofs.lemmas.List.Elements.{Contains-append_left, Contains-append_right, Contains-append_cases}
 use Rattle.dm_info.specs.PatchInfo.{PatchInfo}
+use Rattle.dm_named.specs.declared.limits.Kinds.{Kinds}
 use Rattle.dm_named.specs.Patches.{Patch}
 use Rattle.dm_bundle.specs.Patches.{infos_of, SameMembers}
 use Rattle.dm_repo.specs.declared.policy.Policy.TheVariants.{Refuse}
@@ -33,8 +34,8 @@ module _ {In : PatchInfo → Type 0} {i : PatchInfo} where
     | inr k ↦ elim (one_of j others k) [ inl e ↦ rw (← e) (here j all) | inr m ↦ more j all (back p (Contains-append_right those others i m)) ]
   ]
 
-pub gives_back : {Z : Type 0} (repo : List Patch) (out : Obliterated Z) (text : List ℕ) → TakesOut repo out text → GivesBack repo out.repo.patches text
-gives_back repo out text t =
+pub gives_back : {Z : Type 0} (kinds : Kinds) (repo : List Patch) (out : Obliterated Z) (text : List ℕ) → TakesOut kinds repo out text → GivesBack kinds repo out.repo.patches text
+gives_back kinds repo out text t =
     let o = t.obliterates in
     let names : SameMembers (infos_of repo) (infos_of (out.repo.patches ++ o.go)) = λ i. (
       λ c. rw (infos_of-append out.repo.patches o.go) (there o.names c),

@@ -1,6 +1,8 @@
 -- What `dm apply` answers.
 use Rattle.std.specs.Prelude.{◌≡◌, ◌≢◌, ℕ, Bool, true, false, List, [], ◌++◌, Option, MatchOption}
 use Rattle.dm_tree.specs.Trees.{Tree}
+use Rattle.dm_named.specs.declared.limits.Kinds.{Kinds}
+use Rattle.dm_named.specs.declared.limits.Kinds.TheVariants.{Six}
 use Rattle.dm_named.specs.declared.limits.Limits.{Limits}
 use Rattle.dm_named.specs.Patches.{Patch}
 use Rattle.dm_bundle.specs.Canonical.{bundle_text}
@@ -10,7 +12,7 @@ use Rattle.dm_repo.specs.declared.refusal.Refusal.TheVariants as refusals
 use Rattle.dm_repo.specs.Repositories.{IsTreeOf}
 use Rattle.dm_scratch.specs.declared.verdict.Verdict.{Verdict}
 use Rattle.dm_scratch.specs.declared.verdict.Verdict.TheVariants.{Refused}
-use Rattle.dm_scratch.specs.Taking.{Takes, TakesWithin, IsAccepted}
+use Rattle.dm_scratch.specs.Taking.{TakesIn, TakesWithin, IsAccepted}
 use Rattle.dm_scratch.specs.Words.{verdict_text}
 use Rattle.dm_tool.specs.declared.apply.Applied.{Applied}
 use Rattle.dm_tool.specs.declared.base.Base.{Base}
@@ -52,26 +54,35 @@ pub record Prints (as_bundle : Bool) (verdict : Verdict) (repo : List Patch) (ou
   pub shows : Shows as_bundle repo shown
   pub bytes : out ≡ line_of (verdict_text verdict) ++ shown
 
--- a text that is taken under a policy into the repository of these patches is answered by these bytes and this exit status
-pub record Answers (repo : List Patch) (as_bundle : Bool) (policy : Policy) (text out : List ℕ) (status : ℕ) : Type 0 where
+-- a text that is read with these kinds of primitives, and taken under a policy into the repository of these patches, is answered by these bytes and this exit status
+pub record AnswersIn (kinds : Kinds) (repo : List Patch) (as_bundle : Bool) (policy : Policy) (text out : List ℕ) (status : ℕ) : Type 0 where
   pub verdict : Verdict
   pub after : List Patch
-  pub takes : Takes repo text policy verdict after
+  pub takes : TakesIn kinds repo text policy verdict after
   pub prints : Prints as_bundle verdict after out
   pub exit : status ≡ status_of verdict
 
 -- so is the text that the reader gave, taken into the repository that this base makes
-pub record AnswersInput (base : Option Base) (as_bundle : Bool) (policy : Policy) (before after : Option (List ℕ)) (out : List ℕ) (status : ℕ) : Type 0 where
+pub record AnswersInputIn (kinds : Kinds) (base : Option Base) (as_bundle : Bool) (policy : Policy) (before after : Option (List ℕ)) (out : List ℕ) (status : ℕ) : Type 0 where
   pub start : List Patch
   pub text : List ℕ
   pub is_start : IsStart base start
   pub gives : Gives before after text
-  pub answers : Answers start as_bundle policy text out status
+  pub answers : AnswersIn kinds start as_bundle policy text out status
 
--- what is told of it: the text that the reader gave was taken into the repository that this base makes, with this verdict, and left this repository
-pub record IsApplied (base : Option Base) (policy : Policy) (before after : Option (List ℕ)) (applied : Applied) : Type 0 where
+-- the same, with the six kinds
+abbrev pub AnswersInput : Option Base → Bool → Policy → Option (List ℕ) → Option (List ℕ) → List ℕ → ℕ → Type 0
+AnswersInput base as_bundle policy before after out status = AnswersInputIn Six base as_bundle policy before after out status
+
+-- What is told of it: the text that the reader gave was read with these kinds of primitives, and taken into the repository that this base makes, with this verdict, and
+-- left this repository.
+pub record IsAppliedIn (kinds : Kinds) (base : Option Base) (policy : Policy) (before after : Option (List ℕ)) (applied : Applied) : Type 0 where
   pub start : List Patch
   pub is_start : IsStart base start
   pub gives : Gives before after applied.text.items
-  pub takes : Takes start applied.text.items policy applied.verdict applied.repo.patches
+  pub takes : TakesIn kinds start applied.text.items policy applied.verdict applied.repo.patches
   pub exit : applied.status ≡ status_of applied.verdict
+
+-- the same, with the six kinds
+abbrev pub IsApplied : Option Base → Policy → Option (List ℕ) → Option (List ℕ) → Applied → Type 0
+IsApplied base policy before after applied = IsAppliedIn Six base policy before after applied

@@ -1,5 +1,6 @@
 -- What becomes of bundles that are taken into a mirror.
 use Rattle.std.specs.Prelude.{◌≡◌, ◌⊎◌, ℕ, List, All}
+use Rattle.dm_named.specs.declared.limits.Kinds.{Kinds}
 use Rattle.dm_named.specs.Patches.{Patch}
 use Rattle.dm_repo.specs.declared.policy.Policy.{Policy}
 use Rattle.dm_deliver.specs.declared.answers.Answer.{Answer}
@@ -8,11 +9,11 @@ use Rattle.dm_deliver.specs.Answering.{AnswersEach, IsAcceptedAnswer}
 use Rattle.dm_tool.specs.declared.delivering.Stop.{Stop}
 use Rattle.dm_tool.specs.declared.delivering.Stop.TheVariants.{Mirror, Beside}
 
--- texts were answered in turn, each by the repository that the one before it left, and the exit status says whether all were accepted
-pub record AnswersAll (policy : Policy) (rule : HashRule) (old new : List Patch) (status : ℕ) : Type 0 where
+-- texts that may have primitives of these kinds were answered in turn, each by the repository that the one before it left, and the exit status says whether all were accepted
+pub record AnswersAll (kinds : Kinds) (policy : Policy) (rule : HashRule) (old new : List Patch) (status : ℕ) : Type 0 where
   pub texts : List (List ℕ)
   pub answers : List Answer
-  pub takes : AnswersEach old texts policy rule answers new
+  pub takes : AnswersEach kinds old texts policy rule answers new
   pub exit : (All IsAcceptedAnswer answers × (status ≡ 0)) ⊎ ((All IsAcceptedAnswer answers → ⊥) × (status ≡ 1))
 
 -- whichever texts came

@@ -1,18 +1,21 @@
 -- What `dm send` answers.
 use Rattle.std.specs.Prelude.{◌≡◌, ◌≢◌, ℕ, Bool, true, false, List, [], ◌++◌, length, Option, MatchOption}
 use Rattle.dm_info.specs.PatchInfo.{PatchInfo}
+use Rattle.dm_named.specs.Laws.{with_kinds}
+use Rattle.dm_named.specs.Limits.{standard}
+use Rattle.dm_named.specs.declared.limits.Kinds.{Kinds}
 use Rattle.dm_named.specs.declared.limits.Limits.{Limits}
 use Rattle.dm_named.specs.Patches.{Patch}
 use Rattle.dm_bundle.specs.Bundles.{Contents}
 use Rattle.dm_bundle.specs.Canonical.{bundle_text}
 use Rattle.dm_hash.specs.Trailers.{trailer_text}
 use Rattle.dm_bundle.specs.Faults.{IsWithinSize}
-use Rattle.dm_bundle.specs.Patches.{AreFew}
+use Rattle.dm_bundle.specs.Patches.{AreAllOf, AreFew}
 use Rattle.dm_repo.specs.declared.refusal.Refusal.{Refusal}
 use Rattle.dm_repo.specs.declared.refusal.Refusal.TheVariants as refusals
 use Rattle.dm_repo.specs.Repositories.{Holds}
 use Rattle.dm_scratch.specs.declared.verdict.Verdict.TheVariants.{Refused}
-use Rattle.dm_scratch.specs.Taking.{Reads}
+use Rattle.dm_scratch.specs.Taking.{ReadsWithin}
 use Rattle.dm_scratch.specs.Words.{verdict_text}
 use Rattle.dm_scratch.specs.Printing.{line_of}
 use Rattle.dm_send.specs.Sending.{Parts, RefusesToSend, RefusesToSendMinimal, Sends, SendsMinimal}
@@ -40,28 +43,29 @@ IsRefusedFor is_minimal repo names most why = (why ≢ refusals.NoMemory) × Ref
 abbrev pub hashed_text : Contents → List ℕ
 hashed_text b = bundle_text b ++ trailer_text b.patches
 
--- the bundle and its text are within the limits of what is read
-pub record IsWithinLimits (b : Contents) : Type 0 where
+-- the bundle, of primitives of these kinds, and its text are within the limits of what is read
+pub record IsWithinLimits (kinds : Kinds) (b : Contents) : Type 0 where
   pub few : AreFew b.patches
+  pub of_kinds : AreAllOf kinds b.patches
   pub small : IsWithinSize (hashed_text b)
 
 -- To somebody who holds patches of these names these bytes and this exit status are answered: the text of the bundle for them with the hash of its
--- patches, which is read as that bundle; or the line of why there is none.
-pub data AnswersNames (is_minimal : Bool) (repo : List Patch) (names : List PatchInfo) (most : ℕ) (out : List ℕ) (status : ℕ) : Type 0 where
-  sent : (b : Contents) → SendsFor is_minimal repo names most b → out ≡ hashed_text b → Reads out b → status ≡ 0
-      → AnswersNames is_minimal repo names most out status
+-- patches, which is read with these kinds of primitives as that bundle; or the line of why there is none.
+pub data AnswersNames (kinds : Kinds) (is_minimal : Bool) (repo : List Patch) (names : List PatchInfo) (most : ℕ) (out : List ℕ) (status : ℕ) : Type 0 where
+  sent : (b : Contents) → SendsFor is_minimal repo names most b → out ≡ hashed_text b → ReadsWithin (with_kinds standard kinds) out b → status ≡ 0
+      → AnswersNames kinds is_minimal repo names most out status
   refused : (why : Refusal) → IsRefusedFor is_minimal repo names most why → out ≡ line_of (verdict_text (Refused why)) → status ≡ 1
-      → AnswersNames is_minimal repo names most out status
+      → AnswersNames kinds is_minimal repo names most out status
 
 -- the names of what somebody holds: those that their text tells, and none without a text
 abbrev pub TheirNames : Option Base → List PatchInfo → Type 0
 TheirNames theirs names = MatchOption theirs (names ≡ []) (λ t. TellsNames t.limits t.text.now names)
 
 -- so is it to somebody of whom a text tells what they hold, or who holds nothing
-pub record AnswersTexts (is_minimal : Bool) (repo : List Patch) (theirs : Option Base) (most : ℕ) (out : List ℕ) (status : ℕ) : Type 0 where
+pub record AnswersTexts (kinds : Kinds) (is_minimal : Bool) (repo : List Patch) (theirs : Option Base) (most : ℕ) (out : List ℕ) (status : ℕ) : Type 0 where
   pub names : List PatchInfo
   pub tells : TheirNames theirs names
-  pub answers : AnswersNames is_minimal repo names most out status
+  pub answers : AnswersNames kinds is_minimal repo names most out status
 
 -- so many new patches are sent, or there is no bundle
 abbrev pub SendsCount : Bool → List Patch → List PatchInfo → ℕ → Option ℕ → Type 0
@@ -95,12 +99,12 @@ abbrev pub RefusesTheirs : Option Base → ToolFault → Type 0
 RefusesTheirs theirs e = MatchOption theirs ⊥ (λ t. RefusesNames t.limits t.text.now e)
 
 -- the bundle is past a limit
-abbrev pub IsPastLimits : Bool → List Patch → List PatchInfo → ℕ → Type 0
-IsPastLimits is_minimal repo names most = (b : Contents) × SendsFor is_minimal repo names most b × (IsWithinLimits b → ⊥)
+abbrev pub IsPastLimits : Kinds → Bool → List Patch → List PatchInfo → ℕ → Type 0
+IsPastLimits kinds is_minimal repo names most = (b : Contents) × SendsFor is_minimal repo names most b × (IsWithinLimits kinds b → ⊥)
 
 -- Why there is no answer: memory ran out; or there is a text and it tells no names; or the bundle is past a limit.
-abbrev pub RefusesTexts : Bool → List Patch → Option Base → ℕ → ToolFault → Type 0
-RefusesTexts is_minimal repo theirs most NoMemory = Unit {0}
-RefusesTexts is_minimal repo theirs most (BadNames fault) = MatchOption theirs ⊥ (λ t. IsNamesFault t.limits t.text.now fault)
-RefusesTexts is_minimal repo theirs most TooManyToSend = (names : List PatchInfo) × TheirNames theirs names × IsPastLimits is_minimal repo names most
-RefusesTexts is_minimal repo theirs most other = ⊥
+abbrev pub RefusesTexts : Kinds → Bool → List Patch → Option Base → ℕ → ToolFault → Type 0
+RefusesTexts kinds is_minimal repo theirs most NoMemory = Unit {0}
+RefusesTexts kinds is_minimal repo theirs most (BadNames fault) = MatchOption theirs ⊥ (λ t. IsNamesFault t.limits t.text.now fault)
+RefusesTexts kinds is_minimal repo theirs most TooManyToSend = (names : List PatchInfo) × TheirNames theirs names × IsPastLimits kinds is_minimal repo names most
+RefusesTexts kinds is_minimal repo theirs most other = ⊥

@@ -4,7 +4,7 @@ ghost use Rattle.std.specs.Io.KnownBytes.{Keeps};
 ghost use Rattle.dm_named.specs.Patches.{Patch};
 ghost use Rattle.dm_scratch.specs.declared.verdict.Verdict.{Verdict};
 ghost use Rattle.dm_tool.specs.Streams.{Writes, WritesPrefix};
-ghost use Rattle.dm_tool.specs.Applying.{AnswersInput, IsApplied, IsStart, RefusesStart};
+ghost use Rattle.dm_tool.specs.Applying.{AnswersInput, AnswersInputIn, IsApplied, IsAppliedIn, IsStart, RefusesStart};
 
 use crate::base::{Base, repo_of};
 use crate::fault::ToolFault;
@@ -12,8 +12,9 @@ use crate::print::answer_text;
 use crate::status::status_of;
 use crate::streams::{read_text, write_text};
 use bumpalo::Bump;
+use dm_named::Kinds;
 use dm_repo::{Policy, Repo};
-use dm_scratch::{Verdict, take};
+use dm_scratch::{Verdict, take_in};
 use std::alloc::Global;
 use std::io::{Read, Write};
 
@@ -28,6 +29,45 @@ pub struct Applied {
     pub text: Vec<u8>,
     /// The repository after it.
     pub repo: Repo<Global>,
+}
+
+/// Reads a bundle of these kinds of primitives and takes it, as [`apply_over`] does.
+///
+/// Errors: as there.
+pub fn apply_in<R: Read, W: Write>(
+    alloc: Global,
+    kinds: Kinds,
+    base: Option<Base<'_>>,
+    as_bundle: bool,
+    policy: Policy,
+    reader: &mut R,
+    writer: &mut W,
+) -> Result<Applied, ToolFault>
+    ensures ok { IfOk result (λ applied. Writes (AnswersInputIn kinds base.entry as_bundle policy (R.remaining reader.old) (R.remaining reader.new))
+        (W.contents writer.old) (W.contents writer.new) applied.status) }
+    ensures told { IfOk result (IsAppliedIn kinds base.entry policy (R.remaining reader.old) (R.remaining reader.new)) }
+    ensures base_first { IfErr result (λ e. ((e ≢ ToolFault.Read) × (R.remaining reader.new ≡ R.remaining reader.old)) ⊎
+        ((start : List Patch) × IsStart base.entry start)) }
+    ensures bad_base { IfErr result (λ e. (v : Verdict) → (e ≡ ToolFault.BadBase v) → RefusesStart base.entry e) }
+    ensures unread { IfErr result (λ e. (v : Verdict) → (e ≡ ToolFault.BadBase v) → R.remaining reader.new ≡ R.remaining reader.old) }
+    ensures silent { IfErr result (λ e. (e ≢ ToolFault.Write) → Keeps (W.contents writer.old) (W.contents writer.new)) }
+    ensures prefix { IfErr result (λ e. (e ≡ ToolFault.Write) →
+        WritesPrefix (AnswersInputIn kinds base.entry as_bundle policy (R.remaining reader.old) (R.remaining reader.new))
+        (W.contents writer.old) (W.contents writer.new)) }
+    ensures fault { IfErr result (λ e. RefusesStart base.entry e ⊎ ((e ≡ ToolFault.Read) ⊎ ((e ≡ ToolFault.NoMemory) ⊎ (e ≡ ToolFault.Write)))) }
+{
+    let mut repo = repo_of(alloc, base)?;
+    let mut arena = Bump::new(alloc);
+    let text = read_text(alloc, reader)?;
+    let verdict = take_in(&mut repo, &mut arena, &text, kinds, policy);
+    let answer = answer_text(alloc, verdict, &repo, as_bundle)?;
+    write_text(&answer, writer)?;
+    Ok(Applied {
+        status: status_of(verdict),
+        verdict,
+        text,
+        repo,
+    })
 }
 
 /// Reads a bundle, takes it under a policy into the repository that a base makes, or into an empty one, and writes the
@@ -58,16 +98,5 @@ pub fn apply_over<R: Read, W: Write>(
         (W.contents writer.old) (W.contents writer.new)) }
     ensures fault { IfErr result (λ e. RefusesStart base.entry e ⊎ ((e ≡ ToolFault.Read) ⊎ ((e ≡ ToolFault.NoMemory) ⊎ (e ≡ ToolFault.Write)))) }
 {
-    let mut repo = repo_of(alloc, base)?;
-    let mut arena = Bump::new(alloc);
-    let text = read_text(alloc, reader)?;
-    let verdict = take(&mut repo, &mut arena, &text, policy);
-    let answer = answer_text(alloc, verdict, &repo, as_bundle)?;
-    write_text(&answer, writer)?;
-    Ok(Applied {
-        status: status_of(verdict),
-        verdict,
-        text,
-        repo,
-    })
+    apply_in(alloc, Kinds::Six, base, as_bundle, policy, reader, writer)
 }

@@ -3,6 +3,7 @@ ghost use Rattle.std.specs.Prelude.{◌≡◌, ◌⊎◌, [], IfOk};
 ghost use Rattle.dm_disk.specs.States.{seen, may_leave, file_may_leave};
 ghost use Rattle.dm_journal.specs.Device.{IsDurable};
 ghost use Rattle.dm_store.specs.Keeping.{IsStored, KeepsRepo};
+ghost use Rattle.dm_store.specs.Kinds.{kinds_in};
 
 use crate::base::repo_of;
 use crate::colour::Colour;
@@ -10,12 +11,14 @@ use crate::explaining::{explain_base, explain_hash_fault};
 use crate::fault::ToolFault;
 use crate::files::{BaseFile, base_of, read_base};
 use crate::mirror::{blame, find_file, open_file, open_store};
+use crate::reading::Reading;
 use crate::streams::write_text;
 use crate::telling::{Manner, tell};
 use crate::word_fault::WordFault;
 use clap::ArgMatches;
 use dm_deliver::{Answer, HashRule, hash_fault_within};
 use dm_disk::{Access, DiskFile, Rehearsal};
+use dm_named::Kinds;
 use dm_repo::Repo;
 use dm_store::Store;
 use std::alloc::Global;
@@ -48,6 +51,7 @@ fn refuse_wrong_hash<'a>(
 fn read_start<'a>(
     rt: &HostRuntime,
     colour: Colour,
+    reading: Reading,
     words: &ArgMatches<'a>,
 ) -> Result<Repo<Global>, WordFault<'a>> {
     let file = read_base(rt, words)?;
@@ -59,7 +63,7 @@ fn read_start<'a>(
         (Err(fault), Some(file)) => {
             tell(rt, Manner::Full, WordFault::of_base(file.name, fault));
             if let (true, ToolFault::BadBase(verdict)) = (words.get_flag("explain"), fault) {
-                explain_base(rt, colour, file.base(), verdict);
+                explain_base(rt, colour, reading, file.base(), verdict);
             }
             Err(WordFault::Said)
         }
@@ -67,25 +71,27 @@ fn read_start<'a>(
     }
 }
 
-/// A mirror that begins with a repository, in an empty file.
+/// A mirror of these kinds that begins with a repository, in an empty file.
 fn make_store<'a>(
     path: &'a str,
     file: DiskFile,
     start: Repo<Global>,
+    kinds: Kinds,
     alloc: Global,
 ) -> Result<Store<DiskFile>, WordFault<'a>>
     requires durable { IsDurable seen may_leave file_may_leave file }
     requires empty { seen file ≡ [] }
     ensures stored { IfOk result (IsStored seen may_leave file_may_leave) }
+    ensures kinds { IfOk result (λ store. kinds_in store ≡ kinds) }
     ensures same { IfOk result (λ store. store.repo ≡ start) }
 {
-    match Store::create(alloc, file, start) {
+    match Store::create(alloc, file, start, kinds) {
         Ok(store) => Ok(store),
         Err((fault, file)) => Err(blame(WordFault::Unwritten(path, fault), &file)),
     }
 }
 
-/// The mirror of a file: what it keeps, or where it has no bytes one that begins with this repository.
+/// The mirror of a file: what it keeps, or where it has no bytes one of the six kinds that begins with this repository.
 fn store_of<'a>(
     rt: &HostRuntime,
     path: &'a str,
@@ -94,10 +100,10 @@ fn store_of<'a>(
 ) -> Result<Store<DiskFile>, WordFault<'a>>
     requires { IsDurable seen may_leave file_may_leave file }
     ensures stored { IfOk result (IsStored seen may_leave file_may_leave) }
-    ensures kept { IfOk result (λ store. KeepsRepo (seen file) store.repo.patches ⊎ ((seen file ≡ []) × (store.repo ≡ start))) }
+    ensures kept { IfOk result (λ store. KeepsRepo (kinds_in store) (seen file) store.repo.patches ⊎ ((seen file ≡ []) × (store.repo ≡ start))) }
 {
     if file.is_empty() {
-        return make_store(path, file, start, rt.alloc());
+        return make_store(path, file, start, Kinds::Six, rt.alloc());
     }
     open_store(rt, path, file)
 }
@@ -130,7 +136,7 @@ pub fn open_mirror<'a>(
         }
         found => found,
     };
-    let start = read_start(rt, colour, words)?;
+    let start = read_start(rt, colour, Reading::of_mirror(Kinds::Six), words)?;
     let file = match found {
         Some(file) => file,
         None => open_file(rt, words, path, Access::Create, is_terminal)?,
@@ -138,16 +144,19 @@ pub fn open_mirror<'a>(
     store_of(rt, path, file, start)
 }
 
-/// A repository, as a mirror of which nothing is written.
+/// A repository, as a mirror of these kinds of which nothing is written.
 pub fn rehearse_start<'a>(
     rt: &HostRuntime,
     start: Repo<Global>,
+    kinds: Kinds,
     path: &'a str,
 ) -> Result<Store<Rehearsal>, WordFault<'a>>
     ensures stored { IfOk result (IsStored seen may_leave file_may_leave) }
+    ensures kinds { IfOk result (λ store. kinds_in store ≡ kinds) }
     ensures same { IfOk result (λ store. store.repo ≡ start) }
 {
-    match Store::create(rt.alloc(), Rehearsal::new(Vec::new(rt.alloc())), start) {
+    let device = Rehearsal::new(Vec::new(rt.alloc()));
+    match Store::create(rt.alloc(), device, start, kinds) {
         Ok(store) => Ok(store),
         Err((fault, _)) => Err(WordFault::Unwritten(path, fault)),
     }
@@ -171,7 +180,8 @@ pub fn rehearse_mirror<'a>(
             }
         }
     }
-    rehearse_start(rt, read_start(rt, colour, words)?, path)
+    let start = read_start(rt, colour, Reading::of_mirror(Kinds::Six), words)?;
+    rehearse_start(rt, start, Kinds::Six, path)
 }
 
 /// Why a file that has bytes is no place for a new mirror: it keeps one, or something else.
@@ -184,19 +194,21 @@ fn refuse_place<'a>(rt: &HostRuntime, path: &'a str, file: DiskFile) -> WordFaul
     }
 }
 
-/// A mirror that begins with a repository, where the file is empty.
+/// A mirror of these kinds that begins with a repository, where the file is empty.
 fn begin_store<'a>(
     rt: &HostRuntime,
     path: &'a str,
     file: DiskFile,
     start: Repo<Global>,
+    kinds: Kinds,
 ) -> Result<Store<DiskFile>, WordFault<'a>>
     requires { IsDurable seen may_leave file_may_leave file }
     ensures stored { IfOk result (IsStored seen may_leave file_may_leave) }
+    ensures kinds { IfOk result (λ store. kinds_in store ≡ kinds) }
     ensures begun { IfOk result (λ store. (seen file ≡ []) × (store.repo ≡ start)) }
 {
     if file.is_empty() {
-        return make_store(path, file, start, rt.alloc());
+        return make_store(path, file, start, kinds, rt.alloc());
     }
     Err(refuse_place(rt, path, file))
 }
@@ -213,12 +225,13 @@ fn make_mirror<'a>(
         Some(file) if !file.is_empty() => return Err(refuse_place(rt, path, file)),
         found => found,
     };
-    let start = read_start(rt, colour, words)?;
+    let reading = Reading::of_words(words);
+    let start = read_start(rt, colour, reading, words)?;
     let file = match found {
         Some(file) => file,
         None => open_file(rt, words, path, Access::Create, is_terminal)?,
     };
-    begin_store(rt, path, file, start)
+    begin_store(rt, path, file, start, reading.kinds)
 }
 
 /// `dm init`.

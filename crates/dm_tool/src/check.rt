@@ -4,16 +4,16 @@ ghost use Rattle.std.specs.Io.KnownBytes.{Keeps};
 ghost use Rattle.dm_deliver.specs.Answering.{answer_line};
 ghost use Rattle.dm_deliver.specs.declared.answers.Answer.TheVariants.{Hash};
 ghost use Rattle.dm_tool.specs.Streams.{Writes, WritesPrefix};
-ghost use Rattle.dm_tool.specs.Checking.{Checks, ChecksHash, ChecksHashInput, ChecksInput, IsOutput, IsTold, TellsInput};
+ghost use Rattle.dm_tool.specs.Checking.{ChecksHashInputWithin, ChecksHashWithin, ChecksInput, ChecksInputWithin, ChecksWithin, IsOutput, IsTold, TellsInput, TellsInputWithin};
 ghost use Rattle.dm_tool.specs.declared.check.CheckOutput.TheVariants.{Paths, Text};
 
 use crate::fault::ToolFault;
 use crate::status::status_of;
-use crate::streams::{read_text, write_text};
-use dm_bundle::{Bundle, read_bundle, write_bundle};
-use dm_deliver::{Answer, HashFault, HashRule, hash_fault, push_answer};
+use crate::streams::{read_within, write_text};
+use dm_bundle::{Bundle, read_bundle_within, write_bundle};
+use dm_deliver::{Answer, HashFault, HashRule, hash_fault_within, push_answer};
 use dm_log::write_paths;
-use dm_named::ReadFault;
+use dm_named::{Limits, ReadFault};
 use dm_scratch::{Verdict, push_verdict};
 use std::alloc::{AllocError, Global};
 use std::io::{Read, Write};
@@ -63,13 +63,14 @@ fn output_text(
 /// printed may be large.
 fn check_text(
     alloc: Global,
+    limits: Limits,
     output: CheckOutput,
     text: Vec<u8>,
 ) -> Result<(Vec<u8>, Checked), AllocError>
-    ensures checks { IfOk result (λ x. Checks output text.items x.0.items x.1.status) }
-    ensures told { IfOk result (λ x. IsTold text.items x.1) }
+    ensures checks { IfOk result (λ x. ChecksWithin limits output text.items x.0.items x.1.status) }
+    ensures told { IfOk result (λ x. IsTold limits text.items x.1) }
 {
-    match read_bundle(alloc, &text) {
+    match read_bundle_within(alloc, &text, limits) {
         Ok(bundle) => {
             drop(text);
             let out = output_text(alloc, output, &bundle)?;
@@ -97,22 +98,25 @@ fn check_text(
     }
 }
 
-/// Reads a bundle and writes what is printed of it, or the line of the verdict.
-fn check_as<R: Read, W: Write>(
+/// Reads a bundle within these limits and writes what is printed of it, or the line of the verdict, as [`check_over`] does.
+///
+/// Errors: as there.
+pub fn check_within<R: Read, W: Write>(
     alloc: Global,
+    limits: Limits,
     output: CheckOutput,
     reader: &mut R,
     writer: &mut W,
 ) -> Result<Checked, ToolFault>
-    ensures ok { IfOk result (λ checked. Writes (ChecksInput output (R.remaining reader.old) (R.remaining reader.new)) (W.contents writer.old) (W.contents writer.new) checked.status) }
-    ensures told { IfOk result (TellsInput (R.remaining reader.old) (R.remaining reader.new)) }
+    ensures ok { IfOk result (λ checked. Writes (ChecksInputWithin limits output (R.remaining reader.old) (R.remaining reader.new)) (W.contents writer.old) (W.contents writer.new) checked.status) }
+    ensures told { IfOk result (TellsInputWithin limits (R.remaining reader.old) (R.remaining reader.new)) }
     ensures silent { IfErr result (λ e. (e ≢ ToolFault.Write) → Keeps (W.contents writer.old) (W.contents writer.new)) }
     ensures prefix { IfErr result (λ e. (e ≡ ToolFault.Write) →
-        WritesPrefix (ChecksInput output (R.remaining reader.old) (R.remaining reader.new)) (W.contents writer.old) (W.contents writer.new)) }
+        WritesPrefix (ChecksInputWithin limits output (R.remaining reader.old) (R.remaining reader.new)) (W.contents writer.old) (W.contents writer.new)) }
     ensures fault { IfErr result (λ e. (e ≡ ToolFault.Read) ⊎ ((e ≡ ToolFault.NoMemory) ⊎ (e ≡ ToolFault.Write))) }
 {
-    let text = read_text(alloc, reader)?;
-    let (out, checked) = check_text(alloc, output, text)?;
+    let text = read_within(alloc, limits, reader)?;
+    let (out, checked) = check_text(alloc, limits, output, text)?;
     write_text(&out, writer)?;
     Ok(checked)
 }
@@ -136,7 +140,7 @@ pub fn check_over<R: Read, W: Write>(
         WritesPrefix (ChecksInput Text (R.remaining reader.old) (R.remaining reader.new)) (W.contents writer.old) (W.contents writer.new)) }
     ensures fault { IfErr result (λ e. (e ≡ ToolFault.Read) ⊎ ((e ≡ ToolFault.NoMemory) ⊎ (e ≡ ToolFault.Write))) }
 {
-    check_as(alloc, CheckOutput::Text, reader, writer)
+    check_within(alloc, Limits::STANDARD, CheckOutput::Text, reader, writer)
 }
 
 /// Reads a bundle and writes the paths that its patches touch, or the line of the verdict, as [`check_over`] does.
@@ -154,7 +158,7 @@ pub fn check_paths_over<R: Read, W: Write>(
         WritesPrefix (ChecksInput Paths (R.remaining reader.old) (R.remaining reader.new)) (W.contents writer.old) (W.contents writer.new)) }
     ensures fault { IfErr result (λ e. (e ≡ ToolFault.Read) ⊎ ((e ≡ ToolFault.NoMemory) ⊎ (e ≡ ToolFault.Write))) }
 {
-    check_as(alloc, CheckOutput::Paths, reader, writer)
+    check_within(alloc, Limits::STANDARD, CheckOutput::Paths, reader, writer)
 }
 
 /// The line of a hash that is refused.
@@ -169,12 +173,13 @@ fn hash_line(alloc: Global, fault: HashFault) -> Result<Vec<u8>, AllocError>
 /// What is printed of a text where the hash of its patches has to stand behind it, and the exit status.
 fn check_hashed(
     alloc: Global,
+    limits: Limits,
     output: CheckOutput,
     text: Vec<u8>,
 ) -> Result<(Vec<u8>, Checked), AllocError>
-    ensures { IfOk result (λ x. ChecksHash output text.items x.0.items x.1.status) }
+    ensures { IfOk result (λ x. ChecksHashWithin limits output text.items x.0.items x.1.status) }
 {
-    match hash_fault(alloc, &text, HashRule::Right)? {
+    match hash_fault_within(alloc, &text, limits, HashRule::Right)? {
         Some(fault) => {
             let line = hash_line(alloc, fault)?;
             Ok((
@@ -186,30 +191,31 @@ fn check_hashed(
             ))
         }
         None => {
-            let (out, checked) = check_text(alloc, output, text)?;
+            let (out, checked) = check_text(alloc, limits, output, text)?;
             Ok((out, checked))
         }
     }
 }
 
-/// As [`check_over`]; of a bundle that doesn't end with the right hash of its patches it writes the line that says so, and at
+/// As [`check_within`]; of a bundle that doesn't end with the right hash of its patches it writes the line that says so, and at
 /// which byte the hash stands, or was due. The exit status is 1 then.
 ///
 /// Errors: as there.
-pub fn check_hash_over<R: Read, W: Write>(
+pub fn check_hash_within<R: Read, W: Write>(
     alloc: Global,
+    limits: Limits,
     output: CheckOutput,
     reader: &mut R,
     writer: &mut W,
 ) -> Result<Checked, ToolFault>
-    ensures ok { IfOk result (λ checked. Writes (ChecksHashInput output (R.remaining reader.old) (R.remaining reader.new)) (W.contents writer.old) (W.contents writer.new) checked.status) }
+    ensures ok { IfOk result (λ checked. Writes (ChecksHashInputWithin limits output (R.remaining reader.old) (R.remaining reader.new)) (W.contents writer.old) (W.contents writer.new) checked.status) }
     ensures silent { IfErr result (λ e. (e ≢ ToolFault.Write) → Keeps (W.contents writer.old) (W.contents writer.new)) }
     ensures prefix { IfErr result (λ e. (e ≡ ToolFault.Write) →
-        WritesPrefix (ChecksHashInput output (R.remaining reader.old) (R.remaining reader.new)) (W.contents writer.old) (W.contents writer.new)) }
+        WritesPrefix (ChecksHashInputWithin limits output (R.remaining reader.old) (R.remaining reader.new)) (W.contents writer.old) (W.contents writer.new)) }
     ensures fault { IfErr result (λ e. (e ≡ ToolFault.Read) ⊎ ((e ≡ ToolFault.NoMemory) ⊎ (e ≡ ToolFault.Write))) }
 {
-    let text = read_text(alloc, reader)?;
-    let (answer, checked) = check_hashed(alloc, output, text)?;
+    let text = read_within(alloc, limits, reader)?;
+    let (answer, checked) = check_hashed(alloc, limits, output, text)?;
     write_text(&answer, writer)?;
     Ok(checked)
 }

@@ -32,7 +32,7 @@ pub fn check_out<'a>(
     } else {
         Names::Safe
     };
-    let repo = read_repo(rt, words, is_terminal)?;
+    let (repo, _) = read_repo(rt, words, is_terminal)?;
     let mut meter = Meter::new(*rt, is_terminal);
     let mut disk = SystemDisk::new(*rt);
     let written = checkout(

@@ -1,8 +1,10 @@
 //! The words of the command line, and what they start.
-use crate::apply::apply_over;
+use crate::apply::{Applied, apply_in, apply_over};
 use crate::base::{Base, repo_of};
 use crate::beginning::init;
-use crate::check::{CheckOutput, Checked, check_hash_over, check_over, check_paths_over};
+use crate::check::{
+    CheckOutput, Checked, check_hash_within, check_over, check_paths_over, check_within,
+};
 use crate::checking_out::check_out;
 use crate::colour::{Colour, colour_of};
 use crate::delivering::{apply_each, apply_to_mirror};
@@ -14,13 +16,14 @@ use crate::listing::Listing;
 use crate::logging::log;
 use crate::obliterating::obliterate_chosen;
 use crate::plan_words::{policy_of, refuse_base, run_plan};
+use crate::reading::Reading;
 use crate::sending::send;
 use crate::telling::{Manner, NO_ANSWER, exit_status, fixed_manner, tell};
 use crate::undoing::undo_chosen;
 use crate::word_fault::WordFault;
 use clap::error::ErrorKind;
 use clap::{ArgMatches, Error};
-use dm_named::Limits;
+use dm_named::Kinds;
 use dm_words::program;
 use std::io::{Read, Write};
 use std::rt::Runtime;
@@ -40,17 +43,19 @@ fn output_of(words: &ArgMatches<'_>) -> CheckOutput {
 /// What the words ask of a text.
 fn check_words<R: Read, W: Write>(
     rt: &HostRuntime,
+    reading: Reading,
     words: &ArgMatches<'_>,
     reader: &mut R,
     writer: &mut W,
 ) -> Result<Checked, ToolFault> {
     let output = output_of(words);
     if words.get_flag("hash") {
-        return check_hash_over(rt.alloc(), output, reader, writer);
+        return check_hash_within(rt.alloc(), reading.limits(), output, reader, writer);
     }
-    match output {
-        CheckOutput::Text => check_over(rt.alloc(), reader, writer),
-        CheckOutput::Paths => check_paths_over(rt.alloc(), reader, writer),
+    match (reading.kinds, output) {
+        (Kinds::Six, CheckOutput::Text) => check_over(rt.alloc(), reader, writer),
+        (Kinds::Six, CheckOutput::Paths) => check_paths_over(rt.alloc(), reader, writer),
+        (Kinds::All, _) => check_within(rt.alloc(), reading.limits(), output, reader, writer),
     }
 }
 
@@ -61,13 +66,14 @@ fn check_explained<'a>(
     words: &ArgMatches<'a>,
     name: &'a str,
 ) -> Result<u8, WordFault<'a>> {
-    let text = read_file(rt, name, Limits::STANDARD)?;
+    let reading = Reading::of_words(words);
+    let text = read_file(rt, name, reading.limits())?;
     let mut writer = io::writer(rt);
     let mut reader = text.as_slice();
-    let checked = check_words(rt, words, &mut reader, &mut writer)?;
+    let checked = check_words(rt, reading, words, &mut reader, &mut writer)?;
     match &checked.unread {
-        Some(unread) => explain_unread(rt, colour, unread),
-        None => explain_hash(rt, colour, &text, words.get_flag("hash")),
+        Some(unread) => explain_unread(rt, colour, reading, unread),
+        None => explain_hash(rt, colour, reading, &text, words.get_flag("hash")),
     }
     Ok(checked.status)
 }
@@ -84,9 +90,40 @@ fn check<'a>(
     }
     let mut reader = Input::open(rt, name);
     let mut writer = io::writer(rt);
-    match check_words(rt, words, &mut reader, &mut writer) {
+    match check_words(
+        rt,
+        Reading::of_words(words),
+        words,
+        &mut reader,
+        &mut writer,
+    ) {
         Ok(checked) => Ok(checked.status),
         Err(fault) => Err(blame_input(&reader, name, fault)),
+    }
+}
+
+/// Takes one bundle after a base, and prints what is shown of both.
+fn apply_as<R: Read, W: Write>(
+    rt: &HostRuntime,
+    reading: Reading,
+    words: &ArgMatches<'_>,
+    base: Option<Base<'_>>,
+    reader: &mut R,
+    writer: &mut W,
+) -> Result<Applied, ToolFault> {
+    let as_bundle = words.get_flag("bundle");
+    let policy = policy_of(words);
+    match reading.kinds {
+        Kinds::Six => apply_over(rt.alloc(), base, as_bundle, policy, reader, writer),
+        Kinds::All => apply_in(
+            rt.alloc(),
+            reading.kinds,
+            base,
+            as_bundle,
+            policy,
+            reader,
+            writer,
+        ),
     }
 }
 
@@ -98,23 +135,15 @@ fn apply_one<'a>(
     base: Option<Base<'_>>,
     name: &'a str,
 ) -> Result<u8, WordFault<'a>> {
-    let policy = policy_of(words);
-    let as_bundle = words.get_flag("bundle");
+    let reading = Reading::of_words(words);
     let mut reader = Input::open(rt, name);
-    let mut writer = Listing::new(rt, as_bundle);
-    let applied = match apply_over(
-        rt.alloc(),
-        base,
-        as_bundle,
-        policy,
-        &mut reader,
-        &mut writer,
-    ) {
+    let mut writer = Listing::new(rt, words.get_flag("bundle"));
+    let applied = match apply_as(rt, reading, words, base, &mut reader, &mut writer) {
         Ok(applied) => applied,
         Err(fault) => return Err(blame_input(&reader, name, fault)),
     };
     if words.get_flag("explain") {
-        explain_applied(rt, colour, base, policy, &applied);
+        explain_applied(rt, colour, reading, base, policy_of(words), &applied);
     }
     Ok(applied.status)
 }
@@ -155,7 +184,8 @@ fn apply<'a>(
     let file = read_base(rt, words)?;
     match (apply_after(rt, colour, words, base_of(&file)), &file) {
         (Err(WordFault::Tool(ToolFault::BadBase(verdict))), Some(file)) => {
-            Ok(refuse_base(rt, colour, words, file, verdict))
+            let reading = Reading::of_words(words);
+            Ok(refuse_base(rt, colour, reading, words, file, verdict))
         }
         (answered, _) => answered,
     }

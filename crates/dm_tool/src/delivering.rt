@@ -2,6 +2,7 @@
 ghost use Rattle.std.specs.Prelude.{◌≡◌, ◌⊎◌, ◌↔◌, All, length, IfOk, IfErr, IsTrue, OnOk};
 ghost use Rattle.dm_disk.specs.States.{seen, may_leave, file_may_leave};
 ghost use Rattle.dm_store.specs.Keeping.{IsStored};
+ghost use Rattle.dm_store.specs.Kinds.{kinds_in};
 ghost use Rattle.dm_deliver.specs.Answering.{IsAcceptedAnswer, IsOfStore};
 ghost use Rattle.dm_deliver.specs.Delivering.{Delivers};
 ghost use Rattle.dm_deliver.specs.Outputs.{output};
@@ -16,6 +17,7 @@ use crate::listing::Listing;
 use crate::mirror::blame;
 use crate::plan_words::policy_of;
 use crate::print::push_repo;
+use crate::reading::{Reading, kinds_of, refuse_kinds};
 use crate::streams::write_text;
 use crate::watching::Watcher;
 use crate::word_fault::WordFault;
@@ -23,6 +25,7 @@ use clap::ArgMatches;
 use dm_deliver::{AnswerError, DeliverError, Framed, HashRule, Watched, deliver};
 use dm_disk::DiskFile;
 use dm_journal::{Device, WriteError};
+use dm_named::Kinds;
 use dm_repo::{Policy, Repo};
 use dm_store::Store;
 use std::alloc::Global;
@@ -125,6 +128,15 @@ fn take_stream<'a, D: Device, W: Write>(
     }
 }
 
+/// How what the words name is read into a store of these kinds.
+fn reading_of(words: &ArgMatches<'_>, kinds: Kinds) -> Reading {
+    if words.contains_id("mirror") {
+        Reading::of_mirror(kinds)
+    } else {
+        Reading::of_words(words)
+    }
+}
+
 /// Prints what is shown of the repository.
 fn show<'a>(
     rt: &HostRuntime,
@@ -158,12 +170,13 @@ fn take_words<'a, D: Device, W: Write>(
     ensures stored_err { IfErr result (λ e. MayGoOn e → IsStored D.seen D.may_leave D.file_may_leave store.new) }
 {
     let explains = words.get_flag("explain");
+    let reading = reading_of(words, store.kinds());
     if words.get_flag("stream") {
-        let mut watcher = Watcher::new(*rt, colour, explains, &[]);
+        let mut watcher = Watcher::new(*rt, colour, explains, reading, &[]);
         return take_stream(rt, store, policy, rule, &mut watcher, writer);
     }
     let names = words.get_strs("bundles").unwrap_or(&[INPUT]);
-    let mut watcher = Watcher::new(*rt, colour, explains, names);
+    let mut watcher = Watcher::new(*rt, colour, explains, reading, names);
     match take_named(rt, names, store, policy, rule, &mut watcher, writer) {
         Ok(all_accepted) => Ok(all_accepted),
         Err(stop) => Err(stop),
@@ -180,7 +193,7 @@ fn take_and_show<'a, D: Device>(
     rule: HashRule,
 ) -> Result<u8, Stop<'a>>
     requires { IsStored D.seen D.may_leave D.file_may_leave store.old }
-    ensures answers { IfOk result (AnswersAll policy rule store.old.repo.patches store.new.repo.patches) }
+    ensures answers { IfOk result (AnswersAll (kinds_in store.old) policy rule store.old.repo.patches store.new.repo.patches) }
     ensures stored { OnOk result (IsStored D.seen D.may_leave D.file_may_leave store.new) }
     ensures stored_err { IfErr result (λ e. MayGoOn e → IsStored D.seen D.may_leave D.file_may_leave store.new) }
 {
@@ -232,7 +245,7 @@ pub fn apply_each<'a>(
     start: Repo<Global>,
 ) -> Result<u8, WordFault<'a>> {
     let path = "the repository";
-    let mut store = rehearse_start(rt, start, path)?;
+    let mut store = rehearse_start(rt, start, kinds_of(words), path)?;
     let tried = take_and_show(
         rt,
         colour,
@@ -252,6 +265,7 @@ pub fn apply_to_mirror<'a>(
     path: &'a str,
     is_terminal: bool,
 ) -> Result<u8, WordFault<'a>> {
+    refuse_kinds(words)?;
     let policy = policy_of(words);
     let rule = rule_of(words, HashRule::NotWrong);
     if words.get_flag("dry-run") {

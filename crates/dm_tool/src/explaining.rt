@@ -7,9 +7,10 @@ use crate::apply::Applied;
 use crate::base::{Base, repo_of};
 use crate::check::Unread;
 use crate::colour::{Colour, say};
+use crate::reading::Reading;
 use bumpalo::Bump;
-use dm_bundle::{Bundle, read_bundle};
-use dm_deliver::{HashFault, HashFaultKind, HashRule, hash_fault};
+use dm_bundle::{Bundle, read_bundle_within};
+use dm_deliver::{HashFault, HashFaultKind, HashRule, hash_fault_within};
 use dm_explain::{Account, AccountWithSkips, Malformed, account_of, skips_of};
 use dm_mail::{Body, Mail};
 use dm_mirror::Outcome;
@@ -20,11 +21,16 @@ use std::alloc::Global;
 use std::rt::Runtime;
 
 /// Says why a text is no bundle.
-pub fn explain_unread<R: Runtime + AllocGlobal>(rt: &R, colour: Colour, unread: &Unread) {
+pub fn explain_unread<R: Runtime + AllocGlobal>(
+    rt: &R,
+    colour: Colour,
+    reading: Reading,
+    unread: &Unread,
+) {
     if unread.fault.kind == FaultKind::NoMemory {
         return;
     }
-    let malformed = Malformed::new(&unread.text, unread.fault);
+    let malformed = Malformed::new(&unread.text, unread.fault, reading.remedy);
     say(rt, colour, &malformed);
 }
 
@@ -32,21 +38,32 @@ pub fn explain_unread<R: Runtime + AllocGlobal>(rt: &R, colour: Colour, unread: 
 pub fn explain_base<R: Runtime + AllocGlobal>(
     rt: &R,
     colour: Colour,
+    reading: Reading,
     base: Base<'_>,
     verdict: Verdict,
 ) {
     let repo = Repo::new(rt.alloc());
-    explain_verdict(rt, colour, &repo, base.text, Policy::Refuse, verdict, None);
+    explain_verdict(
+        rt,
+        colour,
+        reading,
+        &repo,
+        base.text,
+        Policy::Refuse,
+        verdict,
+        None,
+    );
 }
 
 /// Says why a text tells no names.
 pub fn explain_theirs<R: Runtime + AllocGlobal>(
     rt: &R,
     colour: Colour,
+    reading: Reading,
     text: &[u8],
     fault: ReadFault,
 ) {
-    let malformed = Malformed::new(text, fault);
+    let malformed = Malformed::new(text, fault, reading.remedy);
     say(rt, colour, &malformed);
 }
 
@@ -73,6 +90,7 @@ pub fn explain_hash_fault<R: Runtime + AllocGlobal>(rt: &R, colour: Colour, faul
 pub fn explain_hash<R: Runtime + AllocGlobal>(
     rt: &R,
     colour: Colour,
+    reading: Reading,
     text: &[u8],
     is_wanted: bool,
 ) {
@@ -81,7 +99,7 @@ pub fn explain_hash<R: Runtime + AllocGlobal>(
     } else {
         HashRule::NotWrong
     };
-    if let Ok(Some(fault)) = hash_fault(rt.alloc(), text, rule) {
+    if let Ok(Some(fault)) = hash_fault_within(rt.alloc(), text, reading.limits(), rule) {
         explain_hash_fault(rt, colour, fault);
     }
 }
@@ -89,10 +107,11 @@ pub fn explain_hash<R: Runtime + AllocGlobal>(
 /// Which patches of a text are skipped where it is taken into this repository with `--skip`, and why.
 fn skips_of_text<R: Runtime + AllocGlobal>(
     rt: &R,
+    reading: Reading,
     before: &Repo<Global>,
     text: &[u8],
 ) -> Option<Vec<Skip>> {
-    let Ok(bundle) = read_bundle(rt.alloc(), text) else {
+    let Ok(bundle) = read_bundle_within(rt.alloc(), text, reading.limits()) else {
         return None;
     };
     match find_skips(rt.alloc(), before, &bundle) {
@@ -104,6 +123,7 @@ fn skips_of_text<R: Runtime + AllocGlobal>(
 /// The same where some were. The repository is the one that the text wasn't taken into yet.
 fn skips_in<R: Runtime + AllocGlobal>(
     rt: &R,
+    reading: Reading,
     before: &Repo<Global>,
     text: &[u8],
     verdict: Verdict,
@@ -111,25 +131,27 @@ fn skips_in<R: Runtime + AllocGlobal>(
     let Verdict::TakenSome(_, _) = verdict else {
         return None;
     };
-    skips_of_text(rt, before, text)
+    skips_of_text(rt, reading, before, text)
 }
 
 /// Which patches of a text will be skipped, and why, where it is taken into this repository by the policy.
 pub fn skips_ahead<R: Runtime + AllocGlobal>(
     rt: &R,
+    reading: Reading,
     before: &Repo<Global>,
     text: &[u8],
     policy: Policy,
 ) -> Option<Vec<Skip>> {
     match policy {
         Policy::Refuse => None,
-        Policy::Skip => skips_of_text(rt, before, text),
+        Policy::Skip => skips_of_text(rt, reading, before, text),
     }
 }
 
 /// The same as [`skips_in`] after a base, which is taken once more.
 fn skips_after<R: Runtime + AllocGlobal>(
     rt: &R,
+    reading: Reading,
     base: Option<Base<'_>>,
     text: &[u8],
     verdict: Verdict,
@@ -140,7 +162,7 @@ fn skips_after<R: Runtime + AllocGlobal>(
     let Ok(before) = repo_of(rt.alloc(), base) else {
         return None;
     };
-    skips_in(rt, &before, text, verdict)
+    skips_in(rt, reading, &before, text, verdict)
 }
 
 /// Prints an account, with why patches were skipped where that is known.
@@ -167,6 +189,7 @@ fn print_account<R: Runtime + AllocGlobal>(
 fn explain_verdict<R: Runtime + AllocGlobal>(
     rt: &R,
     colour: Colour,
+    reading: Reading,
     repo: &Repo<Global>,
     text: &[u8],
     policy: Policy,
@@ -174,11 +197,11 @@ fn explain_verdict<R: Runtime + AllocGlobal>(
     skips: Option<Vec<Skip>>,
 ) {
     if let Verdict::Malformed(fault) = verdict {
-        let malformed = Malformed::new(text, fault);
+        let malformed = Malformed::new(text, fault, reading.remedy);
         say(rt, colour, &malformed);
         return;
     }
-    let Ok(bundle) = read_bundle(rt.alloc(), text) else {
+    let Ok(bundle) = read_bundle_within(rt.alloc(), text, reading.limits()) else {
         return;
     };
     let Ok(account) = account_of(rt.alloc(), repo, &bundle, policy, verdict) else {
@@ -191,21 +214,23 @@ fn explain_verdict<R: Runtime + AllocGlobal>(
 pub fn explain_applied<R: Runtime + AllocGlobal>(
     rt: &R,
     colour: Colour,
+    reading: Reading,
     base: Option<Base<'_>>,
     policy: Policy,
     applied: &Applied,
 ) {
-    let skips = skips_after(rt, base, &applied.text, applied.verdict);
+    let skips = skips_after(rt, reading, base, &applied.text, applied.verdict);
     explain_verdict(
         rt,
         colour,
+        reading,
         &applied.repo,
         &applied.text,
         policy,
         applied.verdict,
         skips,
     );
-    explain_hash(rt, colour, &applied.text, false);
+    explain_hash(rt, colour, reading, &applied.text, false);
 }
 
 /// Says whom the verdict on a text is about that was taken into this repository, and why patches were skipped, where
@@ -213,6 +238,7 @@ pub fn explain_applied<R: Runtime + AllocGlobal>(
 pub fn explain_taken<R: Runtime + AllocGlobal>(
     rt: &R,
     colour: Colour,
+    reading: Reading,
     repo: &Repo<Global>,
     text: &[u8],
     policy: Policy,
@@ -223,7 +249,7 @@ pub fn explain_taken<R: Runtime + AllocGlobal>(
         Verdict::TakenSome(_, _) => skips,
         _ => None,
     };
-    explain_verdict(rt, colour, repo, text, policy, verdict, skips);
+    explain_verdict(rt, colour, reading, repo, text, policy, verdict, skips);
 }
 
 /// Takes the text of a mail once more, and says whom its verdict is about. Returns whether the verdict is the one that the
@@ -241,7 +267,8 @@ fn explain_mail<R: Runtime + AllocGlobal>(
     let Body::Bundle(text) = &mail.body else {
         return true;
     };
-    let skips = skips_in(rt, repo, text.as_bytes(), verdict);
+    let reading = Reading::of_run();
+    let skips = skips_in(rt, reading, repo, text.as_bytes(), verdict);
     if take(repo, arena, text.as_bytes(), policy) != verdict {
         return false;
     }
@@ -252,7 +279,16 @@ fn explain_mail<R: Runtime + AllocGlobal>(
         colour,
         &format_args!("mirror {mirror} bundle {poster} {number} {verdict}\n"),
     );
-    explain_verdict(rt, colour, repo, text.as_bytes(), policy, verdict, skips);
+    explain_verdict(
+        rt,
+        colour,
+        reading,
+        repo,
+        text.as_bytes(),
+        policy,
+        verdict,
+        skips,
+    );
     true
 }
 

@@ -2,6 +2,7 @@
 use crate::base::Base;
 use crate::fault::ToolFault;
 use crate::input::{INPUT, Input, InputFault};
+use crate::reading::kinds_of;
 use crate::streams::read_within;
 use crate::word_fault::WordFault;
 use clap::ArgMatches;
@@ -68,6 +69,7 @@ pub fn read_base<'a>(
         (None, Some(name)) => (name, Limits::OWN),
         (None, None) => return Ok(None),
     };
+    let limits = limits.with_kinds(kinds_of(words));
     let text = read_file(rt, name, limits)?;
     Ok(Some(BaseFile { name, text, limits }))
 }

@@ -3,11 +3,11 @@ use crate::base::repo_of;
 use crate::fault::ToolFault;
 use crate::files::{base_of, read_base, read_file};
 use crate::mirror::read_repo;
+use crate::reading::{Reading, refuse_kinds};
 use crate::word_fault::WordFault;
 use clap::ArgMatches;
-use dm_bundle::read_bundle;
+use dm_bundle::read_bundle_within;
 use dm_log::{LogOptions, Patches, write_context, write_entries};
-use dm_named::Limits;
 use dm_scratch::Verdict;
 use std::io::{self, ErrorKind, Write};
 
@@ -60,8 +60,9 @@ fn log_of_bundle<'a>(
     words: &ArgMatches<'a>,
     name: &'a str,
 ) -> Result<Vec<u8>, WordFault<'a>> {
-    let text = read_file(rt, name, Limits::STANDARD)?;
-    match read_bundle(rt.alloc(), &text) {
+    let limits = Reading::of_words(words).limits();
+    let text = read_file(rt, name, limits)?;
+    match read_bundle_within(rt.alloc(), &text, limits) {
         Ok(bundle) => Ok(text_of(rt, words, &bundle)?),
         Err(fault) => Err(WordFault::of_base(name, ToolFault::of_base(Verdict::unread(fault)))),
     }
@@ -84,7 +85,8 @@ pub fn log<'a>(
     is_terminal: bool,
 ) -> Result<u8, WordFault<'a>> {
     let text = if words.contains_id("mirror") {
-        let repo = read_repo(rt, words, is_terminal)?;
+        refuse_kinds(words)?;
+        let (repo, _) = read_repo(rt, words, is_terminal)?;
         text_of(rt, words, &repo)?
     } else if let Some(name) = words.get_str("bundle") {
         log_of_bundle(rt, words, name)?

@@ -39,6 +39,7 @@ mod obliterating;
 mod plan_words;
 mod print;
 mod progress;
+mod reading;
 mod running;
 mod send;
 mod sending;

@@ -4,11 +4,13 @@ ghost use Rattle.dm_disk.specs.States.{seen, may_leave, file_may_leave};
 ghost use Rattle.dm_journal.specs.Device.{IsDurable};
 ghost use Rattle.dm_journal.specs.Hidden.{Hides};
 ghost use Rattle.dm_store.specs.Keeping.{IsStored, KeepsRepo};
+ghost use Rattle.dm_store.specs.Kinds.{kinds_in};
 
 use crate::word_fault::WordFault;
 use clap::ArgMatches;
 use dm_disk::{Access, DiskFile, Lock, OpenFault};
 use dm_journal::Device;
+use dm_named::Kinds;
 use dm_repo::Repo;
 use dm_store::Store;
 use std::alloc::Global;
@@ -63,7 +65,7 @@ pub fn open_store<'a, D: Device + Drop>(
 ) -> Result<Store<D>, WordFault<'a>>
     requires { IsDurable D.seen D.may_leave D.file_may_leave device }
     ensures stored { IfOk result (IsStored D.seen D.may_leave D.file_may_leave) }
-    ensures keeps { IfOk result (λ store. KeepsRepo (D.seen device) store.repo.patches) }
+    ensures keeps { IfOk result (λ store. KeepsRepo (kinds_in store) (D.seen device) store.repo.patches) }
     ensures hides_none { OnOk result ((at : ℕ) → ¬ Hides (D.seen device) at) }
 {
     match Store::open(rt.alloc(), device) {
@@ -86,14 +88,16 @@ fn read_mirror<'a>(
     open_store(rt, path, file)
 }
 
-/// The repository of `--mirror`, whose file is let go.
+/// The repository of `--mirror`, whose file is let go, and the kinds of primitives that the mirror reads.
 pub fn read_repo<'a>(
     rt: &HostRuntime,
     words: &ArgMatches<'a>,
     is_terminal: bool,
-) -> Result<Repo<Global>, WordFault<'a>> {
-    let (_, repo) = read_mirror(rt, words, is_terminal)?.into_parts();
-    Ok(repo)
+) -> Result<(Repo<Global>, Kinds), WordFault<'a>> {
+    let store = read_mirror(rt, words, is_terminal)?;
+    let kinds = store.kinds();
+    let (_, repo) = store.into_parts();
+    Ok((repo, kinds))
 }
 
 /// The file of a mirror, if one stands at the path.

@@ -1,12 +1,17 @@
 //! `dm obliterate`: patches are taken out of a mirror, and kept as a bundle.
-ghost use Rattle.std.specs.Prelude.{◌≡◌, ◌⊎◌, IfOk, IsTrue, OnOk};
+ghost use Rattle.std.specs.Prelude.{◌≡◌, ◌⊎◌, Err, IfOk, IsTrue, OnOk};
 ghost use Rattle.dm_disk.specs.States.{seen, may_leave, file_may_leave};
+ghost use Rattle.dm_journal.specs.declared.fault.WriteError.{WriteError};
 ghost use Rattle.dm_journal.specs.Device.{IsDurable, LeavesOnly};
 ghost use Rattle.dm_send.specs.Obliterating.{Obliterates};
-ghost use Rattle.dm_scratch.specs.Taking.{Reads};
+ghost use Rattle.dm_named.specs.Laws.{with_kinds};
+ghost use Rattle.dm_named.specs.Limits.{standard};
+ghost use Rattle.dm_scratch.specs.Taking.{ReadsWithin};
 ghost use Rattle.dm_store.specs.Keeping.{IsStored};
+ghost use Rattle.dm_store.specs.Kinds.{kinds_in};
 ghost use Rattle.dm_store.specs.LettingGo.{LosesNothing};
 ghost use Rattle.dm_tool.specs.Obliterating.{TakesOut};
+ghost use Rattle.dm_tool.specs.declared.obliterating.Unkept.TheVariants as unkept;
 
 use crate::choosing::{chosen_names, label_of};
 use crate::colour::{Colour, say};
@@ -20,6 +25,7 @@ use dm_bundle::Bundle;
 use dm_disk::{Access, DiskFile, Lock};
 use dm_info::Info;
 use dm_journal::{Device, WriteError, replace_file};
+use dm_named::Kinds;
 use dm_repo::Refusal;
 use dm_send::{Obliterated, obliterate};
 use dm_store::Store;
@@ -46,9 +52,11 @@ fn keep_and_let_go<D: Device, F: Device>(
 ) -> Result<bool, Unkept>
     requires stored { IsStored D.seen D.may_leave D.file_may_leave store.old }
     requires durable { IsDurable F.seen F.may_leave F.file_may_leave file.old }
-    requires takes_out { TakesOut store.old.repo.patches out text.now }
+    requires takes_out { TakesOut (kinds_in store.old) store.old.repo.patches out text.now }
 
     ensures done { IfOk result (λ done. IsTrue done → store.new.repo ≡ out.repo) }
+    ensures unless_done { IfOk result (λ done. ¬ IsTrue done → store.new ≡ store.old) }
+    ensures unless_kept { (fault : WriteError) → result ≡ Err (unkept.Bundle fault) → store.new ≡ store.old }
     ensures stored { OnOk result (IsStored D.seen D.may_leave D.file_may_leave store.new) }
     ensures kept { OnOk result (IsDurable F.seen F.may_leave F.file_may_leave file.new × (F.seen file.new ≡ text.now)) }
 
@@ -58,7 +66,7 @@ fn keep_and_let_go<D: Device, F: Device>(
     // A crash at any moment loses no patch, once the mirror is touched: the one file or the other has it. It leaves the file of
     // the bundle as it was, or whole.
     ensures any_moment { (store.new ≡ store.old) ⊎ LeavesOnly D.moment D.left_since store.old.journal.device store.new.journal.device
-        (LosesNothing store.old.repo.patches out.repo.patches (F.may_leave file.new)) }
+        (LosesNothing (kinds_in store.old) store.old.repo.patches out.repo.patches (F.may_leave file.new)) }
     ensures file { LeavesOnly F.moment F.left_since file.old file.new (λ c. (c ≡ F.seen file.old) ⊎ (c ≡ text.now)) }
 {
     if let Err(fault) = replace_file(file, text) {
@@ -100,7 +108,7 @@ fn keep_in_file<'a>(
     out: Obliterated<Global>,
 ) -> Result<(), WordFault<'a>>
     requires stored { IsStored seen may_leave file_may_leave store }
-    requires takes_out { TakesOut store.repo.patches out text.now }
+    requires takes_out { TakesOut (kinds_in store) store.repo.patches out text.now }
 {
     let mut file = open_kept(rt, name)?;
     let count = out.bundle.new_patches().len();
@@ -190,11 +198,15 @@ fn explain_obliterated<'a>(
     Ok(())
 }
 
-/// The text of the bundle of what goes, which is within the limits of what is read.
-fn kept_text<'a>(rt: &HostRuntime, bundle: &Bundle<Global>) -> Result<Vec<u8>, WordFault<'a>>
-    ensures { IfOk result (λ text. Reads text.items bundle.now) }
+/// The text of the bundle of what goes, of primitives of these kinds, which is within the limits of what is read.
+fn kept_text<'a>(
+    rt: &HostRuntime,
+    kinds: Kinds,
+    bundle: &Bundle<Global>,
+) -> Result<Vec<u8>, WordFault<'a>>
+    ensures { IfOk result (λ text. ReadsWithin (with_kinds standard kinds) text.items bundle.now) }
 {
-    match text_of(rt.alloc(), bundle) {
+    match text_of(rt.alloc(), kinds, bundle) {
         Ok(text) => Ok(text),
         Err(ToolFault::TooManyToSend) => Err(WordFault::TooManyToTakeOut),
         Err(fault) => Err(WordFault::Tool(fault)),
@@ -216,7 +228,7 @@ fn take_out<'a>(
     if out.bundle.new_patches().is_empty() {
         return Err(WordFault::NothingToUndo);
     }
-    let text = kept_text(rt, &out.bundle)?;
+    let text = kept_text(rt, store.kinds(), &out.bundle)?;
     if words.get_flag("dry-run") {
         write_text(&text, &mut io::writer(rt))?;
         return Ok(0);

@@ -4,6 +4,7 @@ use crate::colour::Colour;
 use crate::explaining::{explain_base, explain_run};
 use crate::fault::ToolFault;
 use crate::files::{BaseFile, read_base, read_file};
+use crate::reading::Reading;
 use crate::running::{Bases, Ran, run_over};
 use crate::telling::{Manner, NO_ANSWER, fixed_manner, tell};
 use crate::word_fault::WordFault;
@@ -196,6 +197,7 @@ fn count_of(fault: PlanFault, posters: &Posters<'_>, mirrors: u32, bound: u32) -
 pub fn refuse_base(
     rt: &HostRuntime,
     colour: Colour,
+    reading: Reading,
     words: &ArgMatches<'_>,
     file: &BaseFile<'_>,
     verdict: Verdict,
@@ -203,7 +205,7 @@ pub fn refuse_base(
     let manner = fixed_manner(words);
     tell(rt, manner, WordFault::BadBase(file.name, verdict));
     if manner == Manner::Explained {
-        explain_base(rt, colour, file.base(), verdict);
+        explain_base(rt, colour, reading, file.base(), verdict);
     }
     NO_ANSWER
 }
@@ -231,7 +233,8 @@ pub fn run_plan<'a, R: Runtime + AllocGlobal + Threads + Wait + Sync>(
             Ok(ran.status)
         }
         (Err(ToolFault::BadPlan(PlanFault::BadBase(_, verdict))), Some(file)) => {
-            Ok(refuse_base(host, colour, words, file, verdict))
+            let reading = Reading::of_run();
+            Ok(refuse_base(host, colour, reading, words, file, verdict))
         }
         (Err(ToolFault::BadPlan(fault)), _) => Err(WordFault::BadPlan(
             fault,

@@ -3,10 +3,11 @@ ghost use Rattle.std.specs.Prelude.{◌≡◌, ◌≢◌, ◌≤◌, ◌⊎◌, 
 ghost use Rattle.std.specs.Io.KnownBytes.{Keeps};
 ghost use Rattle.std.specs.List.{AllByRecursion};
 ghost use Rattle.dm_bundle.specs.Patches.{AreFew};
+ghost use Rattle.dm_named.specs.Laws.{with_kinds};
 ghost use Rattle.dm_named.specs.Limits.{standard};
 ghost use Rattle.dm_scratch.specs.declared.verdict.Verdict.TheVariants.{Refused};
 ghost use Rattle.dm_scratch.specs.Printing.{line_of};
-ghost use Rattle.dm_scratch.specs.Taking.{Reads};
+ghost use Rattle.dm_scratch.specs.Taking.{ReadsWithin};
 ghost use Rattle.dm_scratch.specs.Words.{verdict_text};
 ghost use Rattle.dm_send.specs.Telling.{TellsNames};
 ghost use Rattle.dm_tool.specs.Streams.{Writes, WritesPrefix};
@@ -20,10 +21,11 @@ use crate::streams::write_text;
 use dm_bundle::Bundle;
 use dm_hash::write_hashed;
 use dm_info::Info;
-use dm_named::{Limits, Named};
+use dm_named::{Kinds, Limits, Named};
 use dm_repo::{Refusal, Repo};
 use dm_scratch::{Verdict, push_verdict};
 use dm_send::{read_names, send, send_minimal};
+use dm_store::are_of;
 use std::alloc::Global;
 use std::io::Write;
 
@@ -104,13 +106,17 @@ fn are_few(patches: &[Named<Global>]) -> bool
     are_short(patches)
 }
 
-/// The text of a bundle with the hash of its patches, where both are within the limits of what is read.
-pub fn text_of(alloc: Global, bundle: &Bundle<Global>) -> Result<Vec<u8>, ToolFault>
+/// The text of a bundle of primitives of these kinds with the hash of its patches, where both are within the limits of what is
+/// read.
+pub fn text_of(alloc: Global, kinds: Kinds, bundle: &Bundle<Global>) -> Result<Vec<u8>, ToolFault>
     ensures text { IfOk result (λ text. text.items ≡ hashed_text bundle.now) }
-    ensures reads { IfOk result (λ text. Reads text.items bundle.now) }
-    ensures err { IfErr result (λ e. (e ≡ ToolFault.NoMemory) ⊎ ((e ≡ ToolFault.TooManyToSend) × (IsWithinLimits bundle.now → ⊥))) }
+    ensures reads { IfOk result (λ text. ReadsWithin (with_kinds standard kinds) text.items bundle.now) }
+    ensures err { IfErr result (λ e. (e ≡ ToolFault.NoMemory) ⊎ ((e ≡ ToolFault.TooManyToSend) × (IsWithinLimits kinds bundle.now → ⊥))) }
 {
     if !are_few(bundle.new_patches()) {
+        return Err(ToolFault::TooManyToSend);
+    }
+    if !are_of(kinds, bundle.new_patches()) {
         return Err(ToolFault::TooManyToSend);
     }
     let text = write_hashed(alloc, bundle)?;
@@ -137,20 +143,21 @@ pub fn refusal_line(alloc: Global, why: Refusal) -> Result<Vec<u8>, ToolFault>
 /// What is printed for somebody who holds patches of these names, and what is told of it.
 fn answer_for(
     alloc: Global,
+    kinds: Kinds,
     repo: &Repo<Global>,
     names: &[Info<Global>],
     most: usize,
     is_minimal: bool,
 ) -> Result<(Vec<u8>, Sent), ToolFault>
-    ensures ok { IfOk result (λ x. AnswersNames is_minimal repo.now.patches names.now most x.0.items x.1.status) }
+    ensures ok { IfOk result (λ x. AnswersNames kinds is_minimal repo.now.patches names.now most x.0.items x.1.status) }
     ensures told { IfOk result (λ x. TellsNumbers is_minimal repo.now.patches names.now most x.1) }
     ensures err { IfErr result (λ e. (e ≡ ToolFault.NoMemory) ⊎
-        ((e ≡ ToolFault.TooManyToSend) × IsPastLimits is_minimal repo.now.patches names.now most)) }
+        ((e ≡ ToolFault.TooManyToSend) × IsPastLimits kinds is_minimal repo.now.patches names.now most)) }
 {
     let unheld = count_unheld(repo, names);
     match bundle_for(alloc, repo, names, most, is_minimal) {
         Ok(bundle) => {
-            let text = text_of(alloc, &bundle)?;
+            let text = text_of(alloc, kinds, &bundle)?;
             let sent = Sent {
                 status: 0,
                 new: Some(bundle.new_patches().len()),
@@ -184,22 +191,23 @@ fn their_names(alloc: Global, theirs: Option<Base<'_>>) -> Result<Vec<Info<Globa
 /// What is printed for somebody of whom a text tells what they hold, or who holds nothing, and what is told of it.
 fn answer_to(
     alloc: Global,
+    kinds: Kinds,
     repo: &Repo<Global>,
     theirs: Option<Base<'_>>,
     most: usize,
     is_minimal: bool,
 ) -> Result<(Vec<u8>, Sent), ToolFault>
-    ensures ok { IfOk result (λ x. AnswersTexts is_minimal repo.now.patches theirs.entry most x.0.items x.1.status) }
+    ensures ok { IfOk result (λ x. AnswersTexts kinds is_minimal repo.now.patches theirs.entry most x.0.items x.1.status) }
     ensures told { IfOk result (λ x. TellsTexts is_minimal repo.now.patches theirs.entry most x.1) }
-    ensures err { IfErr result (RefusesTexts is_minimal repo.now.patches theirs.entry most) }
+    ensures err { IfErr result (RefusesTexts kinds is_minimal repo.now.patches theirs.entry most) }
 {
     let names = their_names(alloc, theirs)?;
-    let answer = answer_for(alloc, repo, &names, most, is_minimal)?;
+    let answer = answer_for(alloc, kinds, repo, &names, most, is_minimal)?;
     Ok(answer)
 }
 
 /// Writes the canonical bundle of the patches that somebody lacks, as they stand behind what both hold: the first `most` of
-/// those of a repository. Another text tells what they hold; without one they hold nothing. A minimal bundle names in its context
+/// those of a repository, whose primitives are of these kinds. Another text tells what they hold; without one they hold nothing. A minimal bundle names in its context
 /// only what its patches rest on. Behind the context stands the hash of the patches. Where a patch that they hold rests on one
 /// that they don't, or a repository of what both hold would refuse the bundle, it writes the line of the refusal. Returns the exit
 /// status, 0 with a bundle and 1 with a refusal, and what it tells.
@@ -209,21 +217,22 @@ fn answer_to(
 /// is a prefix of the output.
 pub fn send_over<W: Write>(
     alloc: Global,
+    kinds: Kinds,
     repo: &Repo<Global>,
     theirs: Option<Base<'_>>,
     most: usize,
     is_minimal: bool,
     writer: &mut W,
 ) -> Result<Sent, ToolFault>
-    ensures ok { IfOk result (λ sent. Writes (AnswersTexts is_minimal repo.now.patches theirs.entry most)
+    ensures ok { IfOk result (λ sent. Writes (AnswersTexts kinds is_minimal repo.now.patches theirs.entry most)
         (W.contents writer.old) (W.contents writer.new) sent.status) }
     ensures told { IfOk result (TellsTexts is_minimal repo.now.patches theirs.entry most) }
-    ensures fault { IfErr result (λ e. (e ≢ ToolFault.Write) → RefusesTexts is_minimal repo.now.patches theirs.entry most e) }
+    ensures fault { IfErr result (λ e. (e ≢ ToolFault.Write) → RefusesTexts kinds is_minimal repo.now.patches theirs.entry most e) }
     ensures silent { IfErr result (λ e. (e ≢ ToolFault.Write) → Keeps (W.contents writer.old) (W.contents writer.new)) }
     ensures prefix { IfErr result (λ e. (e ≡ ToolFault.Write) →
-        WritesPrefix (AnswersTexts is_minimal repo.now.patches theirs.entry most) (W.contents writer.old) (W.contents writer.new)) }
+        WritesPrefix (AnswersTexts kinds is_minimal repo.now.patches theirs.entry most) (W.contents writer.old) (W.contents writer.new)) }
 {
-    let (out, sent) = answer_to(alloc, repo, theirs, most, is_minimal)?;
+    let (out, sent) = answer_to(alloc, kinds, repo, theirs, most, is_minimal)?;
     write_text(&out, writer)?;
     Ok(sent)
 }

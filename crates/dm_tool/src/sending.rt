@@ -5,6 +5,7 @@ use crate::explaining::{explain_base, explain_theirs};
 use crate::fault::ToolFault;
 use crate::files::{base_of, read_base, read_file};
 use crate::mirror::read_repo;
+use crate::reading::{Reading, refuse_kinds};
 use crate::send::{Sent, send_over};
 use crate::telling::{Manner, NO_ANSWER, tell};
 use crate::word_fault::WordFault;
@@ -45,6 +46,7 @@ fn read_theirs<'a>(
 fn send_from<'a>(
     rt: &HostRuntime,
     colour: Colour,
+    reading: Reading,
     words: &ArgMatches<'a>,
     repo: &Repo<Global>,
 ) -> Result<u8, WordFault<'a>> {
@@ -52,7 +54,7 @@ fn send_from<'a>(
     let theirs = match &file {
         Some(text) => Some(Base {
             text,
-            limits: Limits::OWN,
+            limits: Limits::OWN.with_kinds(reading.kinds),
         }),
         None => None,
     };
@@ -62,7 +64,15 @@ fn send_from<'a>(
     };
     let is_minimal = words.get_flag("minimal");
     let mut writer = io::writer(rt);
-    match send_over(rt.alloc(), repo, theirs, most, is_minimal, &mut writer) {
+    match send_over(
+        rt.alloc(),
+        reading.kinds,
+        repo,
+        theirs,
+        most,
+        is_minimal,
+        &mut writer,
+    ) {
         Ok(sent) => {
             say_sent(rt, &sent);
             Ok(sent.status)
@@ -71,7 +81,7 @@ fn send_from<'a>(
             let name = words.get_str("to").unwrap_or("");
             tell(rt, Manner::Full, WordFault::BadNames(name, fault));
             if let (true, Some(text)) = (words.get_flag("explain"), &file) {
-                explain_theirs(rt, colour, text, fault);
+                explain_theirs(rt, colour, reading, text, fault);
             }
             Ok(NO_ANSWER)
         }
@@ -87,16 +97,18 @@ pub fn send<'a>(
     is_terminal: bool,
 ) -> Result<u8, WordFault<'a>> {
     if words.contains_id("mirror") {
-        let repo = read_repo(rt, words, is_terminal)?;
-        return send_from(rt, colour, words, &repo);
+        refuse_kinds(words)?;
+        let (repo, kinds) = read_repo(rt, words, is_terminal)?;
+        return send_from(rt, colour, Reading::of_mirror(kinds), words, &repo);
     }
+    let reading = Reading::of_words(words);
     let file = read_base(rt, words)?;
     match (repo_of(rt.alloc(), base_of(&file)), &file) {
-        (Ok(repo), _) => send_from(rt, colour, words, &repo),
+        (Ok(repo), _) => send_from(rt, colour, reading, words, &repo),
         (Err(fault), Some(file)) => {
             tell(rt, Manner::Full, WordFault::of_base(file.name, fault));
             if let (true, ToolFault::BadBase(verdict)) = (words.get_flag("explain"), fault) {
-                explain_base(rt, colour, file.base(), verdict);
+                explain_base(rt, colour, reading, file.base(), verdict);
             }
             Ok(NO_ANSWER)
         }

@@ -119,12 +119,12 @@ pub fn undo_chosen<'a>(
     words: &ArgMatches<'a>,
     is_terminal: bool,
 ) -> Result<u8, WordFault<'a>> {
-    let repo = read_repo(rt, words, is_terminal)?;
+    let (repo, kinds) = read_repo(rt, words, is_terminal)?;
     let chosen = chosen_names(rt, words, &repo)?;
     let info = info_of(rt, words, &chosen)?;
     match roll_back(rt.alloc(), &repo, &chosen, info) {
         Ok(bundle) => {
-            let text = text_of(rt.alloc(), &bundle)?;
+            let text = text_of(rt.alloc(), kinds, &bundle)?;
             write_text(&text, &mut io::writer(rt))?;
             Ok(0)
         }

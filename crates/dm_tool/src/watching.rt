@@ -1,6 +1,7 @@
 //! What `--explain` says while bundles are taken.
 use crate::colour::{Colour, say};
 use crate::explaining::{explain_hash, explain_hash_fault, explain_taken, skips_ahead};
+use crate::reading::Reading;
 use dm_deliver::{Answer, Observer};
 use dm_repo::{Policy, Repo, Skip};
 use std::alloc::Global;
@@ -12,6 +13,7 @@ pub struct Watcher<'w, 'a> {
     rt: HostRuntime,
     colour: Colour,
     explains: bool,
+    reading: Reading,
     // The files that are still to come; none where bundles have no files.
     names: &'w [&'a str],
     has_several: bool,
@@ -23,12 +25,14 @@ impl<'w, 'a> Watcher<'w, 'a> {
         rt: HostRuntime,
         colour: Colour,
         explains: bool,
+        reading: Reading,
         names: &'w [&'a str],
     ) -> Watcher<'w, 'a> {
         Watcher {
             rt,
             colour,
             explains,
+            reading,
             names,
             has_several: names.len() > 1,
             skips: None,
@@ -50,7 +54,7 @@ impl<'w, 'a> Watcher<'w, 'a> {
 impl Observer for Watcher<'_, '_> {
     fn before(&mut self, repo: &Repo<Global>, text: &[u8], policy: Policy) {
         if self.explains {
-            self.skips = skips_ahead(&self.rt, repo, text, policy);
+            self.skips = skips_ahead(&self.rt, self.reading, repo, text, policy);
         }
     }
 
@@ -62,8 +66,18 @@ impl Observer for Watcher<'_, '_> {
         match answer {
             Answer::Verdict(verdict) => {
                 let skips = self.skips.take();
-                explain_taken(&self.rt, self.colour, repo, text, policy, verdict, skips);
-                explain_hash(&self.rt, self.colour, text, false);
+                let reading = self.reading;
+                explain_taken(
+                    &self.rt,
+                    self.colour,
+                    reading,
+                    repo,
+                    text,
+                    policy,
+                    verdict,
+                    skips,
+                );
+                explain_hash(&self.rt, self.colour, reading, text, false);
             }
             Answer::Hash(fault) => explain_hash_fault(&self.rt, self.colour, fault),
         }

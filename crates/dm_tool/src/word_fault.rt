@@ -62,6 +62,9 @@ pub enum WordFault<'a> {
     /// The bundles on standard input end, or can't be told apart. All before this frame are answered.
     #[error("{0}")]
     BadFrame(FrameFault),
+    /// The kinds of primitives were named beside a mirror.
+    #[error("a mirror remembers which kinds it reads; --all-kinds goes with dm init")]
+    KindsOfMirror,
     /// No patch of the mirror has this name, nor a hash that begins so.
     #[error("the mirror holds no patch {0}: a name or the first seven digits of a hash are wanted, as dm log prints them")]
     UnknownPatch(&'a str),

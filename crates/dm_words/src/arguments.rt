@@ -170,6 +170,13 @@ pub fn hash<'a>(alloc: Global) -> Arg<'a>
     )
 }
 
+/// The word that has binaries and changes of preferences read, too.
+pub fn all_kinds<'a>(alloc: Global, help: &'a str) -> Arg<'a>
+    ensures { IsNamed result (codes "all-kinds") }
+{
+    flag(alloc, "all-kinds", help)
+}
+
 /// The word that says how many entries are printed.
 pub fn last<'a>(alloc: Global) -> Arg<'a>
     ensures { IsNamed result (codes "last") }

@@ -1,7 +1,7 @@
 //! The commands.
 use crate::arguments::{
-    bundle, bundles, explain, file, first, flag, hash, last, minimal, mirror, no_wait, number,
-    one_bundle, output, patches, posters, repository, skip, stream, text,
+    all_kinds, bundle, bundles, explain, file, first, flag, hash, last, minimal, mirror, no_wait,
+    number, one_bundle, output, patches, posters, repository, skip, stream, text,
 };
 use clap::{Arg, ArgGroup, Command};
 use std::alloc::{AllocError, Global};
@@ -65,6 +65,14 @@ Exit status: 0 if a bundle was made, 1 if it was refused, 2 if there is no answe
 
 Example: dm send --mirror shelf.dm --to ann.context > for-ann.dpatch";
 
+/// What is said of the kinds that one call reads, and of those of a mirror.
+const READ_ALL: &str = "Read binaries and changes of preferences, too";
+
+const READ_ALL_HERE: &str =
+    "Read binaries and changes of preferences, too; a mirror remembers whether it does";
+
+const REMEMBER_ALL: &str = "Have the mirror read binaries and changes of preferences, too";
+
 /// What the exit status says.
 const HELP: &str = "\
 Exit status: 0 if all was taken, read or made, 1 if a verdict refuses something, 2 if there is no answer.
@@ -91,6 +99,7 @@ fn apply_words<'a>(alloc: Global) -> Result<Command<'a>, AllocError> {
         .arg(bundle(alloc))?
         .arg(flag(alloc, "quiet", "Print the verdicts alone").conflicts_with("bundle")?)?
         .arg(hash(alloc))?
+        .arg(all_kinds(alloc, READ_ALL_HERE))?
         .arg(explain(alloc))?
         .arg(skip(alloc))?
         .arg(stream(alloc)?)?
@@ -108,6 +117,7 @@ fn check_words<'a>(alloc: Global) -> Result<Command<'a>, AllocError> {
             "Print the paths that its patches touch, in place of its text",
         ))?
         .arg(hash(alloc))?
+        .arg(all_kinds(alloc, READ_ALL))?
         .arg(explain(alloc))?
         .arg(one_bundle(
             alloc,
@@ -123,6 +133,7 @@ fn init_words<'a>(alloc: Global) -> Result<Command<'a>, AllocError> {
         .arg(mirror(alloc, "The file to make, which keeps the mirror").required(true))?
         .arg(file(alloc, "base", "Begin with the bundle of FILE"))?
         .arg(repository(alloc)?)?
+        .arg(all_kinds(alloc, REMEMBER_ALL))?
         .arg(no_wait(alloc))?
         .arg(explain(alloc))
 }
@@ -171,6 +182,7 @@ fn log_words<'a>(alloc: Global) -> Result<Command<'a>, AllocError> {
             .conflicts_with("count")?
             .conflicts_with("last")?,
         )?
+        .arg(all_kinds(alloc, READ_ALL_HERE))?
         .arg(no_wait(alloc).requires_arg("mirror")?)
 }
 
@@ -287,6 +299,7 @@ fn send_words<'a>(alloc: Global) -> Result<Command<'a>, AllocError> {
         )?
         .arg(first(alloc))?
         .arg(minimal(alloc))?
+        .arg(all_kinds(alloc, READ_ALL_HERE))?
         .arg(no_wait(alloc).requires_arg("mirror")?)?
         .arg(explain(alloc))?
         .arg(file(alloc, "to", theirs))

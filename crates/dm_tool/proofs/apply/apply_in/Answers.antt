@@ -1,10 +1,10 @@
 use Rattle.std.proofs.Common.{List, ℕ, take, inl, inr, refl, subst}
 use Rattle.std.proofs.lemmas.Result.{err_from_is_err_and}
 use Rattle.std.specs.Io.KnownBytes.{Appends}
-use Rattle.dm_scratch.specs.Taking.{Takes}
+use Rattle.dm_scratch.specs.Taking.{TakesIn}
 use Rattle.dm_tool.specs.Printing.{status_of}
 use Rattle.dm_tool.proofs.AnswerLemmas.{base_is_not_read}
-use Rattle.dm_tool.proofs.apply.apply_over.Goals as goal
+use Rattle.dm_tool.proofs.apply.apply_in.Goals as goal
 
 pub returns-in_err-repo-clause-base_first : goal.returns-in_err-repo-clause-base_first
 returns-in_err-repo-clause-base_first g c =
@@ -32,7 +32,7 @@ returns-in_err-write_text-clause-prefix g c =
     let cut = c.in_err-write_text.ensures.prefix in
     rw (q.1, q.2) (λ is. record {
       out = c.in_ok-answer.answer.items;
-      status = status_of c.take-verdict.result;
+      status = status_of c.take_in-verdict.result;
       count = cut.0;
       answers = record {
         start = c.in_ok-repo.repo.patches;
@@ -40,9 +40,9 @@ returns-in_err-write_text-clause-prefix g c =
         is_start = c.in_ok-repo.ensures.ok;
         gives = c.in_ok-text.ensures.text;
         answers = record {
-          verdict = c.take-verdict.result;
-          after = c.take-verdict.new.repo.patches;
-          takes = subst (λ (t : List ℕ). Takes c.in_ok-repo.repo.patches t c.args.policy c.take-verdict.result c.take-verdict.new.repo.patches) c.deref.ensures.value c.take-verdict.ensures;
+          verdict = c.take_in-verdict.result;
+          after = c.take_in-verdict.new.repo.patches;
+          takes = subst (λ (t : List ℕ). TakesIn c.args.kinds c.in_ok-repo.repo.patches t c.args.policy c.take_in-verdict.result c.take_in-verdict.new.repo.patches) c.deref.ensures.value c.take_in-verdict.ensures;
           prints = c.in_ok-answer.ensures;
           exit = refl;
         };
@@ -59,9 +59,9 @@ returns-clause-ok g c = record {
     is_start = c.in_ok-repo.ensures.ok;
     gives = c.in_ok-text.ensures.text;
     answers = record {
-      verdict = c.take-verdict.result;
-      after = c.take-verdict.new.repo.patches;
-      takes = subst (λ (t : List ℕ). Takes c.in_ok-repo.repo.patches t c.args.policy c.take-verdict.result c.take-verdict.new.repo.patches) c.deref.ensures.value c.take-verdict.ensures;
+      verdict = c.take_in-verdict.result;
+      after = c.take_in-verdict.new.repo.patches;
+      takes = subst (λ (t : List ℕ). TakesIn c.args.kinds c.in_ok-repo.repo.patches t c.args.policy c.take_in-verdict.result c.take_in-verdict.new.repo.patches) c.deref.ensures.value c.take_in-verdict.ensures;
       prints = c.in_ok-answer.ensures;
       exit = c.status_of.ensures;
     };
@@ -74,6 +74,6 @@ returns-clause-told g c = record {
   start = c.in_ok-repo.repo.patches;
   is_start = c.in_ok-repo.ensures.ok;
   gives = c.in_ok-text.ensures.text;
-  takes = subst (λ (t : List ℕ). Takes c.in_ok-repo.repo.patches t c.args.policy c.take-verdict.result c.take-verdict.new.repo.patches) c.deref.ensures.value c.take-verdict.ensures;
+  takes = subst (λ (t : List ℕ). TakesIn c.args.kinds c.in_ok-repo.repo.patches t c.args.policy c.take_in-verdict.result c.take_in-verdict.new.repo.patches) c.deref.ensures.value c.take_in-verdict.ensures;
   exit = c.status_of.ensures;
 }

@@ -1,7 +1,7 @@
 use Rattle.std.proofs.Common.{List, ℕ, take, subst}
 use Rattle.std.proofs.lemmas.Result.{err_from_is_err_and}
 use Rattle.std.specs.Io.KnownBytes.{Appends}
-use Rattle.dm_tool.proofs.check.check_hash_over.Goals as goal
+use Rattle.dm_tool.proofs.check.check_hash_within.Goals as goal
 
 pub returns-in_err-write_text-clause-prefix : goal.returns-in_err-write_text-clause-prefix
 returns-in_err-write_text-clause-prefix g c =
