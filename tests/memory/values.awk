@@ -5,12 +5,14 @@
 #   anywhere, where that is an `AllocError`, an `AllocFailed` or a `ResetError`;
 #   where that is a fault or an answer which may be out of memory (`faults` has their names), in an arm whose pattern says so, or under
 #   an `if` that asks so.
-# It may also stand under an `if` that compares what a call gave with a variant of such a fault, named by its enum.
+# It may also stand under an `if` that compares what a call gave with a variant of such a fault, named by its enum, or in an arm for a
+# variant of a fault of the toolchain's crates, which nothing here makes.
 # In a pattern, a comparison, a type or a contract it is no value.
 
 BEGIN {
   split("AllocError AllocFailed ResetError", list, " ")
   for (i in list) given_by[list[i]] = 2
+  of_the_toolchain["FromHexError"] = 1
   count = split(faults, list, " ")
   for (i = 1; i <= count; i++) given_by[list[i]] = 1
 }
@@ -28,7 +30,7 @@ END {
     else if (w == "fn" && word[at + 1] ~ /^[A-Za-z_]/) open_function()
     else if (w == "{") open_block("block", 0, asks_so(from, at - 1))
     else if (w == "}") close_block()
-    else if (w == "=>") says_so[depth] = names_it(from, at - 1)
+    else if (w == "=>") says_so[depth] = arm_says(from, at - 1)
     else if (names_it(at, at) && !is_no_value(at) && !is_allowed()) print name ":" line[at] ": an out-of-memory answer of its own"
     if (word[at] ~ /^([{};,]|=>)$/) from = at + 1
   }
@@ -138,6 +140,13 @@ function open_function(    start, parens, gives) {
   if (word[at] == "{") open_block("fn", gives, 0)
 }
 
+# Whether these words are a pattern that says so: 2 where it is a variant of a fault of the toolchain, named by its enum.
+function arm_says(i, j,    from_enum) {
+  if (!names_it(i, j)) return 0
+  for (from_enum = 0; i < j; i++) if ((word[i] in of_the_toolchain) && word[i + 1] == "::" && names_it(i + 2, i + 2)) from_enum = 1
+  return from_enum ? 2 : 1
+}
+
 # Whether these words are an `if` that compares something with out of memory: 2 where that is a variant of a fault, named by its
 # enum.
 function asks_so(i, j,    asks) {
@@ -179,7 +188,7 @@ function is_guarded(i) {
 # Whether the function around this place is given what stands here.
 function is_allowed(    i, so) {
   for (i = depth; i > 0; i--) {
-    if (asked[i] == 2) return 1
+    if (asked[i] == 2 || says_so[i] == 2) return 1
     if (asked[i] || says_so[i]) so = 1
     if (kind[i] == "fn") return given[i] == 2 || (given[i] == 1 && so)
   }
