@@ -11,15 +11,15 @@ _dm()
     return
   fi
   case $command in
-    apply) options='--base --repository --mirror --no-wait --dry-run --bundle --quiet --hash --explain --skip --stream' ;;
-    check) options='--paths --hash --explain' ;;
+    apply) options='--base --repository --mirror --no-wait --dry-run --bundle --quiet --hash --all-kinds --explain --skip --stream' ;;
+    check) options='--paths --hash --all-kinds --explain' ;;
     checkout) options='--mirror --no-wait --all-names' ;;
-    init) options='--mirror --base --repository --no-wait --explain' ;;
-    log) options='--mirror --base --repository --last --reverse --verbose --count --context --no-wait' ;;
+    init) options='--mirror --base --repository --all-kinds --no-wait --explain' ;;
+    log) options='--mirror --base --repository --last --reverse --verbose --count --context --all-kinds --no-wait' ;;
     obliterate) options='-o --mirror --output --with-dependents --dry-run --no-wait --explain' ;;
     rollback) options='--mirror --author --date --name --log --no-wait' ;;
     run) options='--mirrors --bound --base --repository --explain --skip' ;;
-    send) options='--mirror --base --repository --first --minimal --no-wait --explain --to' ;;
+    send) options='--mirror --base --repository --first --minimal --all-kinds --no-wait --explain --to' ;;
     *) return ;;
   esac
   case $before in
