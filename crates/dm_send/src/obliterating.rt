@@ -26,7 +26,7 @@ pub struct Obliterated<A: Allocator> {
 /// isn't held is passed over. The repository stays as it was.
 ///
 /// The bundle's context names those of what stays that what goes can't pass, and what these need (`darcs obliterate -o` does so).
-/// What stays takes the bundle, and so does any repository that holds these.
+/// What stays takes the bundle.
 ///
 /// It refuses with [`Refusal::Full`] where a repository of what stays can't be made, or refuses the bundle. The contract doesn't
 /// say why it would; the one cause that we know is a path of too many names.
