@@ -28,7 +28,7 @@ module _ {P : Type 0} {Cell : P → P → P → P → Type 0} (Q : P → Type 0)
   merge_across bare q = q
   merge_across (over r g) q = merge_across g (row_across r q)
 
-  rectangle_across : {xs xs' ys ys' : List P} → Rectangle Cell xs ys ys' xs' → AllByRecursion Q ys → AllByRecursion Q ys'
+  pub rectangle_across : {xs xs' ys ys' : List P} → Rectangle Cell xs ys ys' xs' → AllByRecursion Q ys → AllByRecursion Q ys'
   rectangle_across empty q = q
   rectangle_across (row g r) q = row_across r (rectangle_across g q)
 
@@ -37,7 +37,7 @@ module _ {P : Type 0} {Cell : P → P → P → P → Type 0} (Q : P → Type 0)
     row_along none q = q
     row_along (next {x} {y} {y'} {x1} c r) q = row_along r (along x y y' x1 c q)
 
-    rectangle_along : {xs xs' ys ys' : List P} → Rectangle Cell xs ys ys' xs' → AllByRecursion Q xs → AllByRecursion Q xs'
+    pub rectangle_along : {xs xs' ys ys' : List P} → Rectangle Cell xs ys ys' xs' → AllByRecursion Q xs → AllByRecursion Q xs'
     rectangle_along empty q = q
     rectangle_along (row g r) q = (row_along r q.0, rectangle_along g q.1)
 
@@ -63,10 +63,10 @@ module _ (kinds : Kinds) where
   abbrev pub HasKinds : Placed → Type 0
   HasKinds x = AreOf kinds x.1.prims
 
-  prims_across : (p q q' p' : Prim) → Commutes p q q' p' → IsOf kinds q → IsOf kinds q'
+  pub prims_across : (p q q' p' : Prim) → Commutes p q q' p' → IsOf kinds q → IsOf kinds q'
   prims_across p q q' p' c = (row_kinds kinds c.row).1
 
-  prims_along : (p q q' p' : Prim) → Commutes p q q' p' → IsOf kinds p → IsOf kinds p'
+  pub prims_along : (p q q' p' : Prim) → Commutes p q q' p' → IsOf kinds p → IsOf kinds p'
   prims_along p q q' p' c = (row_kinds kinds c.row).0
 
   commuted_across : (x y y' x' : Placed) → PlacedCommutes x y y' x' → HasKinds y → HasKinds y'

@@ -14,6 +14,7 @@ pub mod MarksLemmas
 pub mod NameLemmas
 pub mod Alike
 pub mod Steps
+pub mod RefusalLemmas
 pub mod DependencyLemmas
 pub mod Making
 pub mod Firsts

@@ -9,6 +9,7 @@ pub mod Repositories
 pub mod CommonSets
 pub mod Marking
 pub mod Weighing
+pub mod Refusals
 pub mod Weighed
 pub mod Skips
 pub mod Misfits

@@ -18,7 +18,8 @@ pub record PassStops {P : Type 0} (Square : P → P → P → P → Type 0) (xs 
   pub stuck : (h' r' : P) → Square r h1 h' r' → ⊥
 
 -- a list is split into a front, its members in the set, and a rest, the others: each of the set passes all outside it that stand before it.
--- Told from the end of the list: a patch of the set stays in front; another yields to the whole front of what stands after it
+-- Told from the end of the list: a patch of the set stays in front; another yields to the whole front of what stands after it.
+-- It is a staircase: each patch outside the set has a row of squares, one for each of the set after it, so no row is longer than the one before it
 pub data Split {P : Type 0} (Square : P → P → P → P → Type 0) (In : P → Type 0) : List P → List P → List P → Type 0 where
   nothing : Split Square In [] [] []
   stays : {h : P} {xs front rest : List P} → In h → Split Square In xs front rest → Split Square In (h ∷ xs) (h ∷ front) rest

@@ -4,6 +4,7 @@ ghost use Rattle.dm_bundle.specs.Bundles.{Contents};
 ghost use Rattle.dm_repo.specs.declared.policy.Policy.{Policy};
 ghost use Rattle.dm_repo.specs.Squares.{Placed, patches, placed};
 ghost use Rattle.dm_repo.specs.Repositories.{IsTreeOf};
+ghost use Rattle.dm_repo.specs.Refusals.{IsBeforeFit, IsBeforeMerge};
 ghost use Rattle.dm_repo.specs.Weighing.{Fits, IsBundleSplit, IsNothingNew, RefusesBundle};
 ghost use Rattle.dm_repo.specs.Weighed.{IsLookedUp};
 ghost use Rattle.dm_repo.specs.Misfits.{IsBasis};
@@ -39,7 +40,7 @@ fn front_tree<A: Allocator, B: Allocator + Copy>(
     ensures { (b : Contents) (new : List Placed) →
         IsBundleSplit repo.now.patches b (placed (take kept repo.now.patches) ++ parted.now.front.items) parted.now.rest.items new → MatchResult result
         (λ tree. IsTreeOf (patches (placed (take kept repo.now.patches) ++ parted.now.front.items)) tree)
-        (λ why. (policy : Policy) → RefusesBundle repo.now.patches b policy why) }
+        (λ why. IsBeforeFit repo.now.patches b why × ((policy : Policy) → RefusesBundle repo.now.patches b policy why)) }
 {
     if parted.rest.is_empty() {
         let tree = repo.tree_copy(alloc)?;
@@ -65,7 +66,7 @@ pub(crate) fn split_both<A: Allocator, B: Allocator + Copy>(
     ensures { (b : Contents) → b.patches ≡ new.items → IsLookedUp repo.now.patches b marks.now.common.items marks.now.held.items →
         MatchResult result
         (λ basis. IsBasis repo.now.patches b basis.tree basis.rest.items basis.new.items)
-        (λ why. (policy : Policy) → RefusesBundle repo.now.patches b policy why) }
+        (λ why. IsBeforeFit repo.now.patches b why × ((policy : Policy) → RefusesBundle repo.now.patches b policy why)) }
 {
     let kept = kept_in_place(&marks.common);
     let parted = split_repo(alloc, repo, marks, kept)?;
@@ -88,7 +89,7 @@ pub(crate) fn find_basis<A: Allocator + Copy, B: Allocator + Copy>(
         (λ found. MatchOption found
         (IsNothingNew repo.now.patches bundle.now)
         (λ basis. IsBasis repo.now.patches bundle.now basis.tree basis.rest.items basis.new.items))
-        (λ why. (policy : Policy) → RefusesBundle repo.now.patches bundle.now policy why) }
+        (λ why. IsBeforeFit repo.now.patches bundle.now why × ((policy : Policy) → RefusesBundle repo.now.patches bundle.now policy why)) }
 {
     let Some(marks) = look_up(alloc, repo, bundle)? else {
         return Ok(None);
@@ -108,7 +109,7 @@ pub(crate) fn find_fitted<A: Allocator + Copy, B: Allocator + Copy>(
         (λ found. MatchOption found
         (IsNothingNew repo.now.patches bundle.now)
         (λ basis. Fits repo.now.patches bundle.now basis.rest.items basis.new.items))
-        (λ why. (policy : Policy) → RefusesBundle repo.now.patches bundle.now policy why) }
+        (λ why. IsBeforeMerge repo.now.patches bundle.now why × ((policy : Policy) → RefusesBundle repo.now.patches bundle.now policy why)) }
 {
     let Some(mut basis) = find_basis(alloc, repo, bundle)? else {
         return Ok(None);

@@ -10,6 +10,7 @@ ghost use Rattle.dm_repo.specs.declared.refusal.Refusal.TheVariants.{Conflicts};
 ghost use Rattle.dm_repo.specs.Clashes.{Clashes, ClashesPast, IsClash, PrimsClash, RectangleStops, RowStops};
 ghost use Rattle.dm_repo.specs.Merging.{MergeRectangle, MergesPast};
 ghost use Rattle.dm_repo.specs.Squares.{PlacedMerges, undone};
+ghost use Rattle.dm_repo.specs.Refusals.{IsBeforeMerge};
 ghost use Rattle.dm_repo.specs.Weighing.{RefusesBundle};
 
 use crate::basis::find_fitted;
@@ -163,6 +164,7 @@ pub fn find_clash<A: Allocator + Copy, B: Allocator + Copy>(
     ensures merges { IfOk result (λ found. IfNone found ((policy : Policy) (n h : ℕ) →
         RefusesBundle repo.now.patches bundle.now policy (Conflicts n h) → ⊥)) }
     ensures refusal { IfErr result (λ why. (policy : Policy) → RefusesBundle repo.now.patches bundle.now policy why) }
+    ensures before { IfErr result (IsBeforeMerge repo.now.patches bundle.now) }
 {
     let Some(basis) = find_fitted(alloc, repo, bundle)? else {
         return Ok(None);

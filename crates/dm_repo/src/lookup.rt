@@ -1,6 +1,7 @@
 //! Looking up the names of a bundle in a repository.
 ghost use Rattle.std.specs.Prelude.{MatchOption, MatchResult};
 ghost use Rattle.dm_repo.specs.declared.policy.Policy.{Policy};
+ghost use Rattle.dm_repo.specs.Refusals.{IsBeforeFront};
 ghost use Rattle.dm_repo.specs.Weighing.{IsNothingNew, RefusesBundle};
 ghost use Rattle.dm_repo.specs.Weighed.{IsLookedUp};
 
@@ -21,7 +22,7 @@ pub(crate) fn look_up<A: Allocator + Copy, B: Allocator + Copy>(
         (λ found. MatchOption found
         (IsNothingNew repo.now.patches bundle.now)
         (λ marks. IsLookedUp repo.now.patches bundle.now marks.common.items marks.held.items))
-        (λ why. (policy : Policy) → RefusesBundle repo.now.patches bundle.now policy why) }
+        (λ why. IsBeforeFront why × ((policy : Policy) → RefusesBundle repo.now.patches bundle.now policy why)) }
 {
     let marks = common_marks(alloc, repo, bundle)?;
     if are_set(&marks.held) {

@@ -1,11 +1,12 @@
 //! Merging patches that start where the rest of a repository does.
-ghost use Rattle.std.specs.Prelude.{◌≡◌, ◌↔◌, ◌+◌, ◌<◌, List, ◌++◌, [], length, map, IfOk, IsTrue, MatchResult};
+ghost use Rattle.std.specs.Prelude.{◌≡◌, ◌≢◌, ◌↔◌, ◌+◌, ◌<◌, List, ◌++◌, [], length, map, IfOk, IsTrue, MatchResult};
 ghost use Rattle.dm_named.specs.Patches.{Patch};
 ghost use Rattle.dm_bundle.specs.Bundles.{Contents};
 ghost use Rattle.dm_repo.specs.Merging.{MergeRectangle, MergeStops};
 ghost use Rattle.dm_repo.specs.Sifting.{MergesUnder};
 ghost use Rattle.dm_repo.specs.declared.policy.Policy.{Policy};
 ghost use Rattle.dm_repo.specs.declared.policy.Policy.TheVariants.{Refuse, Skip};
+ghost use Rattle.dm_repo.specs.declared.refusal.Refusal.TheVariants.{Full};
 ghost use Rattle.dm_repo.specs.Squares.{Placed, PlacedMerges, patches, undone};
 ghost use Rattle.dm_repo.specs.Repositories.{IsTreeOf};
 ghost use Rattle.dm_repo.specs.Weighing.{Fits, IsMergeOf, RefusesBundle, most_patches};
@@ -125,7 +126,7 @@ fn merge_whole<A: Allocator + Copy>(
 ) -> Result<Merging<A>, Refusal>
     ensures { (repo : List Patch) (b : Contents) → Fits repo b rest.items new.items → MatchResult result
         (λ m. MergesUnder Refuse rest.items new.items m.merged.items m.skipped)
-        (λ why. RefusesBundle repo b Refuse why) }
+        (λ why. (why ≢ Full) × RefusesBundle repo b Refuse why) }
 {
     let mut rest = rest;
     let mut merged = new;
@@ -144,7 +145,7 @@ fn merge_some<A: Allocator + Copy>(
 ) -> Result<Merging<A>, Refusal>
     ensures { (repo : List Patch) (b : Contents) → Fits repo b rest.items new.items → MatchResult result
         (λ m. MergesUnder Skip rest.items new.items m.merged.items m.skipped)
-        (λ why. RefusesBundle repo b Skip why) }
+        (λ why. (why ≢ Full) × RefusesBundle repo b Skip why) }
 {
     let mut rest = rest;
     undo_all(alloc, rest.as_mut_slice());
@@ -173,7 +174,7 @@ pub(crate) fn merge_with<A: Allocator + Copy>(
 ) -> Result<Merging<A>, Refusal>
     ensures { (repo : List Patch) (b : Contents) → Fits repo b rest.items new.items → MatchResult result
         (λ m. MergesUnder policy rest.items new.items m.merged.items m.skipped)
-        (λ why. RefusesBundle repo b policy why) }
+        (λ why. (why ≢ Full) × RefusesBundle repo b policy why) }
 {
     match policy {
         Policy::Refuse => merge_whole(alloc, rest, new),

@@ -7,6 +7,7 @@ ghost use Rattle.dm_repo.specs.declared.refusal.Refusal.TheVariants.{DoesNotFit}
 ghost use Rattle.dm_repo.specs.Folds.{PatchLeadsShallowly};
 ghost use Rattle.dm_repo.specs.Squares.{patches};
 ghost use Rattle.dm_repo.specs.Repositories.{IsMapOf};
+ghost use Rattle.dm_repo.specs.Refusals.{IsBeforeFit};
 ghost use Rattle.dm_repo.specs.Weighing.{RefusesBundle};
 ghost use Rattle.dm_repo.specs.Misfits.{IsMisfit, StopsWith};
 
@@ -76,6 +77,7 @@ pub fn find_misfit<A: Allocator + Copy, B: Allocator + Copy>(
     ensures fits { IfOk result (λ found. IfNone found ((policy : Policy) (n : ℕ) →
         RefusesBundle repo.now.patches bundle.now policy (DoesNotFit n) → ⊥)) }
     ensures refusal { IfErr result (λ why. (policy : Policy) → RefusesBundle repo.now.patches bundle.now policy why) }
+    ensures before { IfErr result (IsBeforeFit repo.now.patches bundle.now) }
 {
     let Some(basis) = find_basis(alloc, repo, bundle)? else {
         return Ok(None);

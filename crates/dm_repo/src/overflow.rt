@@ -1,9 +1,10 @@
 //! Where a path gets too many names as a bundle is weighed, told so that people can be shown it.
-ghost use Rattle.std.specs.Prelude.{IfErr, IfNone, IfOk, IfSome, List, MatchOption, MatchResult};
+ghost use Rattle.std.specs.Prelude.{◌≢◌, IfErr, IfNone, IfOk, IfSome, List, MatchOption, MatchResult};
 ghost use Rattle.dm_bundle.specs.Bundles.{Contents};
 ghost use Rattle.dm_repo.specs.declared.policy.Policy.{Policy};
 ghost use Rattle.dm_repo.specs.declared.refusal.Refusal.TheVariants.{Full};
 ghost use Rattle.dm_repo.specs.Overflows.{FrontOverflows, IsOverflow, MergedOverflows, MergesTooMany};
+ghost use Rattle.dm_repo.specs.Refusals.{IsBeforeFront};
 ghost use Rattle.dm_repo.specs.Squares.{Placed};
 ghost use Rattle.dm_repo.specs.Weighing.{Fits, FrontIsFull, IsBundleSplit, IsNothingNew, MergeIsFull, RefusesBundle};
 
@@ -40,7 +41,7 @@ fn find_front<A: Allocator + Copy, B: Allocator + Copy>(
         (λ found. MatchOption found
         (IsNothingNew repo.now.patches bundle.now)
         (λ front. (rest : List Placed) × (new : List Placed) × IsBundleSplit repo.now.patches bundle.now front.items rest new))
-        (λ why. (policy : Policy) → RefusesBundle repo.now.patches bundle.now policy why) }
+        (λ why. IsBeforeFront why × ((policy : Policy) → RefusesBundle repo.now.patches bundle.now policy why)) }
 {
     let Some(marks) = look_up(alloc, repo, bundle)? else {
         return Ok(None);
@@ -61,7 +62,7 @@ fn front_overflow<A: Allocator + Copy, B: Allocator + Copy>(
         (λ found. MatchOption found
         (FrontIsFull repo.now.patches bundle.now → ⊥)
         (FrontOverflows repo.now.patches bundle.now))
-        (λ why. (policy : Policy) → RefusesBundle repo.now.patches bundle.now policy why) }
+        (λ why. IsBeforeFront why × ((policy : Policy) → RefusesBundle repo.now.patches bundle.now policy why)) }
 {
     repo.lawful();
     let Some(front) = find_front(alloc, repo, bundle)? else {
@@ -84,7 +85,7 @@ fn merged_overflow<A: Allocator, B: Allocator + Copy>(
         (λ found. MatchOption found
         (MergeIsFull repo.now.patches b policy → MergesTooMany repo.now.patches b policy)
         (MergedOverflows repo.now.patches b policy))
-        (λ why. RefusesBundle repo.now.patches b policy why) }
+        (λ why. (why ≢ Full) × RefusesBundle repo.now.patches b policy why) }
 {
     let merging = merge_with(alloc, basis.rest, basis.new, policy)?;
     if is_too_many(repo.len(), merging.merged.len()) {
@@ -110,6 +111,7 @@ pub fn find_overflow<A: Allocator + Copy, B: Allocator + Copy>(
     ensures only { IfOk result (λ found. IfNone found
         (RefusesBundle repo.now.patches bundle.now policy Full → MergesTooMany repo.now.patches bundle.now policy)) }
     ensures refusal { IfErr result (RefusesBundle repo.now.patches bundle.now policy) }
+    ensures before { IfErr result (λ why. why ≢ Full) }
 {
     let front = front_overflow(alloc, repo, bundle)?;
     if let Some(misfit) = front {

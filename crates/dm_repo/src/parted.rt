@@ -8,6 +8,7 @@ ghost use Rattle.dm_repo.specs.Staircases.{Split, SplitStops};
 ghost use Rattle.dm_repo.specs.Squares.{Placed, patches, placed, placed_from, PlacedCommutes};
 ghost use Rattle.dm_repo.specs.Folds.{Fold};
 ghost use Rattle.dm_repo.specs.Marking.{AreMarked};
+ghost use Rattle.dm_repo.specs.Refusals.{IsBeforeFront};
 ghost use Rattle.dm_repo.specs.Weighing.{IsBundleSplit, IsCommon, IsRepoSplit, RefusesBundle};
 ghost use Rattle.dm_repo.specs.Weighed.{IsLookedUp};
 ghost use Rattle.dm_repo.specs.Splitting.{SplitsInto, RefusesToSplit};
@@ -128,7 +129,7 @@ pub(crate) fn split_held<A: Allocator + Copy>(
     ensures { (repo : List Patch) (b : Contents) (policy : Policy) (front rest : List Placed) → b.patches ≡ new.items →
         IsLookedUp repo b marks.now.common.items marks.now.held.items → IsRepoSplit repo b front rest → MatchResult result
         (λ chosen. IsBundleSplit repo b front rest chosen.items)
-        (λ why. RefusesBundle repo b policy why) }
+        (λ why. IsBeforeFront why × RefusesBundle repo b policy why) }
 {
     match split_by(alloc, new, &marks.held, 0) {
         Ok(parted) => Ok(parted.rest),

@@ -95,8 +95,8 @@ impl<A: Allocator> Repo<A> {
         let _ = &self.patches;
     }
 
-    /// All patches, oldest first.
-    pub(crate) fn patches(&self) -> &[Named<A>]
+    /// All patches, oldest first, borrowed without a copy.
+    pub fn patches(&self) -> &[Named<A>]
         ensures value { result.now ≡ self.now.patches }
         ensures valid { IsRepo self.now.patches }
     {

@@ -3,6 +3,7 @@ ghost use Rattle.std.specs.Prelude.{◌≡◌, ℕ, List, length, IfErr, IfOk};
 ghost use Rattle.dm_named.specs.Patches.{Patch};
 ghost use Rattle.dm_repo.specs.declared.policy.Policy.{Policy};
 ghost use Rattle.dm_repo.specs.declared.policy.Policy.TheVariants as policies;
+ghost use Rattle.dm_repo.specs.Refusals.{IsBeforeMerge};
 ghost use Rattle.dm_repo.specs.Weighing.{IsMergeOf, RefusesBundle};
 ghost use Rattle.dm_repo.specs.Skips.{AreSkips};
 
@@ -27,6 +28,7 @@ pub fn find_skips<A: Allocator + Copy, B: Allocator + Copy>(
     ensures counted { IfOk result (λ told. (merged : List Patch) (count : ℕ) →
         IsMergeOf repo.now.patches bundle.now policies.Skip merged count → count ≡ length told.items) }
     ensures refusal { IfErr result (λ why. (policy : Policy) → RefusesBundle repo.now.patches bundle.now policy why) }
+    ensures before { IfErr result (IsBeforeMerge repo.now.patches bundle.now) }
 {
     let Some(basis) = find_fitted(alloc, repo, bundle)? else {
         return Ok(Vec::new(alloc));

@@ -1,16 +1,17 @@
 use Rattle.std.proofs.Common.{ap, length, sym, ◌∙◌}
 use Rattle.std.proofs.lemmas.List.{length-map}
 use Rattle.std.proofs.lemmas.Result.{err_from_is_err_and}
+use Rattle.dm_repo.proofs.RefusalLemmas.{before_fit}
 use Rattle.dm_repo.proofs.basis.find_basis.Goals as goal
 
 pub returns-in_err-marks : goal.returns-in_err-marks
-returns-in_err-marks g c = let p = err_from_is_err_and c.from_residual.result c.from_residual.ensures.1 in rw (p.1, p.2) c.in_err-marks.ensures
+returns-in_err-marks g c = let p = err_from_is_err_and c.from_residual.result c.from_residual.ensures.1 in rw (p.1, p.2) (before_fit c.args.repo.now.patches c.args.bundle.now _ c.in_err-marks.ensures.0, c.in_err-marks.ensures.1)
 
 pub returns-in_default : goal.returns-in_default
 returns-in_default g c = rw c.in_default.is at c.in_ok-marks.ensures
 
 pub returns-in_err-new : goal.returns-in_err-new
-returns-in_err-new g c = let p = err_from_is_err_and c.from_residual-in_err-new.result c.from_residual-in_err-new.ensures.1 in rw (p.1, p.2) (λ policy. tt)
+returns-in_err-new g c = let p = err_from_is_err_and c.from_residual-in_err-new.result c.from_residual-in_err-new.ensures.1 in rw (p.1, p.2) (tt, λ policy. tt)
 
 pub returns-in_err-basis : goal.returns-in_err-basis
 returns-in_err-basis g c =

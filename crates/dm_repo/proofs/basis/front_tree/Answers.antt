@@ -3,7 +3,9 @@ use Rattle.std.proofs.lemmas.List.{length-take-le}
 use Rattle.std.proofs.lemmas.Result.{err_from_is_err_and}
 use Rattle.dm_repo.specs.Folds.{IsStopped}
 use Rattle.dm_repo.specs.Squares.{placed}
+use Rattle.dm_repo.specs.Refusals.{IsBeforeFit}
 use Rattle.dm_repo.specs.Weighing.{FitStops, RefusesBundle}
+use Rattle.dm_repo.specs.declared.policy.Policy.{Policy}
 use Rattle.dm_repo.specs.declared.refusal.Refusal.TheVariants.{Full}
 use Rattle.dm_repo.proofs.Depths.{front_is_full}
 use Rattle.dm_repo.proofs.Following.{makes_whole, nothing_left}
@@ -12,7 +14,7 @@ use Rattle.dm_repo.proofs.Steps.{of_place}
 use Rattle.dm_repo.proofs.basis.front_tree.Goals as goal
 
 pub returns-in_err-tree : goal.returns-in_err-tree
-returns-in_err-tree g c = λ b new split. let p = err_from_is_err_and c.from_residual.result c.from_residual.ensures.1 in rw (p.1, p.2) (λ policy. tt)
+returns-in_err-tree g c = λ b new split. let p = err_from_is_err_and c.from_residual.result c.from_residual.ensures.1 in rw (p.1, p.2) (tt, λ policy. tt)
 
 pub returns-then-is_empty : goal.returns-then-is_empty
 returns-then-is_empty g c = λ b new split.
@@ -31,10 +33,11 @@ returns-in-Ok g c = λ b new split.
     (base.0, base.1, record { start = r.0; is_root = r.2; runs = base.2 })
 
 pub returns-in-Err : goal.returns-in-Err
-returns-in-Err g c = λ b new split policy.
+returns-in-Err g c = λ b new split.
     let repo = c.args.repo.now.patches in
     let front = placed (take c.args.kept repo) ++ c.args.parted.now.front.items in
     let r = new_root c.new-tree.result c.new-tree.ensures c.tree_is_lawful.ensures.lawful in
     rw c.full.ensures
-    (of_place (RefusesBundle repo b policy) (λ k. Full) (FitStops IsStopped r.0 front) c.in-Err.stop tt (λ x q. inl (front_is_full repo b x c.patches.ensures.valid split r.2 q))
+    (of_place (λ why. IsBeforeFit repo b why × ((policy : Policy) → RefusesBundle repo b policy why)) (λ k. Full) (FitStops IsStopped r.0 front) c.in-Err.stop (tt, λ policy. tt)
+    (λ x q. let full = front_is_full repo b x c.patches.ensures.valid split r.2 q in (full, λ policy. inl full))
     (rw (c.patches.ensures.value, c.deref.ensures.value) at (c.in-Err.ensures r.0 r.1)))

@@ -1,7 +1,9 @@
 use Rattle.std.proofs.Common.{◌++◌, take}
 use Rattle.std.proofs.lemmas.Result.{err_from_is_err_and}
 use Rattle.dm_repo.specs.Squares.{placed}
+use Rattle.dm_repo.specs.declared.policy.Policy.{Policy}
 use Rattle.dm_repo.specs.declared.policy.Policy.TheVariants.{Refuse}
+use Rattle.dm_repo.proofs.RefusalLemmas.{before_fit, split_before}
 use Rattle.dm_repo.proofs.Steps.{split_to_weigh}
 use Rattle.dm_repo.proofs.basis.split_both.Goals as goal
 
@@ -17,14 +19,17 @@ front_tree-requires g c = rw (← c.requires.common, ← c.deref.ensures.value) 
 pub returns-in_err-parted : goal.returns-in_err-parted
 returns-in_err-parted g c = λ b e found.
     let p = err_from_is_err_and c.from_residual.result c.from_residual.ensures.1 in
-    rw (p.1, p.2) (λ policy. split_to_weigh c.args.repo.now.patches b policy _ found.prerequisites (c.in_err-parted.ensures b found.marked))
+    let stops = c.in_err-parted.ensures b found.marked in
+    let repo = c.args.repo.now.patches in
+    rw (p.1, p.2) (before_fit repo b _ (split_before repo b _ stops), λ policy. split_to_weigh repo b policy _ found.prerequisites stops)
 
 pub returns-in_err-new : goal.returns-in_err-new
 returns-in_err-new g c = λ b e found.
     let repo = c.args.repo.now.patches in
     let front = placed (take c.kept_in_place-kept.result repo) ++ c.in_ok-parted.parted.front.items in
     let p = err_from_is_err_and c.from_residual-in_err-new.result c.from_residual-in_err-new.ensures.1 in
-    rw (p.1, p.2) (λ policy. c.in_err-new.ensures repo b policy front c.in_ok-parted.parted.rest.items e found (record { prerequisites = found.prerequisites; split = c.in_ok-parted.ensures b found.marked }))
+    let refuses = λ (policy : Policy). c.in_err-new.ensures repo b policy front c.in_ok-parted.parted.rest.items e found (record { prerequisites = found.prerequisites; split = c.in_ok-parted.ensures b found.marked }) in
+    rw (p.1, p.2) (before_fit repo b _ (refuses Refuse).0, λ policy. (refuses policy).1)
 
 pub returns-in_err-tree : goal.returns-in_err-tree
 returns-in_err-tree g c = λ b e found.

@@ -7,13 +7,19 @@ use Rattle.dm_repo.proofs.Steps.{undone_twice}
 use Rattle.dm_repo.proofs.clash.find_clash.Goals as goal
 
 pub returns-in_err-basis-clause-refusal : goal.returns-in_err-basis-clause-refusal
-returns-in_err-basis-clause-refusal g c = let p = err_from_is_err_and c.from_residual.result c.from_residual.ensures.1 in rw (p.1, p.2) c.in_err-basis.ensures
+returns-in_err-basis-clause-refusal g c = let p = err_from_is_err_and c.from_residual.result c.from_residual.ensures.1 in rw (p.1, p.2) c.in_err-basis.ensures.1
+
+pub returns-in_err-basis-clause-before : goal.returns-in_err-basis-clause-before
+returns-in_err-basis-clause-before g c = let p = err_from_is_err_and c.from_residual.result c.from_residual.ensures.1 in rw (p.1, p.2) c.in_err-basis.ensures.0
 
 pub returns-in_default-clause-merges : goal.returns-in_default-clause-merges
 returns-in_default-clause-merges g c = nothing_conflicts c.args.repo.now.patches c.args.bundle.now (rw c.in_default.is at c.in_ok-basis.ensures)
 
 pub returns-in_err-found-clause-refusal : goal.returns-in_err-found-clause-refusal
 returns-in_err-found-clause-refusal g c = let p = err_from_is_err_and c.from_residual-in_err-found.result c.from_residual-in_err-found.ensures.1 in rw (p.1, p.2) (λ policy. tt)
+
+pub returns-in_err-found-clause-before : goal.returns-in_err-found-clause-before
+returns-in_err-found-clause-before g c = let p = err_from_is_err_and c.from_residual-in_err-found.result c.from_residual-in_err-found.ensures.1 in rw (p.1, p.2) tt
 
 pub returns : goal.returns
 returns g c =
@@ -35,4 +41,5 @@ returns g c =
       only = found_only repo b rest new new' rest' fits found finds;
       merges = none_conflict repo b rest new new' rest' fits found finds;
       refusal = tt;
+      before = tt;
     }

@@ -1,8 +1,8 @@
-use Rattle.std.proofs.Common.{rules, ◌≡◌, ◌∙◌, refl, ap, map, drop, length}
+use Rattle.std.proofs.Common.{rules, ◌≡◌, ◌≢◌, ◌∙◌, refl, ap, map, drop, length}
 use Rattle.std.proofs.lemmas.Bool.{false≢true}
 use Rattle.std.proofs.lemmas.Result.{err_from_is_err_and}
 use Rattle.dm_repo.specs.declared.policy.Policy.TheVariants.{Skip}
-use Rattle.dm_repo.specs.declared.refusal.Refusal.TheVariants.{Conflicts}
+use Rattle.dm_repo.specs.declared.refusal.Refusal.TheVariants.{Conflicts, Full}
 use Rattle.dm_repo.specs.Stops.{AtPlaces}
 use Rattle.dm_repo.specs.Sifting.{ConflictsUnder}
 use Rattle.dm_repo.specs.Squares.{undone}
@@ -14,7 +14,7 @@ use Rattle.dm_repo.proofs.Steps.{between_places, undone_twice}
 use Rattle.dm_repo.proofs.merge.merge_some.Goals as goal
 
 pub returns-in_err-sifted : goal.returns-in_err-sifted
-returns-in_err-sifted g c = let p = err_from_is_err_and c.from_residual.result c.from_residual.ensures.1 in rw (p.1, p.2) (λ repo b fits. tt)
+returns-in_err-sifted g c = let p = err_from_is_err_and c.from_residual.result c.from_residual.ensures.1 in rw (p.1, p.2) (λ repo b fits. ((λ e. cc), tt))
 
 pub first_conflict-blocked-requires-clause-some : goal.first_conflict-blocked-requires-clause-some
 first_conflict-blocked-requires-clause-some g c = rw c.as_mut_slice-then-is_all_skipped-2.ensures.value (c.if-is_all_skipped.ensures.0 refl).1
@@ -38,7 +38,7 @@ returns-then-is_all_skipped g c = λ repo b fits.
     let f : map undone c.as_mut_slice-then-is_all_skipped.result.now ≡ rest = ap (map undone) e ∙ undone_twice rest in
     let h : c.as_mut_slice-then-is_all_skipped-2.result.now ≡ new = c.as_mut_slice-then-is_all_skipped-2.ensures.value ∙ all_skipped (sifts_untold s.sifts) none in
     rw c.conflicts.ensures
-    (between_places (RefusesBundle repo b Skip) Conflicts (AtPlaces (ConflictsUnder Skip rest new)) c.first_conflict-blocked.result tt (λ j k q. (rest, new, fits, q)) (rw (f, h) at c.first_conflict-blocked.ensures))
+    (between_places (λ why. (why ≢ Full) × RefusesBundle repo b Skip why) Conflicts (AtPlaces (ConflictsUnder Skip rest new)) c.first_conflict-blocked.result ((λ e. cc), tt) (λ j k q. ((λ e. cc), (rest, new, fits, q))) (rw (f, h) at c.first_conflict-blocked.ensures))
 
 pub returns : goal.returns
 returns g c = λ repo b fits.

@@ -1,11 +1,11 @@
-use Rattle.std.proofs.Common.{rules, ◌≡◌, ◌∙◌, refl, ap, map, drop, length}
+use Rattle.std.proofs.Common.{rules, ◌≡◌, ◌≢◌, ◌∙◌, refl, ap, map, drop, length}
 use Rattle.dm_repo.specs.Stops.{AtPlaces}
 use Rattle.dm_repo.specs.Merging.{MergeStops}
 use Rattle.dm_repo.specs.Sifting.{MergesUnder}
 use Rattle.dm_repo.specs.Squares.{PlacedMerges, undone}
 use Rattle.dm_repo.specs.Weighing.{RefusesBundle}
 use Rattle.dm_repo.specs.declared.policy.Policy.TheVariants.{Refuse}
-use Rattle.dm_repo.specs.declared.refusal.Refusal.TheVariants.{Conflicts}
+use Rattle.dm_repo.specs.declared.refusal.Refusal.TheVariants.{Conflicts, Full}
 use Rattle.dm_repo.proofs.Splits.{whole}
 use Rattle.dm_repo.proofs.Steps.{between_places, undone_twice}
 use Rattle.dm_repo.proofs.merge.merge_whole.Goals as goal
@@ -31,4 +31,4 @@ returns g c = λ repo b fits.
     let e : c.as_mut_slice-2.result.now ≡ map undone rest = c.as_mut_slice-2.ensures.value ∙ kept ∙ c.undo_all.ensures ∙ ap (map undone) c.as_mut_slice.ensures.value in
     let f : map undone c.as_mut_slice-2.result.now ≡ rest = ap (map undone) e ∙ undone_twice rest in
     rw c.conflicts.ensures
-    (between_places (RefusesBundle repo b Refuse) Conflicts (AtPlaces (MergeStops PlacedMerges rest new)) c.in-Err.blocked tt (λ j k s. (rest, new, fits, s)) (rw (f, c.as_mut_slice-3.ensures.value) at c.in-Err.ensures))
+    (between_places (λ why. (why ≢ Full) × RefusesBundle repo b Refuse why) Conflicts (AtPlaces (MergeStops PlacedMerges rest new)) c.in-Err.blocked ((λ e. cc), tt) (λ j k s. ((λ e. cc), (rest, new, fits, s))) (rw (f, c.as_mut_slice-3.ensures.value) at c.in-Err.ensures))

@@ -1,11 +1,14 @@
 use Rattle.std.proofs.Common.{sym, ap, ◌∙◌, length, arith}
 use Rattle.std.proofs.lemmas.List.{length-map}
 use Rattle.std.proofs.lemmas.Result.{err_from_is_err_and}
+use Rattle.dm_repo.specs.declared.policy.Policy.{Policy}
 use Rattle.dm_repo.specs.declared.policy.Policy.TheVariants.{Refuse}
+use Rattle.dm_repo.proofs.RefusalLemmas.{split_before}
+use Rattle.dm_repo.proofs.Steps.{split_to_weigh}
 use Rattle.dm_repo.proofs.overflow.find_front.Goals as goal
 
 pub returns-in_err-new : goal.returns-in_err-new
-returns-in_err-new g c = let p = err_from_is_err_and c.from_residual-in_err-new.result c.from_residual-in_err-new.ensures.1 in rw (p.1, p.2) (λ policy. tt)
+returns-in_err-new g c = let p = err_from_is_err_and c.from_residual-in_err-new.result c.from_residual-in_err-new.ensures.1 in rw (p.1, p.2) (tt, λ policy. tt)
 
 pub split_held-requires : goal.split_held-requires
 split_held-requires g c =
@@ -21,7 +24,8 @@ returns-in_err-split_held g c =
     let rest = c.in_ok-parted.parted.rest.items in
     let split = c.in_ok-parted.ensures b found.marked in
     let p = err_from_is_err_and c.from_residual-in_err-split_held.result c.from_residual-in_err-split_held.ensures.1 in
-    rw (p.1, p.2) (λ policy. c.in_err-split_held.ensures repo b policy front rest (sym (c.in_ok-new.ensures ∙ c.new_patches.ensures.value)) found (record { prerequisites = found.prerequisites; split = split }))
+    let refuses = λ (policy : Policy). c.in_err-split_held.ensures repo b policy front rest (sym (c.in_ok-new.ensures ∙ c.new_patches.ensures.value)) found (record { prerequisites = found.prerequisites; split = split }) in
+    rw (p.1, p.2) ((refuses Refuse).0, λ policy. (refuses policy).1)
 
 pub returns : goal.returns
 returns g c =
@@ -32,6 +36,15 @@ returns g c =
     let rest = c.in_ok-parted.parted.rest.items in
     let split = c.in_ok-parted.ensures b found.marked in
     (rest, c.in_ok-split_held.field-0.items, c.in_ok-split_held.ensures repo b Refuse front rest (sym (c.in_ok-new.ensures ∙ c.new_patches.ensures.value)) found (record { prerequisites = found.prerequisites; split = split }))
+
+pub returns-in_err-parted : goal.returns-in_err-parted
+returns-in_err-parted g c =
+    let repo = c.args.repo.now.patches in
+    let b = c.args.bundle.now in
+    let found = rw c.in-Some.is at c.in_ok-marks.ensures in
+    let stops = c.in_err-parted.ensures b found.marked in
+    let p = err_from_is_err_and c.from_residual-in_err-parted.result c.from_residual-in_err-parted.ensures.1 in
+    rw (p.1, p.2) (split_before repo b _ stops, λ policy. split_to_weigh repo b policy _ found.prerequisites stops)
 
 pub split_repo-requires : goal.split_repo-requires
 split_repo-requires g c =

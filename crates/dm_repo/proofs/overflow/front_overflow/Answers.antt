@@ -4,7 +4,7 @@ use Rattle.dm_repo.proofs.OverflowLemmas.{front_told}
 use Rattle.dm_repo.proofs.overflow.front_overflow.Goals as goal
 
 pub returns-in_err-found : goal.returns-in_err-found
-returns-in_err-found g c = let p = err_from_is_err_and c.from_residual-in_err-found.result c.from_residual-in_err-found.ensures.1 in rw (p.1, p.2) (λ policy. tt)
+returns-in_err-found g c = let p = err_from_is_err_and c.from_residual-in_err-found.result c.from_residual-in_err-found.ensures.1 in rw (p.1, p.2) (tt, λ policy. tt)
 
 pub returns : goal.returns
 returns g c =

@@ -21,10 +21,10 @@ returns-then-is_too_many g c = λ b fits full.
     }
 
 pub returns-in_err-tree : goal.returns-in_err-tree
-returns-in_err-tree g c = λ b fits. let p = err_from_is_err_and c.from_residual-in_err-tree.result c.from_residual-in_err-tree.ensures.1 in rw (p.1, p.2) tt
+returns-in_err-tree g c = λ b fits. let p = err_from_is_err_and c.from_residual-in_err-tree.result c.from_residual-in_err-tree.ensures.1 in rw (p.1, p.2) ((λ e. cc), tt)
 
 pub returns-in_err-found : goal.returns-in_err-found
-returns-in_err-found g c = λ b fits. let p = err_from_is_err_and c.from_residual-in_err-found.result c.from_residual-in_err-found.ensures.1 in rw (p.1, p.2) tt
+returns-in_err-found g c = λ b fits. let p = err_from_is_err_and c.from_residual-in_err-found.result c.from_residual-in_err-found.ensures.1 in rw (p.1, p.2) ((λ e. cc), tt)
 
 pub returns : goal.returns
 returns g c = λ b fits.

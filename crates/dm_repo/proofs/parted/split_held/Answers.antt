@@ -2,6 +2,7 @@ use Rattle.dm_repo.specs.Stops.{AtPlaces, IsMarked}
 use Rattle.dm_repo.specs.Staircases.{SplitStops}
 use Rattle.dm_repo.specs.Squares.{PlacedCommutes, placed}
 use Rattle.dm_repo.specs.Repositories.{Holds}
+use Rattle.dm_repo.specs.Refusals.{IsBeforeFront}
 use Rattle.dm_repo.specs.Weighing.{IsHeld, RefusesBundle}
 use Rattle.dm_repo.specs.declared.refusal.Refusal.TheVariants.{HeldDepends}
 use Rattle.dm_repo.proofs.Alike.{split_alike}
@@ -23,5 +24,5 @@ returns-in-Err g c = λ repo b policy front rest e found parted.
     let marks = c.args.marks.now.held.items in
     let a = alike_placed marks (Holds repo) c.args.new.items (rw e at found.marked.held_is) in
     rw c.held_depends.ensures
-    (between_places (RefusesBundle repo b policy) HeldDepends (AtPlaces (SplitStops PlacedCommutes (IsHeld repo) (placed b.patches))) c.in-Err.blocked tt
-    (λ j k s. (front, rest, parted, s)) (rw e (blocked_map c.in-Err.blocked (λ h r q. stops_alike PlacedCommutes a q) (rw c.deref.ensures.value at c.in-Err.ensures))))
+    (between_places (λ why. IsBeforeFront why × RefusesBundle repo b policy why) HeldDepends (AtPlaces (SplitStops PlacedCommutes (IsHeld repo) (placed b.patches))) c.in-Err.blocked (tt, tt)
+    (λ j k s. (tt, (front, rest, parted, s))) (rw e (blocked_map c.in-Err.blocked (λ h r q. stops_alike PlacedCommutes a q) (rw c.deref.ensures.value at c.in-Err.ensures))))

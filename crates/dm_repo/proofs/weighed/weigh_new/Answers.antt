@@ -3,7 +3,7 @@ use Rattle.dm_repo.proofs.Following.{nothing_left}
 use Rattle.dm_repo.proofs.weighed.weigh_new.Goals as goal
 
 pub returns-in_err-basis : goal.returns-in_err-basis
-returns-in_err-basis g c = λ b e found. let p = err_from_is_err_and c.from_residual.result c.from_residual.ensures.1 in rw (p.1, p.2) (c.in_err-basis.ensures b e found c.args.policy)
+returns-in_err-basis g c = λ b e found. let p = err_from_is_err_and c.from_residual.result c.from_residual.ensures.1 in rw (p.1, p.2) ((c.in_err-basis.ensures b e found).1 c.args.policy)
 
 pub returns-then-is_empty : goal.returns-then-is_empty
 returns-then-is_empty g c = λ b e found.

@@ -7,7 +7,7 @@ use Rattle.dm_repo.proofs.Steps.{clauses}
 use Rattle.dm_repo.proofs.weighed.weigh_owned.Goals as goal
 
 pub returns-in_err-marks-clause-refusal : goal.returns-in_err-marks-clause-refusal
-returns-in_err-marks-clause-refusal g c = let p = err_from_is_err_and c.from_residual.result c.from_residual.ensures.1 in rw (p.1, p.2) (c.in_err-marks.ensures c.args.policy)
+returns-in_err-marks-clause-refusal g c = let p = err_from_is_err_and c.from_residual.result c.from_residual.ensures.1 in rw (p.1, p.2) (c.in_err-marks.ensures.1 c.args.policy)
 
 pub returns : goal.returns
 returns g c =
