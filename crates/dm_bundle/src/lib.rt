@@ -14,10 +14,12 @@ mod context;
 mod heading;
 mod known;
 pub mod laws;
+mod limits;
 mod patches;
 mod reading;
 mod writing;
 
 pub use bundle::{Bundle, Doubled};
+pub use limits::are_within;
 pub use reading::{read_bundle, read_bundle_to, read_bundle_within};
-pub use writing::write_bundle;
+pub use writing::{push_bundle, write_bundle};

@@ -6,7 +6,7 @@ ghost use Rattle.dm_info.specs.PatchInfo.{IsInfo};
 ghost use Rattle.dm_named.specs.Patches.{IsValidPatch};
 ghost use Rattle.dm_named.specs.Canonical.{info_line, patch_text};
 ghost use Rattle.dm_bundle.specs.Patches.{AreAllOf, AreAllWritable};
-ghost use Rattle.dm_bundle.specs.Bundles.{IsValidBundle, BundleTextIn};
+ghost use Rattle.dm_bundle.specs.Bundles.{HasNoDoubles, IsValidBundle, BundleTextIn};
 ghost use Rattle.dm_bundle.specs.Canonical.{bundle_text};
 
 use crate::bundle::Bundle;
@@ -42,6 +42,28 @@ fn push_context<A: Allocator, B: Allocator + Copy>(
     Ok(())
 }
 
+/// Appends the canonical text of the bundle of these new patches, oldest first, and this context, which keeps its order. It needs
+/// no [`Bundle`], so nothing is copied to make one. Parts with doubles are written too, but `read_bundle` refuses their text.
+pub fn push_bundle<A: Allocator, B: Allocator + Copy>(
+    patches: &[Named<A>],
+    context: &[Info<A>],
+    out: &mut Vec<u8, B>,
+) -> Result<(), AllocError>
+    ensures text { OnOk result (out.new.items ≡ out.old.items ++ bundle_text (record { patches = patches.now; context = context.now })) }
+    ensures valid { OnOk result (AllByRecursion IsValidPatch patches.now × AllByRecursion IsInfo context.now) }
+    ensures bytes { OnOk result (AreAllWritable Kinds.All patches.now) }
+    // Where the parts have no doubles, the text stands for their bundle.
+    ensures stands { OnOk result (HasNoDoubles patches.now context.now → (kinds : Kinds) → AreAllOf kinds patches.now
+        → BundleTextIn kinds (bundle_text (record { patches = patches.now; context = context.now }))
+        (record { patches = patches.now; context = context.now })) }
+{
+    out.extend_from_slice(b"New patches:\n\n")?;
+    push_patches(patches, out)?;
+    out.extend_from_slice(b"\nContext:\n\n")?;
+    push_context(context, out)?;
+    Ok(())
+}
+
 /// The canonical text of a bundle. The context keeps its order (`darcs send` lists the newest first). A
 /// bundle past the limits of `read_bundle` is written too.
 pub fn write_bundle<A: Allocator, B: Allocator + Copy>(
@@ -55,9 +77,6 @@ pub fn write_bundle<A: Allocator, B: Allocator + Copy>(
     ensures stands { IfOk result (λ text. (kinds : Kinds) → AreAllOf kinds bundle.now.patches → BundleTextIn kinds text.items bundle.now) }
 {
     let mut text = Vec::new(alloc);
-    text.extend_from_slice(b"New patches:\n\n")?;
-    push_patches(bundle.new_patches(), &mut text)?;
-    text.extend_from_slice(b"\nContext:\n\n")?;
-    push_context(bundle.context(), &mut text)?;
+    push_bundle(bundle.new_patches(), bundle.context(), &mut text)?;
     Ok(text)
 }

@@ -134,7 +134,7 @@ impl<D: Device> Store<D> {
         kinds_of(self.journal.format())
     }
 
-    /// The place of the closed gate behind the last entry, if it hid more of them when the file was opened: none is lost, but the
+    /// The place of the closed latch behind the last entry, if it hid more of them when the file was opened: none is lost, but the
     /// byte there was changed. No crash leaves such a file.
     pub fn hidden(&self) -> Option<usize>
         ensures { result ≡ self.now.journal.hidden }

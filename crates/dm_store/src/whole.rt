@@ -1,17 +1,15 @@
 //! The entry of a whole repository.
-ghost use Rattle.std.specs.Prelude.{◌≡◌, ◌≤◌, [], length, IfOk, IfErr, IfSome, IfNone, MatchBool};
-ghost use Rattle.std.specs.List.{AllByRecursion};
-ghost use Rattle.dm_bundle.specs.Patches.{AreAllOf, AreFewWithin};
+ghost use Rattle.std.specs.Prelude.{◌≡◌, [], IfOk, IfErr, IfSome, IfNone};
+ghost use Rattle.dm_bundle.specs.Patches.{AreAllOf};
 ghost use Rattle.dm_journal.specs.declared.device.DeviceError.TheVariants.{Memory};
 ghost use Rattle.dm_journal.specs.declared.fault.WriteError.TheVariants.{Beside};
-ghost use Rattle.dm_named.specs.Limits.{own};
 ghost use Rattle.dm_store.specs.Keeping.{TakesEntry, FitsOneEntry, entry_of_all};
 
 use crate::entries::make_whole_entry;
 use crate::kinds::are_of;
-use dm_bundle::write_bundle;
+use dm_bundle::{are_within, push_bundle};
 use dm_journal::{DeviceError, WriteError};
-use dm_named::{Kinds, Limits, Named};
+use dm_named::{Kinds, Limits};
 use dm_repo::Repo;
 use std::alloc::{AllocError, Global};
 
@@ -48,41 +46,18 @@ fn write_whole(
     if repo.len() == 0 {
         return Ok(None);
     }
-    let bundle = repo.to_bundle(alloc)?;
-    if !are_few(bundle.new_patches()) {
+    let patches = repo.patches();
+    if !are_within(Limits::OWN, patches) {
         return Ok(None);
     }
-    if !are_of(kinds, bundle.new_patches()) {
+    if !are_of(kinds, patches) {
         return Ok(None);
     }
-    let text = write_bundle(alloc, &bundle)?;
+    let mut text = Vec::new(alloc);
+    push_bundle(patches, &[], &mut text)?;
     if text.len() > Limits::OWN.bytes {
         return Ok(None);
     }
     let entry = make_whole_entry(alloc, &text)?;
     Ok(Some(entry))
-}
-
-// Whether these are new patches that are read.
-fn are_few(patches: &[Named<Global>]) -> bool
-    ensures { MatchBool result (AreFewWithin own patches.now) (AreFewWithin own patches.now → ⊥) }
-{
-    if patches.len() > Limits::OWN.patches {
-        return false;
-    }
-    are_short(patches)
-}
-
-// Whether each of these patches has few enough primitives to be read.
-fn are_short(patches: &[Named<Global>]) -> bool
-    ensures { MatchBool result
-        (AllByRecursion (λ p. length p.prims ≤ own.prims) patches.now)
-        (AllByRecursion (λ p. length p.prims ≤ own.prims) patches.now → ⊥) }
-{
-    for patch in patches {
-        if patch.prims().len() > Limits::OWN.prims {
-            return false;
-        }
-    }
-    true
 }
