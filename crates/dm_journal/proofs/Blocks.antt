@@ -47,15 +47,15 @@ module _ (format : Format) where
   pub next_front : (link text more bytes : List ℕ) → IsNext format link text more bytes → (front : List ℕ) × (bytes ≡ front ++ more) × ((r : List ℕ) → IsNext format link text r (front ++ r))
   next_front link text more bytes b =
       let whole = block (checksum_of link text) text in (
-        b.gate ∷ (b.stands.fill ++ (whole ++ b.has.fill)),
+        b.latch ∷ (b.stands.fill ++ (whole ++ b.has.fill)),
         b.stands.is
-            ∙ ap (λ (l : List ℕ). b.gate ∷ (b.stands.fill ++ l)) b.has.is
-            ∙ ap (λ (l : List ℕ). b.gate ∷ l) (sym (three b.stands.fill whole b.has.fill more)),
+            ∙ ap (λ (l : List ℕ). b.latch ∷ (b.stands.fill ++ l)) b.has.is
+            ∙ ap (λ (l : List ℕ). b.latch ∷ l) (sym (three b.stands.fill whole b.has.fill more)),
         λ r. record {
-          gate = b.gate;
+          latch = b.latch;
           is_open = b.is_open;
           behind = whole ++ (b.has.fill ++ r);
-          stands = record { fill = b.stands.fill; filled = b.stands.filled; is = ap (λ (l : List ℕ). b.gate ∷ l) (three b.stands.fill whole b.has.fill r) };
+          stands = record { fill = b.stands.fill; filled = b.stands.filled; is = ap (λ (l : List ℕ). b.latch ∷ l) (three b.stands.fill whole b.has.fill r) };
           has = record { fits = b.has.fits; fill = b.has.fill; filled = b.has.filled; is = refl };
         },
       )

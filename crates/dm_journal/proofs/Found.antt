@@ -4,7 +4,7 @@ use Rattle.std.specs.Int.{w64, to_le_bytes}
 use Rattle.std.proofs.lemmas.List.{drop_at, drop_more, drop-drop, take_rest, length-take-le, length-drop, map-append}
 use Rattle.dm_journal.specs.declared.format.Format.{Format}
 use Rattle.dm_journal.specs.Format.{line, unit, filling, filled}
-use Rattle.dm_journal.specs.Journal.{block, checksum_of, next_link, link_after, IsGate, IsBlock, IsNext, Begins}
+use Rattle.dm_journal.specs.Journal.{block, checksum_of, next_link, link_after, IsLatch, IsBlock, IsNext, Begins}
 use Rattle.std.specs.List.{starts_with}
 use Rattle.std.proofs.lemmas.Bool.{false≢true}
 use Rattle.std.proofs.lemmas.Bool.Decides.{Decides-eqb}
@@ -53,9 +53,9 @@ header_here format file at is reaches w =
       };
     }
 
--- a gate and what stands behind it
-pub gate_here : (format : Format) (bytes : List ℕ) → 1 ≤ unit format → unit format ≤ length bytes → IsGate format (get_or bytes 0 0) (drop (unit format) bytes) bytes
-gate_here format bytes some room =
+-- a latch and what stands behind it
+pub latch_here : (format : Format) (bytes : List ℕ) → 1 ≤ unit format → unit format ≤ length bytes → IsLatch format (get_or bytes 0 0) (drop (unit format) bytes) bytes
+latch_here format bytes some room =
     let n : ℕ = unit format - 1 in
     let behind : drop n (drop 1 bytes) ≡ drop (unit format) bytes = drop-drop n 1 bytes ∙ ap (λ (k : ℕ). drop k bytes) (omega arith) in
     record {
@@ -65,18 +65,18 @@ gate_here format bytes some room =
           ∙ ap (λ (l : List ℕ). get_or bytes 0 0 ∷ l) (sym (take-append-drop n (drop 1 bytes)) ∙ ap (λ (l : List ℕ). take n (drop 1 bytes) ++ l) behind);
     }
 
-pub behind_gate : (format : Format) (gate : ℕ) (behind bytes : List ℕ) → IsGate format gate behind bytes → (drop (unit format) bytes ≡ behind) × (unit format + length behind ≡ length bytes)
-behind_gate format gate behind bytes g = (
-  ap (drop (unit format)) g.is ∙ drop_at (gate ∷ g.fill) behind (unit format) (omega (arith, g.filled)),
+pub behind_latch : (format : Format) (latch : ℕ) (behind bytes : List ℕ) → IsLatch format latch behind bytes → (drop (unit format) bytes ≡ behind) × (unit format + length behind ≡ length bytes)
+behind_latch format latch behind bytes g = (
+  ap (drop (unit format)) g.is ∙ drop_at (latch ∷ g.fill) behind (unit format) (omega (arith, g.filled)),
   omega (arith, g.filled, ap length g.is, length-append g.fill behind),
 )
 
--- behind an open gate
-pub stands_open : (format : Format) (link behind bytes : List ℕ) (gate : ℕ) (step : Step) → gate ≢ 0 → IsGate format gate behind bytes → StandsBehind format link behind step → StandsAt format link bytes step
-stands_open format link behind bytes gate End is_open g s = absurd s
-stands_open format link behind bytes gate (Whole n size checksum) is_open g s = record { gate = gate; is_open = is_open; behind = behind; stands = g; has = s }
-stands_open format link behind bytes gate Cut is_open g s = inr (record { gate = gate; is_open = is_open; behind = behind; stands = g; has = s })
-stands_open format link behind bytes gate Damaged is_open g s = record { gate = gate; is_open = is_open; behind = behind; stands = g; has = s }
+-- behind an open latch
+pub stands_open : (format : Format) (link behind bytes : List ℕ) (latch : ℕ) (step : Step) → latch ≢ 0 → IsLatch format latch behind bytes → StandsBehind format link behind step → StandsAt format link bytes step
+stands_open format link behind bytes latch End is_open g s = absurd s
+stands_open format link behind bytes latch (Whole n size checksum) is_open g s = record { latch = latch; is_open = is_open; behind = behind; stands = g; has = s }
+stands_open format link behind bytes latch Cut is_open g s = inr (record { latch = latch; is_open = is_open; behind = behind; stands = g; has = s })
+stands_open format link behind bytes latch Damaged is_open g s = record { latch = latch; is_open = is_open; behind = behind; stands = g; has = s }
 
 -- a number, and at least a checksum and a text of that length
 module _ (format : Format) (link bytes : List ℕ) (n size : ℕ) (rest : List ℕ) (small : n < 2 ^ 64) (front : bytes ≡ to_le_bytes w64 n ++ rest) (room : 32 ≤ length rest) (reaches : n ≤ length (drop 32 rest)) (sized : size ≡ filled format (40 + n)) (fits : size ≤ length bytes) where
@@ -129,14 +129,14 @@ pub range_push : (format : Format) (link : List ℕ) (bytes : List ℕ) (ranges 
     (behind + size ≤ length bytes) × Begins format bytes (ranges_of bytes (ranges ++ record { start = behind + 40; len = n } ∷ [])) (drop (behind + size) bytes) × (next_link format checksum ≡ link_after format [] (ranges_of bytes (ranges ++ record { start = behind + 40; len = n } ∷ [])))
 range_push format link bytes ranges at behind n size checksum is le begins linked stands =
     let o = subst (λ l. StandsAt format link l (Whole n size checksum)) (take_rest bytes at) stands in
-    let parts = behind_gate format o.gate o.behind (drop at bytes) o.stands in
+    let parts = behind_latch format o.latch o.behind (drop at bytes) o.stands in
     let here : o.behind ≡ drop behind bytes = sym parts.0 ∙ drop-drop (unit format) at bytes ∙ ap (λ (i : ℕ). drop i bytes) (sym is) in
     let texts = ranges_of bytes ranges in
     let text : List ℕ = take n (drop (behind + 40) bytes) in
     let same : take n (drop 40 o.behind) ≡ text = ap (λ (l : List ℕ). take n (drop 40 l)) here ∙ ap (take n) (drop-drop 40 behind bytes) in
     let rests : drop size o.behind ≡ drop (behind + size) bytes = ap (drop size) here ∙ drop-drop size behind bytes in
     let block = subst (λ (l : List ℕ). IsBlock format (checksum_of link text) text l o.behind) rests (subst (λ (l : List ℕ). IsBlock format (checksum_of link l) l (drop size o.behind) o.behind) same o.has.stands) in
-    let next = λ (l : List ℕ) (b : IsBlock format (checksum_of l text) text (drop (behind + size) bytes) o.behind). let w : IsNext format l text (drop (behind + size) bytes) (drop at bytes) = record { gate = o.gate; is_open = o.is_open; behind = o.behind; stands = o.stands; has = b } in w in
+    let next = λ (l : List ℕ) (b : IsBlock format (checksum_of l text) text (drop (behind + size) bytes) o.behind). let w : IsNext format l text (drop (behind + size) bytes) (drop at bytes) = record { latch = o.latch; is_open = o.is_open; behind = o.behind; stands = o.stands; has = b } in w in
     let pushed = begins_push format bytes texts text (drop at bytes) (drop (behind + size) bytes) begins (next (link_after format [] texts) (subst (λ (l : List ℕ). IsBlock format (checksum_of l text) text (drop (behind + size) bytes) o.behind) linked block)) in
     let all : texts ++ text ∷ [] ≡ ranges_of bytes (ranges ++ record { start = behind + 40; len = n } ∷ []) = sym (map-append (range_of bytes) ranges (record { start = behind + 40; len = n } ∷ [])) in
     let sum = o.has.is ∙ ap (λ (l : List ℕ). checksum_of link l) same ∙ ap (λ (l : List ℕ). checksum_of l text) linked in (
@@ -145,7 +145,7 @@ range_push format link bytes ranges at behind n size checksum is le begins linke
       ap (next_link format) sum ∙ link_push format [] texts text ∙ ap (link_after format []) all,
     )
 
--- what is no whole block behind a gate
+-- what is no whole block behind a latch
 pub no_first : (format : Format) (link bytes : List ℕ) (step : Step) → StandsBehind format link bytes step → ((n size : ℕ) (checksum : List ℕ) → step ≡ Whole n size checksum → ⊥) → AreTwoBlocks format link bytes → ⊥
 no_first format link bytes End s other two = s
 no_first format link bytes (Whole n size checksum) s other two = other n size checksum refl
@@ -166,7 +166,7 @@ module _ (format : Format) (link next bytes : List ℕ) (n size : ℕ) (checksum
   pub two_blocks : (m size' : ℕ) (sum : List ℕ) → StandsAt format next (drop size bytes) (Whole m size' sum) → AreTwoBlocks format link bytes
   two_blocks m size' sum o =
       let second : List ℕ = take m (drop 40 o.behind) in
-      let w : IsNext format next second (drop size' o.behind) (drop size bytes) = record { gate = o.gate; is_open = o.is_open; behind = o.behind; stands = o.stands; has = o.has.stands } in
+      let w : IsNext format next second (drop size' o.behind) (drop size bytes) = record { latch = o.latch; is_open = o.is_open; behind = o.behind; stands = o.stands; has = o.has.stands } in
       record {
         first = take n (drop 40 bytes);
         more = drop size bytes;

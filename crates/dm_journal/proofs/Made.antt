@@ -4,7 +4,7 @@ use Rattle.std.proofs.Math.ListN.{replicate}
 use Rattle.std.proofs.lemmas.List.{append-nil, map-append, take_more, length-replicate, replicate-append-replicate}
 use Rattle.dm_journal.specs.declared.format.Format.{Format}
 use Rattle.dm_journal.specs.Format.{line, unit, filling, filled}
-use Rattle.dm_journal.specs.Journal.{block, checksum_of, next_link, link_after, IsGate, IsBlock, IsNext, Begins, StandsIn, link_bytes}
+use Rattle.dm_journal.specs.Journal.{block, checksum_of, next_link, link_after, IsLatch, IsBlock, IsNext, Begins, StandsIn, link_bytes}
 use Rattle.dm_journal.specs.Reading.{staged, IsPushed, IsReading, IsWholeFile, EndsSo}
 use Rattle.dm_journal.specs.Texts.{ranges_of}
 use Rattle.dm_journal.specs.declared.reading.Reading.{Reading}
@@ -36,13 +36,13 @@ next_text format f xs i d old new link next lt begins linked p is =
       is ∙ ap (λ (l : List ℕ). next_link format (checksum_of l text)) linked ∙ link_push format [] before text ∙ ap (link_after format []) all,
     )
 
--- a block, and zeros behind it, among them a closed gate
+-- a block, and zeros behind it, among them a closed latch
 pub record IsStage (format : Format) (checksum text bytes : List ℕ) : Type 0 where
   pub zeros : ℕ
   pub closing : List ℕ
   pub are : closing ≡ replicate zeros 0
   pub behind : List ℕ
-  pub closed : IsGate format 0 behind closing
+  pub closed : IsLatch format 0 behind closing
   pub stands : IsBlock format checksum text closing bytes
   pub long : length bytes ≡ filled format (40 + length text) + length closing
 
@@ -52,22 +52,22 @@ zeros n = replicate n 0
 join : (a b : ℕ) → zeros a ++ zeros b ≡ zeros (a + b)
 join a b = let nil : ℕ = 0 in replicate-append-replicate a b nil
 
--- zeros in three parts: some, a gate in its unit, and the rest
-gate_and_rest : (u z : ℕ) → 0 ∷ (zeros u ++ zeros z) ≡ zeros (1 + (u + z))
-gate_and_rest u z = ap (λ (l : List ℕ). 0 ∷ l) (join u z) ∙ join 1 (u + z)
+-- zeros in three parts: some, a latch in its unit, and the rest
+latch_and_rest : (u z : ℕ) → 0 ∷ (zeros u ++ zeros z) ≡ zeros (1 + (u + z))
+latch_and_rest u z = ap (λ (l : List ℕ). 0 ∷ l) (join u z) ∙ join 1 (u + z)
 
 stage_of : (format : Format) (checksum text bytes : List ℕ) (k u z : ℕ) → length checksum ≡ 32 → length text < 2 ^ 64 → 1 + u ≡ unit format → k ≡ filling format (40 + length text) + (1 + (u + z)) → bytes ≡ block checksum text ++ replicate k 0 → IsStage format checksum text bytes
 stage_of format checksum text bytes k u z whole fits one enough is =
     let a : ℕ = filling format (40 + length text) in
     let closing : List ℕ = 0 ∷ (zeros u ++ zeros z) in
-    let all : zeros k ≡ zeros a ++ closing = ap zeros enough ∙ sym (join a (1 + (u + z))) ∙ ap (λ (l : List ℕ). zeros a ++ l) (sym (gate_and_rest u z)) in
+    let all : zeros k ≡ zeros a ++ closing = ap zeros enough ∙ sym (join a (1 + (u + z))) ∙ ap (λ (l : List ℕ). zeros a ++ l) (sym (latch_and_rest u z)) in
     let la : length (zeros a) ≡ a = length-replicate a 0 in
     let lk : length (zeros k) ≡ k = length-replicate k 0 in
     let lu : length (zeros u) ≡ u = length-replicate u 0 in
     record {
       zeros = 1 + (u + z);
       closing = closing;
-      are = gate_and_rest u z;
+      are = latch_and_rest u z;
       behind = zeros z;
       closed = record { fill = zeros u; filled = omega (arith, one, lu); is = refl };
       stands = record { fits = fits; fill = zeros a; filled = la; is = is ∙ ap (λ (l : List ℕ). block checksum text ++ l) all };
@@ -88,7 +88,7 @@ begins_long : (format : Format) (file : List ℕ) (texts : List (List ℕ)) (res
 begins_long format file texts rest b = let f = file_front format file texts rest b in omega (arith, ap length f.1, length-append f.0 rest)
 
 -- how a file ends that was read
-pub ends_so : (file : List ℕ) (reading : Reading) (size : ℕ) → IsReading file reading → size ≡ length file → EndsSo file (ranges_of file reading.ranges.items) (record { format = reading.format; link = reading.link; gate = reading.gate; size = size })
+pub ends_so : (file : List ℕ) (reading : Reading) (size : ℕ) → IsReading file reading → size ≡ length file → EndsSo file (ranges_of file reading.ranges.items) (record { format = reading.format; link = reading.link; latch = reading.latch; size = size })
 ends_so file reading size r is = record {
   behind = r.behind;
   closes = (r.rest, r.begins, r.closed);
@@ -96,12 +96,12 @@ ends_so file reading size r is = record {
 }
 
 -- how a file ends that is made
-pub has_gate : (format : Format) (file : List ℕ) (texts : List (List ℕ)) (link : List ℕ) → IsWholeFile format file texts link → unit format ≤ length file
-has_gate format file texts link w =
+pub has_latch : (format : Format) (file : List ℕ) (texts : List (List ℕ)) (link : List ℕ) → IsWholeFile format file texts link → unit format ≤ length file
+has_latch format file texts link w =
     omega (arith, begins_long format file texts w.rest w.begins, w.closed.filled, ap length w.closed.is, length-append w.closed.fill [])
 
-pub made_so : (format : Format) (file : List ℕ) (texts : List (List ℕ)) (link : Option (List ℕ)) (gate size : ℕ) → IsWholeFile format file texts (link_bytes link) → gate + unit format ≡ length file → size ≡ length file → EndsSo file texts (record { format = format; link = link; gate = gate; size = size })
-made_so format file texts link gate size w place is = record {
+pub made_so : (format : Format) (file : List ℕ) (texts : List (List ℕ)) (link : Option (List ℕ)) (latch size : ℕ) → IsWholeFile format file texts (link_bytes link) → latch + unit format ≡ length file → size ≡ length file → EndsSo file texts (record { format = format; link = link; latch = latch; size = size })
+made_so format file texts link latch size w place is = record {
   behind = [];
   closes = (w.rest, w.begins, w.closed);
   is = record { link = w.is; place = omega (arith, place, w.closed.filled, ap length w.closed.is, length-append w.closed.fill []); size = is };

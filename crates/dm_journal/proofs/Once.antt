@@ -6,7 +6,7 @@ use Rattle.sha2.proofs.Facts256.{length-sha256}
 use Rattle.dm_journal.specs.declared.format.Format.{Format}
 use Rattle.dm_journal.specs.declared.format.Format.TheVariants.{First, Second, Third}
 use Rattle.dm_journal.specs.Format.{family, line, filling}
-use Rattle.dm_journal.specs.Journal.{block, checksum_of, next_link, link_after, IsGate, IsBlock, IsNext, AreBlocks, Begins}
+use Rattle.dm_journal.specs.Journal.{block, checksum_of, next_link, link_after, IsLatch, IsBlock, IsNext, AreBlocks, Begins}
 use Rattle.dm_journal.specs.Faults.{IsShort, EndsEarly, HasOtherChecksum, IsDamaged, BeginsWith}
 use Rattle.dm_journal.proofs.Blocks.{flat, length-block, same_parts, same_number}
 
@@ -52,8 +52,8 @@ one_line Third Second m n same = let h : 52 ≡ 50 = ap (λ (l : List ℕ). get_
 one_line Third Third m n same = refl
 
 module _ (format : Format) where
-  pub same_gate : (g h : ℕ) (a b bytes : List ℕ) → IsGate format g a bytes → IsGate format h b bytes → (g ≡ h) × (a ≡ b)
-  same_gate g h a b bytes p q =
+  pub same_latch : (g h : ℕ) (a b bytes : List ℕ) → IsLatch format g a bytes → IsLatch format h b bytes → (g ≡ h) × (a ≡ b)
+  same_latch g h a b bytes p q =
       let same = sym p.is ∙ q.is in
       let parts = same_parts p.fill a q.fill b (omega (arith, p.filled, q.filled)) (same_tail g h (p.fill ++ a) (q.fill ++ b) same) in
       (same_head g h (p.fill ++ a) (q.fill ++ b) same, parts.1)
@@ -66,7 +66,7 @@ module _ (format : Format) where
 
   pub same_next : (link t m u n bytes : List ℕ) → IsNext format link t m bytes → IsNext format link u n bytes → (t ≡ u) × (m ≡ n)
   same_next link t m u n bytes p q =
-      let behind = (same_gate p.gate q.gate p.behind q.behind bytes p.stands q.stands).1 in
+      let behind = (same_latch p.latch q.latch p.behind q.behind bytes p.stands q.stands).1 in
       let parts = same_block (checksum_of link t) t m (checksum_of link u) u n q.behind (length-checksum link t) (length-checksum link u) (subst (λ (l : List ℕ). IsBlock format (checksum_of link t) t m l) behind p.has) q.has in
       (parts.1, parts.2)
 
@@ -106,33 +106,33 @@ module _ (format : Format) where
       let same = same_block o.checksum o.text o.more (checksum_of link t) t m bytes o.whole (length-checksum link t) o.stands b in
       o.differs (same.0 ∙ ap (checksum_of link) (sym same.1))
 
-  pub closed_has_none : (link behind bytes : List ℕ) → IsGate format 0 behind bytes → HasNone link bytes
-  closed_has_none link behind bytes g text more n = n.is_open (sym (same_gate 0 n.gate behind n.behind bytes g n.stands).0)
+  pub closed_has_none : (link behind bytes : List ℕ) → IsLatch format 0 behind bytes → HasNone link bytes
+  closed_has_none link behind bytes g text more n = n.is_open (sym (same_latch 0 n.latch behind n.behind bytes g n.stands).0)
 
   pub early_has_none : (link bytes : List ℕ) → EndsEarly format link bytes → HasNone link bytes
   early_has_none link bytes (inl short) text more n =
       omega (arith, short, n.stands.filled, ap length n.stands.is, length-append n.stands.fill n.behind)
   early_has_none link bytes (inr early) text more n =
-      let behind = (same_gate n.gate early.gate n.behind early.behind bytes n.stands early.stands).1 in
+      let behind = (same_latch n.latch early.latch n.behind early.behind bytes n.stands early.stands).1 in
       short_has_none (checksum_of link text) text more early.behind (length-checksum link text) early.has (subst (λ (l : List ℕ). IsBlock format (checksum_of link text) text more l) behind n.has)
 
   pub damaged_has_none : (link bytes : List ℕ) → IsDamaged format link bytes → HasNone link bytes
   damaged_has_none link bytes d text more n =
-      let behind = (same_gate n.gate d.gate n.behind d.behind bytes n.stands d.stands).1 in
+      let behind = (same_latch n.latch d.latch n.behind d.behind bytes n.stands d.stands).1 in
       other_has_none link text more d.behind d.has (subst (λ (l : List ℕ). IsBlock format (checksum_of link text) text more l) behind n.has)
 
   -- no two answers at one place
-  pub closed_is_not_early : (link behind bytes : List ℕ) → IsGate format 0 behind bytes → EndsEarly format link bytes → ⊥
+  pub closed_is_not_early : (link behind bytes : List ℕ) → IsLatch format 0 behind bytes → EndsEarly format link bytes → ⊥
   closed_is_not_early link behind bytes g (inl short) = omega (arith, short, g.filled, ap length g.is, length-append g.fill behind)
-  closed_is_not_early link behind bytes g (inr early) = early.is_open (sym (same_gate 0 early.gate behind early.behind bytes g early.stands).0)
+  closed_is_not_early link behind bytes g (inr early) = early.is_open (sym (same_latch 0 early.latch behind early.behind bytes g early.stands).0)
 
-  pub closed_is_not_damaged : (link behind bytes : List ℕ) → IsGate format 0 behind bytes → IsDamaged format link bytes → ⊥
-  closed_is_not_damaged link behind bytes g d = d.is_open (sym (same_gate 0 d.gate behind d.behind bytes g d.stands).0)
+  pub closed_is_not_damaged : (link behind bytes : List ℕ) → IsLatch format 0 behind bytes → IsDamaged format link bytes → ⊥
+  closed_is_not_damaged link behind bytes g d = d.is_open (sym (same_latch 0 d.latch behind d.behind bytes g d.stands).0)
 
   pub early_is_not_damaged : (link bytes : List ℕ) → EndsEarly format link bytes → IsDamaged format link bytes → ⊥
   early_is_not_damaged link bytes (inl short) d = omega (arith, short, d.stands.filled, ap length d.stands.is, length-append d.stands.fill d.behind)
   early_is_not_damaged link bytes (inr early) d =
-      let behind = (same_gate d.gate early.gate d.behind early.behind bytes d.stands early.stands).1 in
+      let behind = (same_latch d.latch early.latch d.behind early.behind bytes d.stands early.stands).1 in
       let o = d.has in
       short_has_none o.checksum o.text o.more early.behind o.whole early.has (subst (λ (l : List ℕ). IsBlock format o.checksum o.text o.more l) behind o.stands)
 

@@ -2,14 +2,14 @@
 use Rattle.std.proofs.Common.{◌≡◌, inl, inr, ℕ, List, [], ◌++◌, length, refl, sym, ◌∙◌, ap, subst, arith, length-append}
 use Rattle.dm_journal.specs.declared.format.Format.{Format}
 use Rattle.dm_journal.specs.Format.{family, line, filling}
-use Rattle.dm_journal.specs.Journal.{IsGate, Begins, link_after}
+use Rattle.dm_journal.specs.Journal.{IsLatch, Begins, link_after}
 use Rattle.dm_journal.specs.Faults.{EndsEarly, IsDamaged, StopsAt, EndsInHeader, BeginsWith, HasFault}
 use Rattle.dm_journal.specs.Hidden.{AreTwoBlocks, Hides}
 use Rattle.dm_journal.specs.Laws.{StandsForOneList, FilesHaveOneFormat, JournalsHaveNoFault, FilesHaveOneFault}
 use Rattle.dm_journal.specs.declared.fault.Fault.TheVariants.{NotAJournal, Unknown, Cut, Damaged}
-use Rattle.dm_journal.proofs.Once.{in_family, one_line, HasNone, closed_has_none, early_has_none, damaged_has_none, closed_is_not_early, closed_is_not_damaged, early_is_not_damaged, same_gate, one_format, files_end_alike}
+use Rattle.dm_journal.proofs.Once.{in_family, one_line, HasNone, closed_has_none, early_has_none, damaged_has_none, closed_is_not_early, closed_is_not_damaged, early_is_not_damaged, same_latch, one_format, files_end_alike}
 
-closes_alike : (file : List ℕ) (f g : Format) (a b : List (List ℕ)) (r s m n : List ℕ) → Begins f file a r → IsGate f 0 m r → Begins g file b s → IsGate g 0 n s → (f ≡ g) × (a ≡ b) × (r ≡ s)
+closes_alike : (file : List ℕ) (f g : Format) (a b : List (List ℕ)) (r s m n : List ℕ) → Begins f file a r → IsLatch f 0 m r → Begins g file b s → IsLatch g 0 n s → (f ≡ g) × (a ≡ b) × (r ≡ s)
 closes_alike file f g a b r s m n p closed q closed' =
     files_end_alike f g file a b r s (closed_has_none f (link_after f [] a) m r closed) (closed_has_none g (link_after g [] b) n s closed') p q
 
@@ -41,9 +41,9 @@ stops_alike file a b P Q np nq p q =
 same_place : (file : List ℕ) (a b : ℕ) (P Q : Format → List ℕ → List ℕ → Type 0) (p : StopsAt file a P) (q : StopsAt file b Q) → p.rest ≡ q.rest → a ≡ b
 same_place file a b P Q p q same = omega (arith, ap length same, p.place, q.place)
 
-closed_at : (f g : Format) (behind r s : List ℕ) → f ≡ g → r ≡ s → IsGate f 0 behind r → IsGate g 0 behind s
+closed_at : (f g : Format) (behind r s : List ℕ) → f ≡ g → r ≡ s → IsLatch f 0 behind r → IsLatch g 0 behind s
 closed_at f g behind r s formats rests closed =
-    subst (λ (l : List ℕ). IsGate g 0 behind l) rests (subst (λ (h : Format). IsGate h 0 behind r) formats closed)
+    subst (λ (l : List ℕ). IsLatch g 0 behind l) rests (subst (λ (h : Format). IsLatch h 0 behind r) formats closed)
 
 pub no_fault : JournalsHaveNoFault
 no_fault file texts NotAJournal p fault = fault (line_in_family p.0 file (has_line p.0 file texts p.1.1.0 p.1.1.1))
@@ -111,12 +111,12 @@ one_fault file (Damaged a) Unknown p q = absurd (not_known file q (stop_has_line
 one_fault file (Damaged a) (Cut b) p q = absurd (cut_or_damaged file b a q p)
 one_fault file (Damaged a) (Damaged b) p q = ap Damaged (same_place file a b IsDamaged IsDamaged p q (stops_alike file a b IsDamaged IsDamaged damaged_has_none damaged_has_none p q).2)
 
--- where the one closed gate hides nothing, none does
-pub none_hidden : (f : Format) (file : List ℕ) (texts : List (List ℕ)) (rest behind : List ℕ) → Begins f file texts rest → IsGate f 0 behind rest → (AreTwoBlocks f (link_after f [] texts) behind → ⊥) → (at : ℕ) → Hides file at → ⊥
+-- where the one closed latch hides nothing, none does
+pub none_hidden : (f : Format) (file : List ℕ) (texts : List (List ℕ)) (rest behind : List ℕ) → Begins f file texts rest → IsLatch f 0 behind rest → (AreTwoBlocks f (link_after f [] texts) behind → ⊥) → (at : ℕ) → Hides file at → ⊥
 none_hidden f file texts rest behind b closed none at h =
     let same = closes_alike file h.format f h.texts texts h.rest rest h.behind behind h.begins h.closed b closed in
     let closed' = closed_at h.format f h.behind h.rest rest same.0 same.2 h.closed in
-    let behinds = (same_gate f 0 0 h.behind behind rest closed' closed).1 in
+    let behinds = (same_latch f 0 0 h.behind behind rest closed' closed).1 in
     let links = ap (λ (g : Format). link_after g [] h.texts) same.0 ∙ ap (link_after f []) same.1 in
     let blocks = subst (λ (g : Format). AreTwoBlocks g (link_after h.format [] h.texts) h.behind) same.0 h.blocks in
     none (subst (AreTwoBlocks f (link_after f [] texts)) behinds (subst (λ (l : List ℕ). AreTwoBlocks f l h.behind) links blocks))

@@ -5,7 +5,7 @@ use Rattle.dm_journal.specs.declared.format.Format.{Format}
 use Rattle.dm_journal.specs.declared.format.Format.TheVariants.{First, Second, Third}
 use Rattle.dm_journal.specs.Format.{line, unit, filling}
 use Rattle.dm_journal.specs.Journal.{checksum_of, next_link, IsNext, AreBlocks}
-use Rattle.dm_journal.specs.Laws.{GatesBeginUnits, UnitsAreFilled}
+use Rattle.dm_journal.specs.Laws.{LatchsBeginUnits, UnitsAreFilled}
 use Rattle.dm_journal.proofs.Blocks.{length-block}
 use Rattle.dm_journal.proofs.Once.{length-checksum}
 
@@ -45,8 +45,8 @@ module _ (format : Format) where
       let more = blocks_units (next_link format (checksum_of link text)) blocks.0 texts rest blocks.2 in
       (1 + (one.0 + more.0), one.1 ∙ ap (λ (n : ℕ). unit format + (one.0 * unit format + n)) more.1 ∙ sum_of_units (unit format) one.0 more.0 (length rest))
 
-pub gates_begin : GatesBeginUnits
-gates_begin format file texts rest b =
+pub latchs_begin : LatchsBeginUnits
+latchs_begin format file texts rest b =
     let header = (units_filled format (length (line format))).1 in
     let more = blocks_units format [] b.bytes texts rest b.blocks in
     let sum = add-mul header.0 more.0 (unit format) in

@@ -4,8 +4,8 @@ use Rattle.dm_journal.specs.declared.device.DeviceError.{DeviceError}
 use Rattle.dm_journal.specs.declared.device.DeviceError.TheVariants.{Failed}
 
 -- new is old with these bytes at this offset
-abbrev pub Holds : List ℕ → ℕ → List ℕ → List ℕ → Type 0
-Holds old at bytes new = new ≡ take at old ++ bytes ++ drop (at + length bytes) old
+abbrev pub IsWrittenAt : List ℕ → ℕ → List ℕ → List ℕ → Type 0
+IsWrittenAt old at bytes new = new ≡ take at old ++ bytes ++ drop (at + length bytes) old
 
 -- after a write of n bytes that a crash cuts short: any bytes in the range and past the old end, the same elsewhere
 pub record Torn (at n : ℕ) (old new : List ℕ) : Type 0 where

@@ -11,7 +11,7 @@ use Rattle.dm_journal.specs.declared.fault.Fault.TheVariants.{NotAJournal, Unkno
 abbrev pub IsShort : Format → List ℕ → Type 0
 IsShort format bytes = (length bytes < 40) ⊎ ((n : ℕ) × (n < 2 ^ 64) × (take 8 bytes ≡ to_le_bytes w64 n) × (length bytes < filled format (40 + n)))
 
--- less than a unit where a gate is due, or an open gate and less than a block
+-- less than a unit where a latch is due, or an open latch and less than a block
 abbrev pub EndsEarly : Format → List ℕ → List ℕ → Type 0
 EndsEarly format link bytes = (length bytes < unit format) ⊎ IsOpen format (IsShort format) bytes
 
@@ -24,7 +24,7 @@ pub record HasOtherChecksum (format : Format) (link bytes : List ℕ) : Type 0 w
   pub more : List ℕ
   pub stands : IsBlock format checksum text more bytes
 
--- an open gate and such a block
+-- an open latch and such a block
 abbrev pub IsDamaged : Format → List ℕ → List ℕ → Type 0
 IsDamaged format link bytes = IsOpen format (HasOtherChecksum format link) bytes
 
@@ -37,7 +37,7 @@ pub record StopsAt (file : List ℕ) (at : ℕ) (P : Format → List ℕ → Lis
   pub place : at + length rest ≡ length file
   pub why : P format (link_after format [] texts) rest
 
--- the file ends in front of this place, where the first gate is due
+-- the file ends in front of this place, where the first latch is due
 pub record EndsInHeader (file : List ℕ) (at : ℕ) : Type 0 where
   pub format : Format
   pub more : List ℕ

@@ -31,11 +31,11 @@ abbrev pub link_bytes : Option (List ℕ) → List ℕ
 link_bytes None = []
 link_bytes (Some checksum) = checksum
 
--- the bytes are a gate, whatever fills its unit, and what stands behind it
-pub record IsGate (format : Format) (gate : ℕ) (behind bytes : List ℕ) : Type 0 where
+-- the bytes are a latch, whatever fills its unit, and what stands behind it
+pub record IsLatch (format : Format) (latch : ℕ) (behind bytes : List ℕ) : Type 0 where
   pub fill : List ℕ
   pub filled : 1 + length fill ≡ unit format
-  pub is : bytes ≡ gate ∷ (fill ++ behind)
+  pub is : bytes ≡ latch ∷ (fill ++ behind)
 
 -- the bytes are the block of the text with this checksum, whatever fills it up to whole units, and the rest
 pub record IsBlock (format : Format) (checksum text rest bytes : List ℕ) : Type 0 where
@@ -44,15 +44,15 @@ pub record IsBlock (format : Format) (checksum text rest bytes : List ℕ) : Typ
   pub filled : length fill ≡ filling format (40 + length text)
   pub is : bytes ≡ block checksum text ++ (fill ++ rest)
 
--- behind an open gate, which is any byte but 0, stands something that has P
+-- behind an open latch, which is any byte but 0, stands something that has P
 pub record IsOpen (format : Format) (P : List ℕ → Type 0) (bytes : List ℕ) : Type 0 where
-  pub gate : ℕ
-  pub is_open : gate ≢ 0
+  pub latch : ℕ
+  pub is_open : latch ≢ 0
   pub behind : List ℕ
-  pub stands : IsGate format gate behind bytes
+  pub stands : IsLatch format latch behind bytes
   pub has : P behind
 
--- the bytes are an open gate, the block of a text that follows on the link, and the rest
+-- the bytes are an open latch, the block of a text that follows on the link, and the rest
 abbrev pub IsNext : Format → List ℕ → List ℕ → List ℕ → List ℕ → Type 0
 IsNext format link text rest = IsOpen format (IsBlock format (checksum_of link text) text rest)
 
@@ -70,9 +70,9 @@ pub record Begins (format : Format) (file : List ℕ) (texts : List (List ℕ)) 
   pub is : file ≡ line format ++ (fill ++ bytes)
   pub blocks : AreBlocks format [] bytes texts rest
 
--- behind the blocks of the texts is a closed gate, which is 0, and behind its unit may be anything
+-- behind the blocks of the texts is a closed latch, which is 0, and behind its unit may be anything
 abbrev pub Closes : Format → List ℕ → List (List ℕ) → List ℕ → Type 0
-Closes format file texts behind = (rest : List ℕ) × Begins format file texts rest × IsGate format 0 behind rest
+Closes format file texts behind = (rest : List ℕ) × Begins format file texts rest × IsLatch format 0 behind rest
 
 -- the file has the format, and stands for the texts
 abbrev pub StandsIn : Format → List ℕ → List (List ℕ) → Type 0

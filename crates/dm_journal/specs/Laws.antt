@@ -22,9 +22,9 @@ JournalsHaveNoFault = (file : List ℕ) (texts : List (List ℕ)) (fault : Fault
 abbrev pub FilesHaveOneFault : Type 0
 FilesHaveOneFault = (file : List ℕ) (a b : Fault) → HasFault file a → HasFault file b → a ≡ b
 
--- a gate that is due, or closed, begins a unit: as many whole units are in front of it as it takes for the header and the blocks
-abbrev pub GatesBeginUnits : Type 0
-GatesBeginUnits = (format : Format) (file : List ℕ) (texts : List (List ℕ)) (rest : List ℕ) → Begins format file texts rest → (k : ℕ) × (length file ≡ k * unit format + length rest)
+-- a latch that is due, or closed, begins a unit: as many whole units are in front of it as it takes for the header and the blocks
+abbrev pub LatchsBeginUnits : Type 0
+LatchsBeginUnits = (format : Format) (file : List ℕ) (texts : List (List ℕ)) (rest : List ℕ) → Begins format file texts rest → (k : ℕ) × (length file ≡ k * unit format + length rest)
 
 -- what fills bytes up to whole units is less than a unit, and fills them up
 abbrev pub UnitsAreFilled : Type 0

@@ -3,7 +3,7 @@ use Rattle.std.specs.Prelude.{◌≡◌, ℕ, ◌+◌, ◌-◌, ◌≤◌, max, 
 use Rattle.std.proofs.Math.ListN.{replicate}
 use Rattle.dm_journal.specs.declared.format.Format.{Format}
 use Rattle.dm_journal.specs.Format.{unit, filled}
-use Rattle.dm_journal.specs.Journal.{block, checksum_of, IsBlock, IsGate, IsOpen, IsNext, Begins, Closes, link_after, link_bytes}
+use Rattle.dm_journal.specs.Journal.{block, checksum_of, IsBlock, IsLatch, IsOpen, IsNext, Begins, Closes, link_after, link_bytes}
 use Rattle.dm_journal.specs.Faults.{IsShort, HasOtherChecksum, EndsEarly, IsDamaged, HasFault}
 use Rattle.dm_journal.specs.Hidden.{TellsHidden}
 use Rattle.dm_journal.specs.Texts.{ranges_of}
@@ -27,16 +27,16 @@ pub record IsWhole (format : Format) (link bytes : List ℕ) (n size : ℕ) (che
   pub is : checksum ≡ checksum_of link (take n (drop 40 bytes))
   pub stands : IsBlock format (checksum_of link (take n (drop 40 bytes))) (take n (drop 40 bytes)) (drop size bytes) bytes
 
--- what stands behind an open gate
+-- what stands behind an open latch
 abbrev pub StandsBehind : Format → List ℕ → List ℕ → Step → Type 0
 StandsBehind format link bytes End = ⊥
 StandsBehind format link bytes (Whole n size checksum) = IsWhole format link bytes n size checksum
 StandsBehind format link bytes Cut = IsShort format bytes
 StandsBehind format link bytes Damaged = HasOtherChecksum format link bytes
 
--- what stands where a gate is due
+-- what stands where a latch is due
 abbrev pub StandsAt : Format → List ℕ → List ℕ → Step → Type 0
-StandsAt format link bytes End = IsGate format 0 (drop (unit format) bytes) bytes
+StandsAt format link bytes End = IsLatch format 0 (drop (unit format) bytes) bytes
 StandsAt format link bytes (Whole n size checksum) = IsOpen format (λ behind. IsWhole format link behind n size checksum) bytes
 StandsAt format link bytes Cut = EndsEarly format link bytes
 StandsAt format link bytes Damaged = IsDamaged format link bytes
@@ -49,32 +49,32 @@ IsFaultOf file (Device error) = error ≡ Memory
 -- what a journal knows of the end of its file
 pub record IsEnd (file : List ℕ) (texts : List (List ℕ)) (behind : List ℕ) (end : JournalEnd) (closes : Closes end.format file texts behind) : Type 0 where
   pub link : link_bytes end.link ≡ link_after end.format [] texts
-  pub place : end.gate + length closes.0 ≡ length file
+  pub place : end.latch + length closes.0 ≡ length file
   pub size : end.size ≡ length file
 
--- what a file says up to its first closed gate
+-- what a file says up to its first closed latch
 pub record IsReading (file : List ℕ) (reading : Reading) : Type 0 where
   pub rest : List ℕ
   pub begins : Begins reading.format file (ranges_of file reading.ranges.items) rest
   pub behind : List ℕ
-  pub closed : IsGate reading.format 0 behind rest
+  pub closed : IsLatch reading.format 0 behind rest
   pub link : link_bytes reading.link ≡ link_after reading.format [] (ranges_of file reading.ranges.items)
-  pub place : reading.gate + length rest ≡ length file
+  pub place : reading.latch + length rest ≡ length file
   pub hidden : TellsHidden file reading.hidden
 
--- the block of a text, and zeros, which fill it up, are a closed gate, and reach as far as the file did
+-- the block of a text, and zeros, which fill it up, are a closed latch, and reach as far as the file did
 abbrev pub staged : Format → List ℕ → List ℕ → ℕ → List ℕ
 staged format checksum text room =
     block checksum text ++ replicate (max (filled format (40 + length text) + unit format) room - (40 + length text)) 0
 
--- a file of these texts that ends with its closed gate, and what the next block follows on
+-- a file of these texts that ends with its closed latch, and what the next block follows on
 pub record IsWholeFile (format : Format) (file : List ℕ) (texts : List (List ℕ)) (link : List ℕ) : Type 0 where
   pub rest : List ℕ
   pub begins : Begins format file texts rest
-  pub closed : IsGate format 0 [] rest
+  pub closed : IsLatch format 0 [] rest
   pub is : link ≡ link_after format [] texts
 
--- an open gate and the block of a text join the bytes
+-- an open latch and the block of a text join the bytes
 pub record IsPushed (format : Format) (link text old new : List ℕ) : Type 0 where
   pub more : List ℕ
   pub is : new ≡ old ++ more

@@ -1,7 +1,7 @@
 //! The disk as the journal sees it: what a read returns, and what a crash may leave.
 ghost use Rattle.std.specs.Prelude.{◌≡◌, ◌⊎◌, ◌≤◌, List, ℕ, length, IfOk, OnOk};
 ghost use Rattle.dm_journal.specs.declared.device.DeviceError.TheVariants.{Memory};
-ghost use Rattle.dm_journal.specs.Device.{Only, Within, Follows, Torn, Holds, Elapses, HasCause};
+ghost use Rattle.dm_journal.specs.Device.{Only, Within, Follows, Torn, IsWrittenAt, Elapses, HasCause};
 
 use std::alloc::{AllocError, AllocFailed, Global};
 use thiserror::Error;
@@ -72,7 +72,7 @@ pub trait Device {
     /// Writes over what is there, and past the end. Until a sync, a crash may leave any bytes in the range.
     fn write_at(&mut self, at: usize, bytes: &[u8]) -> Result<(), DeviceError>
         requires { at ≤ length (seen self.old) }
-        ensures written { OnOk result (Holds (seen self.old) at bytes.now (seen self.new)) }
+        ensures written { OnOk result (IsWrittenAt (seen self.old) at bytes.now (seen self.new)) }
         ensures crash { Follows (Torn at (length bytes.now)) (may_leave self.old) (may_leave self.new) }
         ensures named { Within (may_leave self.old) (file_may_leave self.old) → Within (may_leave self.new) (file_may_leave self.new) }
         ensures time { Elapses (moment self.old) (moment self.new) (left_since self.old) (left_since self.new) (may_leave self.new) }

@@ -17,10 +17,10 @@ pub enum Fault {
     /// It begins as a journal does, and is of no version that is known here.
     #[error("the journal was written by another version of dm")]
     Unknown,
-    /// The file ends inside the block whose gate is at this byte, or before or where this gate is due.
+    /// The file ends inside the block whose latch is at this byte, or before or where this latch is due.
     #[error("the journal is cut in the block at byte {0}")]
     Cut(usize),
-    /// The checksum of the block whose gate is at this byte isn't that of its text.
+    /// The checksum of the block whose latch is at this byte isn't that of its text.
     #[error("the block of the journal at byte {0} is damaged")]
     Damaged(usize),
 }

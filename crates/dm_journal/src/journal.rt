@@ -21,8 +21,8 @@ use crate::texts::Texts;
 use crate::writing::{MOST_BYTES, OPEN, replace_file, stage, whole, write_synced};
 use std::alloc::Global;
 
-// The last place of a gate behind which a text is appended.
-const LAST_GATE: usize = 1 << 62;
+// The last place of a latch behind which a text is appended.
+const LAST_LATCH: usize = 1 << 62;
 
 /// What a journal knows of the end of its file.
 #[derive(Clone, Copy)]
@@ -30,8 +30,8 @@ pub struct End {
     format: Format,
     // What the next block follows on.
     link: Link,
-    // The place of the closed gate behind the last block.
-    gate: usize,
+    // The place of the closed latch behind the last block.
+    latch: usize,
     // The bytes of the file.
     size: usize,
 }
@@ -70,8 +70,8 @@ impl<D: Device> Journal<D> {
         }
     }
 
-    /// The place of the closed gate, if it hid blocks when the file was opened. No crash leaves such a file: somebody has closed a
-    /// gate in front of what was acknowledged.
+    /// The place of the closed latch, if it hid blocks when the file was opened. No crash leaves such a file: somebody has closed a
+    /// latch in front of what was acknowledged.
     pub fn hidden(&self) -> Option<usize>
         ensures { result ≡ self.now.hidden }
     {
@@ -96,13 +96,13 @@ impl<D: Device> Journal<D> {
         ensures any_moment { (texts : List (List ℕ)) → HasTexts D.seen D.may_leave D.file_may_leave self.old texts
             → LeavesOnly D.moment D.left_since self.old.device self.new.device (StandsWithOrWithout self.old.end.format texts text.now) }
 
-        // Nor does it change a byte in front of the gate, which begins a unit: no write touches a unit with a block in it.
+        // Nor does it change a byte in front of the latch, which begins a unit: no write touches a unit with a block in it.
         ensures front { (texts : List (List ℕ)) → HasTexts D.seen D.may_leave D.file_may_leave self.old texts
-            → LeavesOnly D.moment D.left_since self.old.device self.new.device (IsSameBefore self.old.end.gate (D.seen self.old.device)) }
+            → LeavesOnly D.moment D.left_since self.old.device self.new.device (IsSameBefore self.old.end.latch (D.seen self.old.device)) }
 
-        // Nothing of what a failed call has left behind the gate is there any more.
+        // Nothing of what a failed call has left behind the latch is there any more.
         ensures cleared { (texts : List (List ℕ)) → HasTexts D.seen D.may_leave D.file_may_leave self.old texts
-            → OnOk result (IsZeros (drop self.new.end.gate (D.seen self.new.device))) }
+            → OnOk result (IsZeros (drop self.new.end.latch (D.seen self.new.device))) }
         ensures format { self.new.end.format ≡ self.old.end.format }
 
         // It doesn't give up by itself.
@@ -120,24 +120,24 @@ impl<D: Device> Journal<D> {
         let End {
             format,
             link,
-            gate,
+            latch,
             size,
         } = self.end;
-        if gate > LAST_GATE {
+        if latch > LAST_LATCH {
             return Err(WriteError::Full);
         }
         let checksum = checksum(link, text);
-        let behind = gate + format.unit();
-        // What a write that failed has left behind the gate is no more.
+        let behind = latch + format.unit();
+        // What a write that failed has left behind the latch is no more.
         let room = size.saturating_sub(behind);
         let staged = stage(alloc, format, &checksum, text, room)?;
-        // The block stands on the disk before its gate is opened.
+        // The block stands on the disk before its latch is opened.
         write_synced(&mut self.device, behind, &staged)?;
-        write_synced(&mut self.device, gate, &[OPEN])?;
+        write_synced(&mut self.device, latch, &[OPEN])?;
         self.end = End {
             format,
             link: format.next_link(checksum),
-            gate: behind + format.filled(FRONT + text.len()),
+            latch: behind + format.filled(FRONT + text.len()),
             size: behind + staged.len(),
         };
         Ok(())
@@ -223,12 +223,12 @@ fn put_journal<D: Device>(
     Ok(End {
         format,
         link,
-        gate: bytes.len() - format.unit(),
+        latch: bytes.len() - format.unit(),
         size: bytes.len(),
     })
 }
 
-// How the file ends, the place of a gate that hides blocks, and the texts.
+// How the file ends, the place of a latch that hides blocks, and the texts.
 fn read_journal<D: Device>(
     alloc: Global,
     device: &mut D,
@@ -246,7 +246,7 @@ fn read_journal<D: Device>(
             let end = End {
                 format: reading.format,
                 link: reading.link,
-                gate: reading.gate,
+                latch: reading.latch,
                 size: bytes.len(),
             };
             Ok((end, reading.hidden, Texts::new(bytes, reading.ranges)))

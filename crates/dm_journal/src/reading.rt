@@ -1,4 +1,4 @@
-//! How a file is read: block by block, up to a closed gate or a fault.
+//! How a file is read: block by block, up to a closed latch or a fault.
 ghost use Rattle.std.specs.Prelude.{◌≡◌, ◌<◌, ◌≤◌, ◌++◌, true, false, drop, length, IfSome, IfNone, IfOk, IfErr};
 ghost use Rattle.std.specs.Int.{w64, to_le_bytes};
 ghost use Rattle.dm_journal.specs.declared.format.Format.{Format as JournalFormat};
@@ -22,23 +22,23 @@ pub const HEADER: usize = 13;
 /// The bytes of a length and a checksum.
 pub const FRONT: usize = 40;
 
-/// The blocks of a file up to a closed gate.
+/// The blocks of a file up to a closed latch.
 #[derive(Drop)]
 pub struct Reading {
     pub format: Format,
     pub ranges: Vec<Range>,
     // What a block behind them follows on.
     pub link: Link,
-    // The place of the closed gate.
-    pub gate: usize,
+    // The place of the closed latch.
+    pub latch: usize,
     // Its place, if it hides blocks.
     pub hidden: Option<usize>,
 }
 
-// What stands where a gate is due, or behind an open one.
+// What stands where a latch is due, or behind an open one.
 #[derive(Clone, Copy)]
 pub enum Step {
-    // A closed gate.
+    // A closed latch.
     End,
     // A block of a text of this length, of so many bytes with what fills it up, and its checksum.
     Whole {
@@ -52,7 +52,7 @@ pub enum Step {
     Damaged,
 }
 
-/// Reads the blocks up to a closed gate.
+/// Reads the blocks up to a closed latch.
 pub fn read_blocks(alloc: Global, bytes: &[u8]) -> Result<Reading, OpenError>
     ensures ok { IfOk result (IsReading bytes.now) }
     ensures fault { IfErr result (IsFaultOf bytes.now) }
@@ -72,7 +72,7 @@ pub fn read_blocks(alloc: Global, bytes: &[u8]) -> Result<Reading, OpenError>
                     format,
                     ranges,
                     link,
-                    gate: at,
+                    latch: at,
                     hidden,
                 });
             }
@@ -95,7 +95,7 @@ pub fn read_blocks(alloc: Global, bytes: &[u8]) -> Result<Reading, OpenError>
     }
 }
 
-// The format of a file, and the place where its first gate is due.
+// The format of a file, and the place where its first latch is due.
 fn read_header(bytes: &[u8]) -> Result<(Format, usize), Fault>
     ensures ok { IfOk result (λ r. IsHeaded bytes.now r.0 r.1) }
     ensures fault { IfErr result (HasFault bytes.now) }
@@ -144,7 +144,7 @@ fn read_block(format: Format, link: Link, bytes: &[u8]) -> Step
     read_behind(format, link, &bytes[unit..])
 }
 
-// What stands behind a gate that is open.
+// What stands behind a latch that is open.
 fn read_behind(format: Format, link: Link, bytes: &[u8]) -> Step
     ensures { StandsBehind format (link_bytes link) bytes.now result }
 {
@@ -174,7 +174,7 @@ fn read_behind(format: Format, link: Link, bytes: &[u8]) -> Step
     }
 }
 
-// Whether behind this closed gate stand two blocks that follow on the link.
+// Whether behind this closed latch stand two blocks that follow on the link.
 fn hides(format: Format, link: Link, bytes: &[u8]) -> bool
     requires { unit format ≤ length bytes.now }
     ensures yes { result ≡ true → AreTwoBlocks format (link_bytes link) (drop (unit format) bytes.now) }

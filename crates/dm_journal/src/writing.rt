@@ -3,9 +3,9 @@ ghost use Rattle.std.specs.Prelude.{◌≡◌, ◌≢◌, ◌⊎◌, ◌<◌, �
 ghost use Rattle.dm_journal.specs.declared.device.DeviceError.TheVariants.{Failed, Memory};
 ghost use Rattle.dm_journal.specs.declared.fault.WriteError.TheVariants.{Device as WritingDevice, Beside, TooLong, Full};
 ghost use Rattle.dm_journal.specs.Ready.{IsTooLong, IsUntouched, IsBeside, IsFailure};
-ghost use Rattle.dm_journal.specs.Device.{IsDurable, Holds, Torn, LeavesOnly, Only};
+ghost use Rattle.dm_journal.specs.Device.{IsDurable, IsWrittenAt, Torn, LeavesOnly, Only};
 ghost use Rattle.dm_journal.specs.Format.{filling};
-ghost use Rattle.dm_journal.specs.Journal.{block, checksum_of, next_link, link_bytes, IsGate};
+ghost use Rattle.dm_journal.specs.Journal.{block, checksum_of, next_link, link_bytes, IsLatch};
 ghost use Rattle.dm_journal.specs.Reading.{staged, IsWholeFile, IsPushed};
 ghost use Rattle.std.proofs.Math.ListN.{replicate};
 
@@ -18,10 +18,10 @@ use std::alloc::Global;
 /// The most bytes of a text that is written.
 pub const MOST_BYTES: usize = 1 << 40;
 
-// An open gate. Any byte but 0 is one, so no single bit that turns closes it.
+// An open latch. Any byte but 0 is one, so no single bit that turns closes it.
 pub const OPEN: u8 = 255;
 
-// The block of a text, and zeros: they fill it up, are a closed gate, and reach as far as `room` bytes.
+// The block of a text, and zeros: they fill it up, are a closed latch, and reach as far as `room` bytes.
 pub fn stage(
     alloc: Global,
     format: Format,
@@ -72,11 +72,11 @@ fn write_whole(
         }
         link = push_text(&mut bytes, format, link, text)?;
     }
-    push_gate(&mut bytes, format, 0)?;
+    push_latch(&mut bytes, format, 0)?;
     Ok((bytes, link))
 }
 
-// An open gate and the block of a text that follows on the link. What the next block follows on.
+// An open latch and the block of a text that follows on the link. What the next block follows on.
 fn push_text(
     bytes: &mut Vec<u8>,
     format: Format,
@@ -88,19 +88,19 @@ fn push_text(
     ensures link { IfOk result (λ next. link_bytes next ≡ next_link format (checksum_of (link_bytes link) text.now)) }
     ensures err { IfErr result (λ e. e ≡ Memory) }
 {
-    push_gate(bytes, format, OPEN)?;
+    push_latch(bytes, format, OPEN)?;
     let checksum = checksum(link, text);
     push_block(bytes, &checksum, text)?;
     fill_up(bytes, format, FRONT + text.len())?;
     Ok(format.next_link(checksum))
 }
 
-// A gate, in a unit of its own.
-fn push_gate(bytes: &mut Vec<u8>, format: Format, gate: u8) -> Result<(), DeviceError>
-    ensures bytes { OnOk result ((more : List ℕ) × (bytes.new.items ≡ bytes.old.items ++ more) × IsGate format gate [] more) }
+// A latch, in a unit of its own.
+fn push_latch(bytes: &mut Vec<u8>, format: Format, latch: u8) -> Result<(), DeviceError>
+    ensures bytes { OnOk result ((more : List ℕ) × (bytes.new.items ≡ bytes.old.items ++ more) × IsLatch format latch [] more) }
     ensures err { IfErr result (λ e. e ≡ Memory) }
 {
-    bytes.push(gate)?;
+    bytes.push(latch)?;
     push_zeros(bytes, format.unit() - 1)
 }
 
@@ -138,7 +138,7 @@ fn push_block(bytes: &mut Vec<u8>, checksum: &[u8; 32], text: &[u8]) -> Result<(
 pub fn write_synced<D: Device>(device: &mut D, at: usize, bytes: &[u8]) -> Result<(), DeviceError>
     requires place { at ≤ length (D.seen device.old) }
     requires durable { IsDurable D.seen D.may_leave D.file_may_leave device.old }
-    ensures written { OnOk result (Holds (D.seen device.old) at bytes.now (D.seen device.new)) }
+    ensures written { OnOk result (IsWrittenAt (D.seen device.old) at bytes.now (D.seen device.new)) }
     ensures durable { OnOk result (IsDurable D.seen D.may_leave D.file_may_leave device.new) }
     ensures any_moment { LeavesOnly D.moment D.left_since device.old device.new (Torn at (length bytes.now) (D.seen device.old)) }
     ensures later { D.faults device.old ≤ D.faults device.new }

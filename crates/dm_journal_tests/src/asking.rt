@@ -33,7 +33,7 @@ pub fn texts_in(alloc: Global, bytes: &[u8]) -> Option<usize>
     }
 }
 
-/// The place of the closed gate of a file of these bytes that hides blocks. `None` if it hides none, or if memory ran out.
+/// The place of the closed latch of a file of these bytes that hides blocks. `None` if it hides none, or if memory ran out.
 pub fn hidden_in(alloc: Global, bytes: &[u8]) -> Option<usize>
     ensures { IfSome result (Hides bytes.now) }
 {

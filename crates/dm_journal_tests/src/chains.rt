@@ -1,4 +1,4 @@
-//! The second and the third format: their bytes, their chain, and what a closed gate hides.
+//! The second and the third format: their bytes, their chain, and what a closed latch hides.
 
 use crate::asking::{fault_of, hidden_in, texts_in};
 use dm_journal::{Fault, Format, Journal, Memory};
@@ -144,11 +144,11 @@ fn hidden_by(alloc: Global, parts: &[&[u8]]) -> Option<usize> {
 }
 
 #[test]
-fn a_gate_that_hides_blocks_is_told(rt: HostRuntime) {
+fn a_latch_that_hides_blocks_is_told(rt: HostRuntime) {
     let alloc = rt.alloc();
     assert!(rt;
         hidden_by(alloc, &[HEADER, OPEN, ABC, CLOSED, D, OPEN, E, CLOSED]) == Some(12288),
-        "two blocks stand behind a closed gate"
+        "two blocks stand behind a closed latch"
     );
     assert!(rt;
         hidden_by(alloc, &[HEADER, OPEN, ABC, CLOSED, D, CLOSED]).is_none(),
@@ -173,6 +173,6 @@ fn other_headers_are_told(rt: HostRuntime) {
     );
     assert!(rt;
         fault_in(alloc, &[HEADER, OPEN, ABC]) == Some(Fault::Cut(12288)),
-        "a file without its last gate"
+        "a file without its last latch"
     );
 }

@@ -4,7 +4,7 @@ use crate::asking::fault_of;
 use dm_journal::{Fault, Journal, Memory};
 use std::alloc::Global;
 
-// The header and a closed gate.
+// The header and a closed latch.
 const EMPTY: [u8; 14] = *b"dm journal 1\n\0";
 
 // A journal of the text "abc", whose SHA-256 is that of the standard's example.

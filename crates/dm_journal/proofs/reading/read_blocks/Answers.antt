@@ -4,7 +4,7 @@ use Rattle.dm_journal.specs.declared.texts.Range.{Range}
 use Rattle.dm_journal.specs.Faults.{EndsEarly}
 use Rattle.dm_journal.specs.Format.{unit}
 use Rattle.dm_journal.specs.Hidden.{AreTwoBlocks, TellsHidden}
-use Rattle.dm_journal.specs.Journal.{Begins, IsGate, link_after, link_bytes}
+use Rattle.dm_journal.specs.Journal.{Begins, IsLatch, link_after, link_bytes}
 use Rattle.dm_journal.specs.Texts.{ranges_of}
 use Rattle.dm_journal.proofs.Found.{range_push}
 use Rattle.dm_journal.proofs.OneAnswer.{none_hidden}
@@ -19,7 +19,7 @@ returns-in-End-clause-ok c =
     let rest = drop c.walk.at file in
     let behind = drop (unit format) rest in
     let here = take_rest file c.walk.at in
-    let closed = subst (λ (l : List ℕ). IsGate format 0 (drop (unit format) l) l) here c.in-End.ensures in
+    let closed = subst (λ (l : List ℕ). IsLatch format 0 (drop (unit format) l) l) here c.in-End.ensures in
     let place : c.walk.at + length rest ≡ length file = omega (arith, c.walk.invariant.within, length-drop c.walk.at file) in
     let yes = λ (e : c.hides.result ≡ true). subst (AreTwoBlocks format (link_after format [] texts)) (ap (drop (unit format)) here) (subst (λ (l : List ℕ). AreTwoBlocks format l (drop (unit format) (take (length file - c.walk.at) rest))) c.walk.invariant.linked (c.hides.ensures.yes e)) in
     let no = λ (e : c.hides.result ≡ false) (two : AreTwoBlocks format (link_after format [] texts) behind). c.hides.ensures.no e (subst (λ (l : List ℕ). AreTwoBlocks format l (drop (unit format) (take (length file - c.walk.at) rest))) (sym c.walk.invariant.linked) (subst (AreTwoBlocks format (link_after format [] texts)) (sym (ap (drop (unit format)) here)) two)) in

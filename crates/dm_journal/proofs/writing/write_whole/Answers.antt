@@ -20,11 +20,11 @@ loop-text-preserved c =
 pub returns-clause-texts : goal.returns-clause-texts
 returns-clause-texts c =
     let all : take c.loop-text.text-index c.args.texts.now ≡ c.args.texts.now = take_all _ _ (search rules) in
-    let pushed = c.in_ok-push_gate.ensures.bytes in
-    let begins = closed_made c.args.format c.loop-text.bytes.items c.push_gate.new.bytes.items (map (λ text. text.now) (take c.loop-text.text-index c.args.texts.now)) pushed.0 c.loop-text.invariant.begins pushed.1 in
+    let pushed = c.in_ok-push_latch.ensures.bytes in
+    let begins = closed_made c.args.format c.loop-text.bytes.items c.push_latch.new.bytes.items (map (λ text. text.now) (take c.loop-text.text-index c.args.texts.now)) pushed.0 c.loop-text.invariant.begins pushed.1 in
     record {
       rest = pushed.0;
-      begins = subst (λ l. Begins c.args.format c.push_gate.new.bytes.items (map (λ text. text.now) l) pushed.0) all begins;
+      begins = subst (λ l. Begins c.args.format c.push_latch.new.bytes.items (map (λ text. text.now) l) pushed.0) all begins;
       closed = pushed.2;
       is = c.loop-text.invariant.linked ∙ ap (λ l. link_after c.args.format [] (map (λ text. text.now) l)) all;
     }

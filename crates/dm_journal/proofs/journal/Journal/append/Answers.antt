@@ -9,14 +9,14 @@ pub returns-in_err-write_synced-clause-any_moment :
     goal.returns-in_err-write_synced-clause-any_moment
 returns-in_err-write_synced-clause-any_moment g c texts has =
     let d = g.D.Device in
-    let at = ap (λ (n : ℕ). c.args.self.now.end.gate + n) c.unit.ensures.is in
+    let at = ap (λ (n : ℕ). c.args.self.now.end.latch + n) c.unit.ensures.is in
     weakened d.moment d.left_since _ _ _ _ (first_leaves d.seen d.may_leave d.file_may_leave c.args.self.now texts has _ at c.args.text.now _) c.write_synced.ensures.any_moment
 
 pub returns-in_err-write_synced-2-clause-any_moment :
     goal.returns-in_err-write_synced-2-clause-any_moment
 returns-in_err-write_synced-2-clause-any_moment g c texts has =
     let d = g.D.Device in
-    let at = ap (λ (n : ℕ). c.args.self.now.end.gate + n) c.unit.ensures.is in
+    let at = ap (λ (n : ℕ). c.args.self.now.end.latch + n) c.unit.ensures.is in
     let first = weakened d.moment d.left_since _ _ _ _ (first_leaves d.seen d.may_leave d.file_may_leave c.args.self.now texts has _ at c.args.text.now _) c.write_synced.ensures.any_moment in
     let fits : length c.args.text.now < 2 ^ 64 = omega (arith, c.if-text-gt-MOST_BYTES.false) in
     let some : 1 ≤ unit c.args.self.now.end.format = omega (arith, c.unit.ensures.is, c.unit.ensures.some) in
@@ -29,7 +29,7 @@ returns-clause-acknowledged g c texts has =
     let d = g.D.Device in
     let format = c.args.self.now.end.format in
     let text = c.args.text.now in
-    let at = ap (λ (n : ℕ). c.args.self.now.end.gate + n) c.unit.ensures.is in
+    let at = ap (λ (n : ℕ). c.args.self.now.end.latch + n) c.unit.ensures.is in
     let fits : length text < 2 ^ 64 = omega (arith, c.if-text-gt-MOST_BYTES.false) in
     let some : 1 ≤ unit format = omega (arith, c.unit.ensures.is, c.unit.ensures.some) in
     let s = staged_by d.seen d.may_leave d.file_may_leave c.args.self.now texts has _ at text c.checksum-checksum.result _ _ _ c.checksum-checksum.ensures c.saturating_sub-room.ensures (c.deref.ensures.value ∙ c.in_ok-staged.ensures.bytes) fits some c.in_ok-write_synced.ensures.written in
@@ -40,7 +40,7 @@ returns-clause-acknowledged g c texts has =
 pub returns-clause-any_moment : goal.returns-clause-any_moment
 returns-clause-any_moment g c texts has =
     let d = g.D.Device in
-    let at = ap (λ (n : ℕ). c.args.self.now.end.gate + n) c.unit.ensures.is in
+    let at = ap (λ (n : ℕ). c.args.self.now.end.latch + n) c.unit.ensures.is in
     let first = weakened d.moment d.left_since _ _ _ _ (first_leaves d.seen d.may_leave d.file_may_leave c.args.self.now texts has _ at c.args.text.now _) c.write_synced.ensures.any_moment in
     let fits : length c.args.text.now < 2 ^ 64 = omega (arith, c.if-text-gt-MOST_BYTES.false) in
     let some : 1 ≤ unit c.args.self.now.end.format = omega (arith, c.unit.ensures.is, c.unit.ensures.some) in
@@ -51,7 +51,7 @@ returns-clause-any_moment g c texts has =
 pub returns-in_err-write_synced-2-clause-front : goal.returns-in_err-write_synced-2-clause-front
 returns-in_err-write_synced-2-clause-front g c texts has =
     let d = g.D.Device in
-    let at = ap (λ (n : ℕ). c.args.self.now.end.gate + n) c.unit.ensures.is in
+    let at = ap (λ (n : ℕ). c.args.self.now.end.latch + n) c.unit.ensures.is in
     let first = weakened d.moment d.left_since _ _ _ _ (first_front d.seen d.may_leave d.file_may_leave c.args.self.now texts has _ at _) c.write_synced.ensures.any_moment in
     let second = weakened d.moment d.left_since _ _ _ _ (λ file. second_front d.seen d.may_leave d.file_may_leave c.args.self.now texts has _ at _ _ file c.in_ok-write_synced.ensures.written) c.write_synced-2.ensures.any_moment in
     followed d.moment d.left_since _ _ _ _ first second
@@ -59,7 +59,7 @@ returns-in_err-write_synced-2-clause-front g c texts has =
 pub returns-clause-front : goal.returns-clause-front
 returns-clause-front g c texts has =
     let d = g.D.Device in
-    let at = ap (λ (n : ℕ). c.args.self.now.end.gate + n) c.unit.ensures.is in
+    let at = ap (λ (n : ℕ). c.args.self.now.end.latch + n) c.unit.ensures.is in
     let first = weakened d.moment d.left_since _ _ _ _ (first_front d.seen d.may_leave d.file_may_leave c.args.self.now texts has _ at _) c.write_synced.ensures.any_moment in
     let second = weakened d.moment d.left_since _ _ _ _ (λ file. second_front d.seen d.may_leave d.file_may_leave c.args.self.now texts has _ at _ _ file c.in_ok-write_synced.ensures.written) c.write_synced-2.ensures.any_moment in
     followed d.moment d.left_since _ _ _ _ first second
@@ -69,7 +69,7 @@ returns-clause-cleared g c texts has =
     let d = g.D.Device in
     let format = c.args.self.now.end.format in
     let text = c.args.text.now in
-    let at = ap (λ (n : ℕ). c.args.self.now.end.gate + n) c.unit.ensures.is in
+    let at = ap (λ (n : ℕ). c.args.self.now.end.latch + n) c.unit.ensures.is in
     let fits : length text < 2 ^ 64 = omega (arith, c.if-text-gt-MOST_BYTES.false) in
     let some : 1 ≤ unit format = omega (arith, c.unit.ensures.is, c.unit.ensures.some) in
     let s = staged_by d.seen d.may_leave d.file_may_leave c.args.self.now texts has _ at text c.checksum-checksum.result _ _ _ c.checksum-checksum.ensures c.saturating_sub-room.ensures (c.deref.ensures.value ∙ c.in_ok-staged.ensures.bytes) fits some c.in_ok-write_synced.ensures.written in
