@@ -9,3 +9,4 @@ pub mod Sent
 pub mod Contexts
 pub mod Left
 pub mod Undone
+pub mod KindLemmas

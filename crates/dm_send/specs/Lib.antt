@@ -4,3 +4,4 @@ pub mod Obliterating
 pub mod Sending
 pub mod Telling
 pub mod Undoing
+pub mod Laws

@@ -14,6 +14,7 @@
 //! without the patches that are undone.
 #![tactic(auto)]
 
+pub mod laws;
 mod leaving;
 mod minimizing;
 mod obliterating;
