@@ -1,5 +1,5 @@
 //! Which patches a verdict is about.
-ghost use Rattle.std.specs.Prelude.{◌≡◌, ◌≢◌, ◌↔◌, ◌<◌, IsTrue, List, None, Some, length, slice_get, IfOk, MatchOption, OnOk};
+ghost use Rattle.std.specs.Prelude.{◌≡◌, ◌↔◌, ◌<◌, IsTrue, List, None, Some, length, slice_get, IfOk, MatchOption};
 ghost use Rattle.dm_named.specs.Patches.{Patch};
 ghost use Rattle.dm_prim.specs.Prims.{prim_of};
 ghost use Rattle.dm_bundle.specs.Bundles.{Contents};
@@ -165,17 +165,6 @@ fn held_depends<'a>(bundle: &'a Bundle<Global>, h: usize, n: usize) -> Account<'
     Account::HeldDepends(patch, needed)
 }
 
-/// A bundle that is refused for one reason isn't refused for another. Where memory ran out nothing is known, and so where the two
-/// are the same; a reason that is found before the step of the other never is.
-pub(crate) fn is_other(why: Refusal, than: Refusal) -> Result<(), AllocError>
-    ensures { OnOk result ((why ≢ Refusal.NoMemory) × (why ≢ than)) }
-{
-    if why == Refusal::NoMemory || why == than {
-        return Err(AllocError);
-    }
-    Ok(())
-}
-
 /// The primitives at the places of a clash.
 fn clashing_prims<'a>(
     repo: &'a Repo<Global>,
@@ -219,7 +208,9 @@ fn clash_at<'a>(
         }
         Ok(None) => Ok(None),
         Err(why) => {
-            is_other(why, Refusal::Conflicts(n, h))?;
+            if why == Refusal::NoMemory {
+                return Err(AllocError);
+            }
             Ok(None)
         }
     }
@@ -265,7 +256,9 @@ fn misfit_at(
         }
         Ok(None) => Ok(None),
         Err(why) => {
-            is_other(why, Refusal::DoesNotFit(n))?;
+            if why == Refusal::NoMemory {
+                return Err(AllocError);
+            }
             Ok(None)
         }
     }

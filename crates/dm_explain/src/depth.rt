@@ -7,7 +7,7 @@ ghost use Rattle.dm_repo.specs.Weighing.{RefusesBundle};
 ghost use Rattle.dm_explain.specs.Accounts.{IsDepth, IsMoveTooDeep, IsMovedTooDeep, misfit_of, overflowing};
 ghost use Rattle.dm_explain.specs.Rows.{AreShallow, FirstDeep};
 
-use crate::account::{held_name, is_other, new_name};
+use crate::account::{held_name, new_name};
 use crate::head::{Head, ShownMoved};
 use crate::shown::Who;
 use dm_bundle::Bundle;
@@ -114,7 +114,9 @@ pub(crate) fn depth_of<'a>(
         }
         Ok(None) => Ok(None),
         Err(why) => {
-            is_other(why, Refusal::Full)?;
+            if why == Refusal::NoMemory {
+                return Err(AllocError);
+            }
             Ok(None)
         }
     }

@@ -27,4 +27,5 @@ pub use depth::Depth;
 pub use fates::{Fate, Fates};
 pub use malformed::{Malformed, Remedy};
 pub use printing::AccountWithSkips;
+pub use shown::Who;
 pub use skips::{NamedSkip, Reason, Skips, skips_of};

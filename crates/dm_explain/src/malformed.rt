@@ -13,10 +13,12 @@ const WIDTH: usize = 60;
 /// So many of them at most before the place.
 const BEFORE: usize = 40;
 
-/// What helps where a text has a binary or a change of a preference, and six kinds of primitives are read.
+/// What helps where a text has a primitive of a kind that isn't read.
 #[derive(Clone, Copy, PartialEq, Eq, Debug)]
 pub enum Remedy {
-    /// Nothing.
+    /// Nothing: all kinds are read.
+    Known,
+    /// Nothing: six kinds are read, whatever is said.
     Nothing,
     /// The word by which a command reads all kinds.
     Word,
@@ -51,7 +53,7 @@ impl<'a> Malformed<'a> {
 }
 
 /// What was due at the place of a fault that is none of a limit.
-fn due(kind: FaultKind) -> &'static str {
+fn due(kind: FaultKind, remedy: Remedy) -> &'static str {
     match kind {
         FaultKind::NoNewPatches =>
             "no line is `New patches:`, with which the patches of a bundle begin",
@@ -61,6 +63,8 @@ fn due(kind: FaultKind) -> &'static str {
             "this is the patch info of an inverted patch, which a bundle can't have",
         FaultKind::BadDepends => "a patch info was due, or the `>` that ends the dependencies",
         FaultKind::BadPatch => "a primitive was due, or the `}` that ends the patch",
+        FaultKind::Unsupported if remedy == Remedy::Known =>
+            "dm knows addfile, rmfile, adddir, rmdir, move, hunk, binary and changepref; this is something else",
         FaultKind::Unsupported =>
             "dm knows addfile, rmfile, adddir, rmdir, move and hunk; this is something else",
         FaultKind::BadPath => "a path was due, such as ./docs/notes.txt",
@@ -79,7 +83,7 @@ fn due(kind: FaultKind) -> &'static str {
 }
 
 /// Writes what was due at the place of a fault, or which limit is passed there.
-fn write_due<W: Write>(f: &mut Formatter<W>, kind: FaultKind) -> fmt::Result {
+fn write_due<W: Write>(f: &mut Formatter<W>, kind: FaultKind, remedy: Remedy) -> fmt::Result {
     let Limits {
         bytes,
         patches,
@@ -95,7 +99,7 @@ fn write_due<W: Write>(f: &mut Formatter<W>, kind: FaultKind) -> fmt::Result {
             f,
             "a bundle has at most {patches} new patches, and a patch at most {prims} primitives; --repository reads a larger one of your own"
         ),
-        _ => writeln!(f, "{}", due(kind)),
+        _ => writeln!(f, "{}", due(kind, remedy)),
     }
 }
 
@@ -142,7 +146,7 @@ fn begins_wider(text: &[u8]) -> bool {
 /// Writes what helps.
 fn write_remedy<W: Write>(f: &mut Formatter<W>, remedy: Remedy) -> fmt::Result {
     f.write_str(match remedy {
-        Remedy::Nothing => "",
+        Remedy::Known | Remedy::Nothing => "",
         Remedy::Word => "--all-kinds reads binaries and changes of preferences, too.\n",
         Remedy::Mirror => {
             "This mirror reads neither binaries nor changes of preferences. Make one that does, of a bundle of all patches:\n  dm init --mirror NEW --all-kinds --repository BUNDLE\n"
@@ -159,13 +163,13 @@ impl Display for Malformed<'_> {
     fn fmt<W: Write>(&self, f: &mut Formatter<W>) -> fmt::Result {
         let kind = self.fault.kind;
         if is_of_whole(kind) {
-            write_due(f, kind)?;
+            write_due(f, kind, self.remedy)?;
         } else {
             let at = self.fault.at.min(self.text.len());
             let place = place_of(self.text, at);
             let column = at - place.start + 1;
             write!(f, "line {}, column {column}: ", place.line)?;
-            write_due(f, kind)?;
+            write_due(f, kind, self.remedy)?;
             write_place(f, self.text, place, at)?;
             if kind == FaultKind::Unsupported && begins_wider(&self.text[at..]) {
                 write_remedy(f, self.remedy)?;

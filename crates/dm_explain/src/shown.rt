@@ -62,8 +62,9 @@ impl Display for When<'_> {
 
 /// A patch as people know it: what it is called, who recorded it, and when.
 #[derive(Clone, Copy)]
-pub(crate) struct Who<'a> {
-    pub(crate) info: &'a Info<Global>,
+pub struct Who<'a> {
+    /// Its patch info.
+    pub info: &'a Info<Global>,
 }
 
 impl Display for Who<'_> {

@@ -1,4 +1,5 @@
 use Rattle.std.proofs.Common.{sym}
+use Rattle.std.proofs.lemmas.Bool.{false≢true}
 use Rattle.dm_repo.specs.declared.refusal.Refusal.TheVariants.{Conflicts}
 use Rattle.dm_explain.proofs.AccountLemmas.{excluded}
 use Rattle.dm_explain.proofs.account.clash_at.Goals as goal
@@ -12,6 +13,6 @@ returns-then-clash-h c = λ policy refused. c.if-clash-h.true (sym ((rw c.in-Ok-
 pub returns-in-Ok-None : goal.returns-in-Ok-None
 returns-in-Ok-None c = λ policy. (rw c.in-Ok-None.field-0-is at c.in-Ok-None.ensures.merges) policy c.args.n c.args.h
 
-pub returns-in_ok-is_other-in-Err : goal.returns-in_ok-is_other-in-Err
-returns-in_ok-is_other-in-Err c = λ policy.
-    excluded c.args.repo.now.patches c.args.bundle.now policy c.in-Err.why (Conflicts c.args.n c.args.h) c.in_ok-is_other-in-Err.ensures.0 (λ e. cc) c.in_ok-is_other-in-Err.ensures.1 (c.in-Err.ensures.refusal policy)
+pub returns-else-eq : goal.returns-else-eq
+returns-else-eq c = λ policy.
+    excluded c.args.repo.now.patches c.args.bundle.now policy c.in-Err.why (Conflicts c.args.n c.args.h) (λ e. false≢true (rw e at c.if-eq.ensures)) (λ e. cc) (λ e. rw e at c.in-Err.ensures.before) (c.in-Err.ensures.refusal policy)

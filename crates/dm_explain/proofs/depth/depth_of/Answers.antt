@@ -1,3 +1,4 @@
+use Rattle.std.proofs.lemmas.Bool.{false≢true}
 use Rattle.dm_repo.specs.declared.refusal.Refusal.TheVariants.{Full}
 use Rattle.dm_explain.proofs.AccountLemmas.{excluded, overflow_moves}
 use Rattle.dm_explain.proofs.PlaceLemmas.{overflow_named}
@@ -13,6 +14,6 @@ moved_too_deep-requires c =
     let overflow = c.in-Ok-Some.overflow in
     rw c.misfit_in.ensures (overflow_moves c.args.repo.now.patches c.args.bundle.now c.args.policy overflow (rw c.in-Ok-Some.field-0-is at c.in-Ok-Some.ensures.told))
 
-pub returns-in_ok-is_other-in-Err : goal.returns-in_ok-is_other-in-Err
-returns-in_ok-is_other-in-Err c = λ full.
-    absurd (excluded c.args.repo.now.patches c.args.bundle.now c.args.policy c.in-Err.why Full c.in_ok-is_other-in-Err.ensures.0 (λ e. cc) c.in_ok-is_other-in-Err.ensures.1 c.in-Err.ensures.refusal full)
+pub returns-else-eq : goal.returns-else-eq
+returns-else-eq c = λ full.
+    absurd (excluded c.args.repo.now.patches c.args.bundle.now c.args.policy c.in-Err.why Full (λ e. false≢true (rw e at c.if-eq.ensures)) (λ e. cc) c.in-Err.ensures.before c.in-Err.ensures.refusal full)
