@@ -3,7 +3,6 @@ use Rattle.std.specs.Prelude.{◌≡◌, ◌⊎◌, ℕ, List, drop, codes}
 use Rattle.memchr.specs.Find.{OccursAt}
 use Rattle.dm_bundle.specs.Bundles.{Contents, EndsAtIn}
 use Rattle.dm_named.specs.declared.limits.Limits.{Limits}
-use Rattle.dm_named.specs.Limits.{standard}
 use Rattle.dm_scratch.specs.Taking.{ReadsWithin}
 use Rattle.dm_hash.specs.declared.trailer.Trailer.{Trailer}
 use Rattle.dm_hash.specs.declared.trailer.Trailer.TheVariants.{NoHash, Right as IsRight, Wrong}
@@ -42,10 +41,6 @@ pub record HasHashFaultWithin (limits : Limits) (rule : HashRule) (text : List �
   pub has : HasTrailer limits text trailer fault.at
   pub refused : RefusesTrailer rule trailer fault.kind
 
--- the text is a bundle within the standard limits whose trailer the rule refuses
-abbrev pub HasHashFault : HashRule → List ℕ → HashFault → Type 0
-HasHashFault rule text fault = HasHashFaultWithin standard rule text fault
-
 -- the text is a bundle within the limits whose trailer the rule allows
 pub record HasAllowedTrailer (limits : Limits) (rule : HashRule) (text : List ℕ) : Type 0 where
   pub trailer : Trailer
@@ -65,7 +60,3 @@ pub data AsksNothing (rule : HashRule) (text : List ℕ) : Type 0 where
 -- the rule refuses nothing of the text: it is a bundle whose trailer is allowed, or no bundle, or nothing is asked of it
 abbrev pub PassesRuleWithin : Limits → HashRule → List ℕ → Type 0
 PassesRuleWithin limits rule text = HasAllowedTrailer limits rule text ⊎ (IsNoBundle limits text ⊎ AsksNothing rule text)
-
--- the same, within the standard limits
-abbrev pub PassesRule : HashRule → List ℕ → Type 0
-PassesRule rule text = PassesRuleWithin standard rule text

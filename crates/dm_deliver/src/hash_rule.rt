@@ -1,7 +1,7 @@
 //! What is asked of the hash with which a bundle may end.
 ghost use Rattle.std.specs.Prelude.{◌≡◌, ℕ, IfOk, IfSome, IfNone, IsTrue};
 ghost use Rattle.dm_deliver.specs.declared.hash_rule.HashFaultKind.{HashFaultKind as Kind};
-ghost use Rattle.dm_deliver.specs.Hashes.{hash_word, RefusesTrailer, HasHashFault, HasHashFaultWithin, AsksNothing, PassesRule, PassesRuleWithin};
+ghost use Rattle.dm_deliver.specs.Hashes.{hash_word, RefusesTrailer, HasHashFaultWithin, AsksNothing, PassesRuleWithin};
 
 use dm_hash::{Trailer, read_hashed};
 use dm_named::{FaultKind, Limits};
@@ -75,18 +75,6 @@ fn asks_nothing(text: &[u8], rule: HashRule) -> bool
         HashRule::NotWrong => memmem::find(text, b"Patch bundle hash:").is_none(),
         HashRule::Right => false,
     }
-}
-
-/// What is wrong with the hash of a bundle within the standard limits, by a rule. `None` also for a text that is none.
-pub fn hash_fault(
-    alloc: Global,
-    text: &[u8],
-    rule: HashRule,
-) -> Result<Option<HashFault>, AllocError>
-    ensures some { IfOk result (λ found. IfSome found (λ fault. HasHashFault rule text.now fault)) }
-    ensures none { IfOk result (λ found. IfNone found (PassesRule rule text.now)) }
-{
-    hash_fault_within(alloc, text, Limits::STANDARD, rule)
 }
 
 /// What is wrong with the hash of a bundle within these limits, by a rule. `None` also for a text that is none.

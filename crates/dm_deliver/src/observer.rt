@@ -11,13 +11,3 @@ pub trait Observer {
     /// The repository that is left, once the line of the answer is written.
     fn after(&mut self, repo: &Repo<Global>, text: &[u8], policy: Policy, answer: Answer);
 }
-
-/// It does nothing.
-#[derive(Drop, Clone, Copy, Debug)]
-pub struct Silent;
-
-impl Observer for Silent {
-    fn before(&mut self, _repo: &Repo<Global>, _text: &[u8], _policy: Policy) {}
-
-    fn after(&mut self, _repo: &Repo<Global>, _text: &[u8], _policy: Policy, _answer: Answer) {}
-}
