@@ -1,0 +1,3 @@
+pub mod PieceLemmas
+pub mod SetLemmas
+pub mod TurnLemmas
