@@ -1,0 +1,5 @@
+pub mod Making
+pub mod Beginnings
+pub mod Sharing
+pub mod Alike
+pub mod Spreading
