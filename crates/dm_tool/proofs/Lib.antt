@@ -5,3 +5,4 @@ pub mod SendLemmas
 pub mod MirrorLemmas
 pub mod TakenOut
 pub mod ChoosingLemmas
+pub mod AgreeLemmas

@@ -1,15 +1,16 @@
 -- The text of what goes gives it back.
-use Rattle.std.proofs.Common.{◌≡◌, ℕ, List, [], ◌∷◌, ◌++◌, length, inl, inr, refl}
+use Rattle.std.proofs.Common.{ℕ, List, ◌∷◌, ◌++◌, length, inl, inr, refl}
 use Rattle.std.specs.List.{Contains}
 use Rattle.std.proofs.lemmas.List.Elements.{Contains-append_left, Contains-append_right, Contains-append_cases}
 use Rattle.dm_info.specs.PatchInfo.{PatchInfo}
 use Rattle.dm_named.specs.declared.limits.Kinds.{Kinds}
 use Rattle.dm_named.specs.Patches.{Patch}
-use Rattle.dm_bundle.specs.Patches.{infos_of, SameMembers}
+use Rattle.dm_bundle.specs.Patches.{infos_of, AreAllOf, SameMembers}
 use Rattle.dm_repo.specs.declared.policy.Policy.TheVariants.{Refuse}
 use Rattle.dm_repo.proofs.Members.{here, more, one_of, infos_of-append}
 use Rattle.dm_scratch.specs.declared.verdict.Verdict.TheVariants.{Taken}
 use Rattle.dm_send.specs.declared.obliterating.Obliterated.{Obliterated}
+use Rattle.dm_send.proofs.KindLemmas.{leaving_keeps_kinds}
 use Rattle.dm_send.specs.Sending.{Parts, no_names, inside, outside}
 use Rattle.dm_store.specs.LettingGo.{GivesBack}
 use Rattle.dm_tool.specs.Obliterating.{TakesOut}
@@ -50,3 +51,7 @@ gives_back kinds repo out text t =
       takes = record { merged = o.go; is_merge = o.is_taken Refuse t.some; counted = refl; appended = refl };
       names = names;
     }
+
+-- what stays has the kinds of the repository
+pub stays_of_kinds : {Z : Type 0} (kinds : Kinds) (repo : List Patch) (out : Obliterated Z) (text : List ℕ) → TakesOut kinds repo out text → AreAllOf kinds repo → AreAllOf kinds out.repo.patches
+stays_of_kinds kinds repo out text t k = let o = t.obliterates in (leaving_keeps_kinds kinds t.chosen repo out.repo.patches o.go out.bound.items k o.leaves).0

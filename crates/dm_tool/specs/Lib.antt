@@ -8,3 +8,4 @@ pub mod Sending
 pub mod Obliterating
 pub mod Bundles
 pub mod Mirrors
+pub mod Agreeing

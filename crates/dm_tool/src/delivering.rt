@@ -148,7 +148,7 @@ fn show<'a>(
     }
     let as_bundle = words.get_flag("bundle");
     let mut text = Vec::new(rt.alloc());
-    push_repo(rt.alloc(), repo, as_bundle, &mut text)?;
+    push_repo(repo, as_bundle, &mut text)?;
     write_text(&text, &mut Listing::new(rt, as_bundle))?;
     Ok(())
 }

@@ -2,9 +2,9 @@
 ghost use Rattle.std.specs.Prelude.{◌≡◌, ◌≢◌, ◌⊎◌};
 ghost use Rattle.dm_mirror.specs.declared.plan.PlanFault.TheVariants.{NoMemory as NoPlanMemory};
 ghost use Rattle.dm_mirror.specs.declared.threads.RunFault.TheVariants.{NoMemory as NoRunMemory, NoThread as NoRunThread};
-ghost use Rattle.dm_tool.specs.declared.fault.ToolFault.TheVariants.{NoMemory, NoThread, BadPlan};
+ghost use Rattle.dm_tool.specs.declared.fault.ToolFault.TheVariants.{NoMemory, NoThread, BadPlan, Write};
 
-use dm_mirror::{PlanFault, RunFault};
+use dm_mirror::{PlanFault, RunFault, WriteFault};
 use dm_named::{FaultKind, ReadFault};
 use dm_repo::Refusal;
 use dm_scratch::Verdict;
@@ -83,6 +83,16 @@ impl From<RunFault> for ToolFault {
         match fault {
             RunFault::NoMemory => ToolFault::NoMemory,
             RunFault::NoThread => ToolFault::NoThread,
+        }
+    }
+}
+
+impl From<WriteFault> for ToolFault {
+    ghost from_gives = { λ _ e. e ≡ Write };
+
+    fn from(fault: WriteFault) -> ToolFault {
+        match fault {
+            WriteFault::Device => ToolFault::Write,
         }
     }
 }

@@ -9,7 +9,7 @@
 //! `dm obliterate` takes patches out of it, and `dm rollback` prints the bundle of a patch that undoes others.
 //!
 //! The crate stands on `dm_scratch` for taking a text into a repository, on `dm_mirror` for posters and
-//! mirrors, on `dm_send` for what somebody lacks, on `dm_deliver`, `dm_store` and `dm_disk` for a mirror on a
+//! mirrors, on `dm_agree` for whether mirrors had to have one tree, on `dm_send` for what somebody lacks, on `dm_deliver`, `dm_store` and `dm_disk` for a mirror on a
 //! file, on `dm_log` and `dm_checkout` for what is shown of it, on `dm_bundle` and `dm_named` for the text of
 //! bundles, and on `clap`, `indexmap` and `memchr` for the words of the command line. Its theorems are the contracts of
 //! [`check::check_over`], [`apply::apply_over`], [`running::run_over`] and [`send::send_over`]: over a reader
@@ -18,6 +18,7 @@
 //! lost, doubled or reordered, or of the bundle for somebody who holds other patches.
 #![tactic(auto)]
 
+mod agreeing;
 mod apply;
 mod base;
 mod beginning;

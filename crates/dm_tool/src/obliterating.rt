@@ -1,5 +1,5 @@
 //! `dm obliterate`: patches are taken out of a mirror, and kept as a bundle.
-ghost use Rattle.std.specs.Prelude.{◌≡◌, ◌⊎◌, Err, IfOk, IsTrue, OnOk};
+ghost use Rattle.std.specs.Prelude.{◌≡◌, ◌≢◌, ◌⊎◌, [], Err, IfOk, IsTrue, OnOk};
 ghost use Rattle.dm_disk.specs.States.{seen, may_leave, file_may_leave};
 ghost use Rattle.dm_journal.specs.declared.fault.WriteError.{WriteError};
 ghost use Rattle.dm_journal.specs.Device.{IsDurable, LeavesOnly};
@@ -7,7 +7,7 @@ ghost use Rattle.dm_send.specs.Obliterating.{Obliterates};
 ghost use Rattle.dm_named.specs.Laws.{with_kinds};
 ghost use Rattle.dm_named.specs.Limits.{standard};
 ghost use Rattle.dm_scratch.specs.Taking.{ReadsWithin};
-ghost use Rattle.dm_store.specs.Keeping.{IsStored};
+ghost use Rattle.dm_store.specs.Keeping.{FitsOneEntry, IsStored};
 ghost use Rattle.dm_store.specs.Kinds.{kinds_in};
 ghost use Rattle.dm_store.specs.LettingGo.{LosesNothing};
 ghost use Rattle.dm_tool.specs.Obliterating.{TakesOut};
@@ -55,6 +55,7 @@ fn keep_and_let_go<D: Device, F: Device>(
     requires takes_out { TakesOut (kinds_in store.old) store.old.repo.patches out text.now }
 
     ensures done { IfOk result (λ done. IsTrue done → store.new.repo ≡ out.repo) }
+    ensures too_large { IfOk result (λ done. ¬ IsTrue done → (out.repo.patches ≢ []) × (FitsOneEntry out.repo.patches → ⊥)) }
     ensures unless_done { IfOk result (λ done. ¬ IsTrue done → store.new ≡ store.old) }
     ensures unless_kept { (fault : WriteError) → result ≡ Err (unkept.Bundle fault) → store.new ≡ store.old }
     ensures stored { OnOk result (IsStored D.seen D.may_leave D.file_may_leave store.new) }

@@ -1,4 +1,9 @@
 //! The words of `dm run`, and what they start.
+ghost use Rattle.std.specs.Prelude.{IfOk};
+ghost use Rattle.dm_tool.specs.Agreeing.{IsRanAs};
+ghost use Rattle.dm_tool.specs.Running.{texts_in};
+
+use crate::agreeing::explain_agreement;
 use crate::base::Base;
 use crate::colour::Colour;
 use crate::explaining::{explain_base, explain_run};
@@ -23,6 +28,19 @@ use std::thread::Threads;
 
 /// The most bases that are handed in, one more than any plan takes.
 const MOST_BASES: u32 = 9;
+
+/// The mirrors of a run, as the words ask for them.
+#[derive(Clone, Copy, Debug)]
+pub struct Mirrors<'a> {
+    /// What each begins with.
+    pub base: Base<'a>,
+    /// What each does with patches that conflict.
+    pub policy: Policy,
+    /// How many there are.
+    pub count: u32,
+    /// How many mails may wait at each.
+    pub bound: u32,
+}
 
 /// Posters in the order in which they were first named, each with its texts.
 type Posters<'a> = IndexMap<&'a str, Vec<Vec<u8>>>;
@@ -107,52 +125,46 @@ pub fn policy_of(words: &ArgMatches<'_>) -> Policy {
     Policy::Refuse
 }
 
-/// The same policy for each of these mirrors.
-fn policies_of(alloc: Global, policy: Policy, mirrors: usize) -> Result<Vec<Policy>, AllocError> {
-    let mut policies = Vec::with_capacity(alloc, mirrors)?;
-    for _ in 0..mirrors {
-        policies.push(policy)?;
-    }
-    Ok(policies)
-}
-
-/// The same base for each mirror.
-fn bases_of<'t>(alloc: Global, base: &'t [u8], mirrors: u32) -> Result<Vec<&'t [u8]>, AllocError> {
-    let mut bases = Vec::new(alloc);
-    for _ in 0..mirrors.min(MOST_BASES) {
-        bases.push(base)?;
-    }
-    Ok(bases)
-}
-
-/// Runs the plan of these posters, each with its texts, and of so many mirrors of this base and policy.
-fn run_texts<'a, R: Runtime + AllocGlobal + Threads + Wait + Sync>(
+/// Runs the plan of these posters and of the mirrors that the words ask for, but at most one more than any plan takes.
+fn run_named<R: Runtime + AllocGlobal + Threads + Wait + Sync>(
     rt: &R,
-    posters: &Posters<'a>,
-    base: Base<'_>,
-    policy: Policy,
-    mirrors: u32,
-    bound: u32,
-) -> Result<Ran, ToolFault> {
+    posters: &[(&str, &[&[u8]])],
+    mirrors: Mirrors<'_>,
+) -> Result<Ran, ToolFault>
+    ensures { IfOk result (IsRanAs (texts_in posters.now) mirrors.entry) }
+{
     let alloc = rt.alloc();
-    let lists = lists_of(alloc, posters)?;
-    let named = named_lists(alloc, &lists)?;
-    let texts = bases_of(alloc, base.text, mirrors)?;
-    let policies = policies_of(alloc, policy, texts.len())?;
+    let base = mirrors.base;
+    let count = mirrors.count.min(MOST_BASES) as usize;
+    let texts = vec![in alloc; base.text; count]?;
+    let policies = vec![in alloc; mirrors.policy; count]?;
     let bases = Bases {
         texts: &texts,
         limits: base.limits,
     };
+    let bound = mirrors.bound as usize;
     let mut writer = io::writer(rt);
-    run_over(
-        rt,
-        alloc,
-        &named,
-        bases,
-        &policies,
-        bound as usize,
-        &mut writer,
-    )
+    run_over(rt, alloc, posters, bases, &policies, bound, &mut writer)
+}
+
+/// Runs the plan of these posters, each with its texts, and of these mirrors, and explains what it left where that is asked
+/// for. Returns the exit status.
+fn run_texts<'a, R: Runtime + AllocGlobal + Threads + Wait + Sync>(
+    rt: &R,
+    posters: &Posters<'a>,
+    mirrors: Mirrors<'_>,
+    explained: Option<Colour>,
+) -> Result<u8, ToolFault> {
+    let alloc = rt.alloc();
+    let lists = lists_of(alloc, posters)?;
+    let named = named_lists(alloc, &lists)?;
+    let ran = run_named(rt, &named, mirrors)?;
+    if let Some(colour) = explained {
+        let base = mirrors.base;
+        explain_run(rt, colour, &ran.outcome, taken(base), mirrors.policy);
+        explain_agreement(rt, colour, &named, base, &ran);
+    }
+    Ok(ran.status)
 }
 
 /// The base that a file is, or an empty text.
@@ -184,11 +196,11 @@ fn most_bundles(posters: &Posters<'_>) -> usize {
 }
 
 /// How many there are of what a plan has too many or too few of.
-fn count_of(fault: PlanFault, posters: &Posters<'_>, mirrors: u32, bound: u32) -> usize {
+fn count_of(fault: PlanFault, posters: &Posters<'_>, mirrors: Mirrors<'_>) -> usize {
     match fault {
         PlanFault::Posters => posters.len(),
-        PlanFault::Mirrors => mirrors as usize,
-        PlanFault::Bound => bound as usize,
+        PlanFault::Mirrors => mirrors.count as usize,
+        PlanFault::Bound => mirrors.bound as usize,
         _ => most_bundles(posters),
     }
 }
@@ -221,25 +233,27 @@ pub fn run_plan<'a, R: Runtime + AllocGlobal + Threads + Wait + Sync>(
     let files = split_words(rt.alloc(), words.get_strs("posters").unwrap_or(&[]))?;
     let file = read_base(host, words)?;
     let posters = read_posters(host, &files)?;
-    let mirrors = words.get_one::<u32>("mirrors").unwrap_or(0);
-    let bound = words.get_one::<u32>("bound").unwrap_or(0);
-    let policy = policy_of(words);
-    let base = base_or_empty(&file);
-    match (run_texts(rt, &posters, base, policy, mirrors, bound), &file) {
-        (Ok(ran), _) => {
-            if words.get_flag("explain") {
-                explain_run(rt, colour, &ran.outcome, taken(base), policy);
-            }
-            Ok(ran.status)
-        }
+    let mirrors = Mirrors {
+        base: base_or_empty(&file),
+        policy: policy_of(words),
+        count: words.get_one::<u32>("mirrors").unwrap_or(0),
+        bound: words.get_one::<u32>("bound").unwrap_or(0),
+    };
+    let explained = if words.get_flag("explain") {
+        Some(colour)
+    } else {
+        None
+    };
+    match (run_texts(rt, &posters, mirrors, explained), &file) {
+        (Ok(status), _) => Ok(status),
         (Err(ToolFault::BadPlan(PlanFault::BadBase(_, verdict))), Some(file)) => {
             let reading = Reading::of_run();
             Ok(refuse_base(host, colour, reading, words, file, verdict))
         }
-        (Err(ToolFault::BadPlan(fault)), _) => Err(WordFault::BadPlan(
-            fault,
-            count_of(fault, &posters, mirrors, bound),
-        )),
+        (Err(ToolFault::BadPlan(fault)), _) => {
+            let count = count_of(fault, &posters, mirrors);
+            Err(WordFault::BadPlan(fault, count))
+        }
         (Err(fault), _) => Err(WordFault::Tool(fault)),
     }
 }

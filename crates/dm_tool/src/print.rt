@@ -2,23 +2,17 @@
 ghost use Rattle.std.specs.Prelude.{◌≡◌, ◌++◌, List, ℕ, IfOk, OnOk};
 ghost use Rattle.dm_tool.specs.Applying.{Prints, Shows};
 
-use dm_bundle::write_bundle;
+use dm_bundle::push_bundle;
 use dm_repo::Repo;
 use dm_scratch::{Verdict, push_listing, push_verdict};
 use std::alloc::{AllocError, Global};
 
 /// Appends what is shown of a repository: its canonical bundle with an empty context, or the listing of its tree.
-pub fn push_repo(
-    alloc: Global,
-    repo: &Repo<Global>,
-    as_bundle: bool,
-    out: &mut Vec<u8>,
-) -> Result<(), AllocError>
+pub fn push_repo(repo: &Repo<Global>, as_bundle: bool, out: &mut Vec<u8>) -> Result<(), AllocError>
     ensures { OnOk result ((shown : List ℕ) × Shows as_bundle repo.now.patches shown × (out.new.items ≡ out.old.items ++ shown)) }
 {
     if as_bundle {
-        let bundle = write_bundle(alloc, &repo.to_bundle(alloc)?)?;
-        out.extend_from_slice(&bundle)?;
+        push_bundle(repo.patches(), &[], out)?;
         return Ok(());
     }
     push_listing(repo.tree(), out)?;
@@ -36,6 +30,6 @@ pub fn answer_text(
 {
     let mut text = Vec::new(alloc);
     push_verdict(verdict, &mut text)?;
-    push_repo(alloc, repo, as_bundle, &mut text)?;
+    push_repo(repo, as_bundle, &mut text)?;
     Ok(text)
 }

@@ -16,17 +16,22 @@ pub struct Reading {
 impl Reading {
     /// How the words of a command without a mirror say it, or those that make one.
     pub fn of_words(words: &ArgMatches<'_>) -> Reading {
-        Reading {
-            kinds: kinds_of(words),
-            remedy: Remedy::Word,
-        }
+        Reading::of_kinds(kinds_of(words), Remedy::Word)
     }
 
     /// How a mirror of these kinds does it.
     pub fn of_mirror(kinds: Kinds) -> Reading {
-        Reading {
-            kinds,
-            remedy: Remedy::Mirror,
+        Reading::of_kinds(kinds, Remedy::Mirror)
+    }
+
+    /// Where these kinds are read, and this helps if they are six.
+    fn of_kinds(kinds: Kinds, remedy: Remedy) -> Reading {
+        match kinds {
+            Kinds::Six => Reading { kinds, remedy },
+            Kinds::All => Reading {
+                kinds,
+                remedy: Remedy::Known,
+            },
         }
     }
 

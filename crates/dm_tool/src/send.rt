@@ -1,8 +1,6 @@
 //! The command `dm send`.
-ghost use Rattle.std.specs.Prelude.{◌≡◌, ◌≢◌, ◌≤◌, ◌⊎◌, length, IfOk, IfErr, MatchBool};
+ghost use Rattle.std.specs.Prelude.{◌≡◌, ◌≢◌, ◌⊎◌, IfOk, IfErr};
 ghost use Rattle.std.specs.Io.KnownBytes.{Keeps};
-ghost use Rattle.std.specs.List.{AllByRecursion};
-ghost use Rattle.dm_bundle.specs.Patches.{AreFew};
 ghost use Rattle.dm_named.specs.Laws.{with_kinds};
 ghost use Rattle.dm_named.specs.Limits.{standard};
 ghost use Rattle.dm_scratch.specs.declared.verdict.Verdict.TheVariants.{Refused};
@@ -18,10 +16,10 @@ use crate::base::Base;
 use crate::fault::ToolFault;
 use crate::status::status_of;
 use crate::streams::write_text;
-use dm_bundle::Bundle;
+use dm_bundle::{Bundle, are_within};
 use dm_hash::write_hashed;
 use dm_info::Info;
-use dm_named::{Kinds, Limits, Named};
+use dm_named::{Kinds, Limits};
 use dm_repo::{Refusal, Repo};
 use dm_scratch::{Verdict, push_verdict};
 use dm_send::{read_names, send, send_minimal};
@@ -82,30 +80,6 @@ fn bundle_for(
     send(alloc, repo, names, most)
 }
 
-/// Whether each of these patches has few enough primitives to be read.
-fn are_short(patches: &[Named<Global>]) -> bool
-    ensures { MatchBool result
-        (AllByRecursion (λ p. length p.prims ≤ standard.prims) patches.now)
-        (AllByRecursion (λ p. length p.prims ≤ standard.prims) patches.now → ⊥) }
-{
-    for patch in patches {
-        if patch.prims().len() > Limits::STANDARD.prims {
-            return false;
-        }
-    }
-    true
-}
-
-/// Whether these are new patches that are read.
-fn are_few(patches: &[Named<Global>]) -> bool
-    ensures { MatchBool result (AreFew patches.now) (AreFew patches.now → ⊥) }
-{
-    if patches.len() > Limits::STANDARD.patches {
-        return false;
-    }
-    are_short(patches)
-}
-
 /// The text of a bundle of primitives of these kinds with the hash of its patches, where both are within the limits of what is
 /// read.
 pub fn text_of(alloc: Global, kinds: Kinds, bundle: &Bundle<Global>) -> Result<Vec<u8>, ToolFault>
@@ -113,7 +87,7 @@ pub fn text_of(alloc: Global, kinds: Kinds, bundle: &Bundle<Global>) -> Result<V
     ensures reads { IfOk result (λ text. ReadsWithin (with_kinds standard kinds) text.items bundle.now) }
     ensures err { IfErr result (λ e. (e ≡ ToolFault.NoMemory) ⊎ ((e ≡ ToolFault.TooManyToSend) × (IsWithinLimits kinds bundle.now → ⊥))) }
 {
-    if !are_few(bundle.new_patches()) {
+    if !are_within(Limits::STANDARD, bundle.new_patches()) {
         return Err(ToolFault::TooManyToSend);
     }
     if !are_of(kinds, bundle.new_patches()) {

@@ -4,6 +4,7 @@ ghost use Rattle.std.specs.Io.KnownBytes.{Appends};
 ghost use Rattle.dm_tool.specs.Streams.{Gives, GivesWithin};
 
 use crate::fault::ToolFault;
+use dm_mirror::write_report;
 use dm_named::Limits;
 use std::alloc::Global;
 use std::io::{Read, Write};
@@ -53,16 +54,6 @@ pub fn write_text<W: Write>(text: &[u8], writer: &mut W) -> Result<(), ToolFault
     ensures prefix { OnErr result ((count : ℕ) × Appends (W.contents writer.old) (W.contents writer.new) (take count text.now)) }
     ensures fault { IfErr result (λ e. e ≡ ToolFault.Write) }
 {
-    let mut written = 0;
-    while written < text.len() {
-        match writer.write(&text[written..]) {
-            Ok(0) => return Err(ToolFault::Write),
-            Ok(count) => written += count,
-            Err(_) => return Err(ToolFault::Write),
-        }
-    }
-    match writer.flush() {
-        Ok(()) => Ok(()),
-        Err(_) => Err(ToolFault::Write),
-    }
+    write_report(text, writer)?;
+    Ok(())
 }

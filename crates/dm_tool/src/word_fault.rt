@@ -43,7 +43,7 @@ pub enum WordFault<'a> {
     /// The file of this name keeps no mirror.
     #[error("cannot open {0}: {1}")]
     BadMirror(&'a str, StoreError),
-    /// The file of this name keeps a mirror, and the closed gate at this place hides bundles behind it.
+    /// The file of this name keeps a mirror, and the closed latch at this place hides bundles behind it.
     #[error("cannot open {0}: byte {1} was changed to 0, and hides bundles: write 255 there, or restore the file")]
     Hidden(&'a str, usize),
     /// A mirror of this name was to be made, and there is one.

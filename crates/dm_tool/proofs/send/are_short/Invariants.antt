@@ -1,7 +1,0 @@
-use Rattle.std.proofs.Common.{◌≤◌, length, take}
-use Rattle.std.specs.List.{AllByRecursion}
-use Rattle.dm_named.specs.Limits.{standard}
-use Rattle.dm_tool.proofs.send.are_short.Given as goal
-
-abbrev pub invariant-loop-patch : goal.invariant-loop-patch
-invariant-loop-patch l = AllByRecursion (λ p. length p.prims ≤ standard.prims) (take l.patch-index l.patches)
