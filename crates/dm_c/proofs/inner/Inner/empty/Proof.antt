@@ -1,0 +1,34 @@
+-- `empty` makes a null pointer. Assumes `Logic`.
+use Rattle.std.proofs.Common.{◌≡◌, [], ◌∷◌, refl, lit<, None}
+use Rattle.std.proofs.raw_atomic.Walks.{proved, leaves}
+use contract.Monad.{fact, fact_i}
+use base.Logic.{emp}
+use types.Kit.{raw, ◌$◌, ◌∵◌, !, qed, by, drop, use0}
+use types.Run.{enter, lit, no_more, and_then, returns}
+use types.ByLocal.{alloc_all, pass_all, free_all, look_at, sets}
+use types.Part.{agg}
+use denote.RawPtr.{null_ptr}
+use denote.Steps.{nothing}
+use denote.Triple.Entry.{on_entry}
+use denote.Triple.Walked.{Stays, walk_of}
+use Rattle.dm_c.proofs.InnerValues.{word, inner_in}
+use Rattle.dm_c.specs.contracts.inner.Inner.empty as f
+use Rattle.dm_c.proofs.inner.Inner.empty.Statement.{statement}
+use Rattle.dm_c.proofs.inner.Inner.empty.Code as code
+
+abbrev stayed : Stays f.ended.signature.params f.ended.kept
+stayed = tt
+
+pub empty_spec : {M : Type 1} → statement M
+empty_spec 𝓤 𝓛 𝓜 𝓡 wired =
+    let c = f.clauses 𝓛 𝓜.mem 𝓡.returns in let W = walk_of 𝓛 f.ended stayed c in
+    proved 𝓛 f.ended stayed c 𝓜 𝓡 tt f.Key.name code.function (code.unfolded 𝓤 𝓛.H 𝓜 𝓡 wired)
+    (λ κs. tt) (λ κs. tt) (λ κs qs bounds a g are.
+    let y : W.Ghost = ((κs, qs, bounds, a, tt), g) in
+    qed 𝓛 (raw (on_entry 𝓛 f.signature κs qs a tt) ∷ raw ((c κs a).requires g) ∷ []) ∵ drop ! $ drop ! $
+    enter ! _ _ _ _ _ $ alloc_all ! (λ l. pass_all ! refl tt $
+    sets ! (agg ! (and_then ! (lit ! tt) (no_more !))) refl (tt, (record { fits = lit< tt }, tt)) $
+    returns ! (look_at ! 0 refl) $ free_all ! refl $
+    use0 𝓛 (raw (fact 𝓤 (None ≡ None))) (fact_i 𝓤 (None ≡ None) (emp 𝓤) refl) $
+    nothing ! $ inner_in ! null_ptr None $ nothing ! $ nothing ! $
+    by ! (leaves 𝓛 f.ended stayed c y (word null_ptr) (record { at = null_ptr; kept = None }) tt tt)))

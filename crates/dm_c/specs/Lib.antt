@@ -1,0 +1,11 @@
+pub mod Pointers
+pub mod Handles
+pub mod Numbers
+pub mod Seeming
+pub mod Buffers
+pub mod Calls
+pub mod Checking
+pub mod Showing
+pub mod Files
+pub mod Sending
+pub mod Explaining
