@@ -4,25 +4,25 @@ use Rattle.std.specs.List.{All, EachIndex, concat}
 use Rattle.std.proofs.Math.Seq.{take-add, take-append_seam, drop-append_seam}
 use Rattle.std.proofs.lemmas.List.{take_min, drop_min, ext_get_or}
 use Rattle.dm_tree.specs.Trees.{Lines}
-use Rattle.dm_tree.specs.Texts.{HoldsFrom, ends_from, cut, begin_of}
+use Rattle.dm_tree.specs.Texts.{LaidOutFrom, ends_from, cut, begin_of}
 use Rattle.dm_tree.proofs.Texts.{cut-ends, concat-append, length-ends_from, get_or-ends_from, take-begin_of, drop-begin_of, begin_of-le, begin_of-mono}
 use Rattle.dm_tree.proofs.Splices.{take-ends_from, drop-ends_from, ends_from-move, ends_from-within}
 
 module _ (n : ℕ) (run ends : List ℕ) (ls : Lines) where
   -- they are seen as the lines that they hold
-  pub view_from : HoldsFrom n run ends ls → cut n ends run ≡ ls
+  pub view_from : LaidOutFrom n run ends ls → cut n ends run ≡ ls
   view_from h = ap₂ (λ e r. cut n e r) h.placed h.whole ∙ cut-ends n ls
 
-  pub valid_from : HoldsFrom n run ends ls → HoldsFrom n run ends (cut n ends run)
-  valid_from h = subst (λ (x : Lines). HoldsFrom n run ends x) (sym (view_from h)) h
+  pub valid_from : LaidOutFrom n run ends ls → LaidOutFrom n run ends (cut n ends run)
+  valid_from h = subst (λ (x : Lines). LaidOutFrom n run ends x) (sym (view_from h)) h
 
-  pub held_from : HoldsFrom n run ends (cut n ends run) → cut n ends run ≡ ls → HoldsFrom n run ends ls
-  held_from h e = subst (λ (x : Lines). HoldsFrom n run ends x) e h
+  pub held_from : LaidOutFrom n run ends (cut n ends run) → cut n ends run ≡ ls → LaidOutFrom n run ends ls
+  held_from h e = subst (λ (x : Lines). LaidOutFrom n run ends x) e h
 
-  pub length-held_from : HoldsFrom n run ends ls → length ends ≡ length ls
+  pub length-held_from : LaidOutFrom n run ends ls → length ends ≡ length ls
   length-held_from h = ap length h.placed ∙ length-ends_from n ls
 
-  pub held_behind : HoldsFrom n run ends ls → EachIndex ends (λ k. n ≤ get_or ends k 0)
+  pub held_behind : LaidOutFrom n run ends ls → EachIndex ends (λ k. n ≤ get_or ends k 0)
   held_behind h = subst (λ (z : List ℕ). EachIndex z (λ k. n ≤ get_or z k 0)) (sym h.placed) (λ k lt. (ends_from-within n ls k 0 lt).0)
 
 -- where a line begins, counted from another
@@ -42,10 +42,10 @@ clamped ls start end i j order a b =
     ∙ ap (λ k. take k (drop start ls)) (omega (arith, a, b, length-drop start ls))
     ∙ take_min (end - start) (drop start ls)
 
-module _ (n : ℕ) (run ends : List ℕ) (ls : Lines) (h : HoldsFrom n run ends ls) where
+module _ (n : ℕ) (run ends : List ℕ) (ls : Lines) (h : LaidOutFrom n run ends ls) where
   -- the lines from i to before j
   pub holds_within : (i j from to : ℕ) → i ≤ j → j ≤ length ls → from ≡ n + begin_of ls i → to ≡ n + begin_of ls j
-      → HoldsFrom from (take (to - n - (from - n)) (drop (from - n) run)) (take (j - i) (drop i ends)) (take (j - i) (drop i ls))
+      → LaidOutFrom from (take (to - n - (from - n)) (drop (from - n) run)) (take (j - i) (drop i ends)) (take (j - i) (drop i ls))
   holds_within i j from to order le a b = record { whole = whole; placed = placed }
     where
       size : to - n - (from - n) ≡ begin_of (drop i ls) (j - i)
@@ -69,7 +69,7 @@ module _ (n : ℕ) (run ends : List ℕ) (ls : Lines) (h : HoldsFrom n run ends 
       (omega (arith, a), omega (arith, a, b, begin_of-mono ls i j order), omega (arith, b, begin_of-le ls j, ap length h.whole))
 
 -- the same ends, each counted from its own place, and the same bytes, are the same lines
-pub same_lines : (n m : ℕ) (run ends run' ends' : List ℕ) (ls os : Lines) → HoldsFrom n run ends ls → HoldsFrom m run' ends' os → length ends ≡ length ends' → run ≡ run' → EachIndex ends (λ k. get_or ends k 0 - n ≡ get_or ends' k 0 - m) → ls ≡ os
+pub same_lines : (n m : ℕ) (run ends run' ends' : List ℕ) (ls os : Lines) → LaidOutFrom n run ends ls → LaidOutFrom m run' ends' os → length ends ≡ length ends' → run ≡ run' → EachIndex ends (λ k. get_or ends k 0 - n ≡ get_or ends' k 0 - m) → ls ≡ os
 same_lines n m run ends run' ends' ls os h f size bytes each =
     sym (cut-ends 0 ls) ∙ ap₂ (λ e r. cut 0 e r) places (sym h.whole ∙ bytes ∙ f.whole) ∙ cut-ends 0 os
   where
@@ -85,7 +85,7 @@ same_lines n m run ends run' ends' ls os h f size bytes each =
         (λ k lt. let less : k < length ls = omega (arith, lt, length-ends_from 0 ls) in
         one n ls k less ∙ ap (λ z. get_or z k 0 - n) (sym h.placed) ∙ each k (omega (arith, less, length-held_from n run ends ls h)) ∙ ap (λ z. get_or z k 0 - m) f.placed ∙ sym (one m os k (omega (arith, less, sizes))))
 
-pub same_ends : (n m : ℕ) (run ends run' ends' : List ℕ) (ls os : Lines) → HoldsFrom n run ends ls → HoldsFrom m run' ends' os → ls ≡ os → EachIndex ends (λ k. get_or ends k 0 - n ≡ get_or ends' k 0 - m)
+pub same_ends : (n m : ℕ) (run ends run' ends' : List ℕ) (ls os : Lines) → LaidOutFrom n run ends ls → LaidOutFrom m run' ends' os → ls ≡ os → EachIndex ends (λ k. get_or ends k 0 - n ≡ get_or ends' k 0 - m)
 same_ends n m run ends run' ends' ls os h f same k lt =
     let less : k < length ls = omega (arith, lt, length-held_from n run ends ls h) in
     let here : get_or ends k 0 ≡ n + begin_of ls (suc k) = ap (λ z. get_or z k 0) h.placed ∙ get_or-ends_from n ls k 0 less in
@@ -93,7 +93,7 @@ same_ends n m run ends run' ends' ls os h f same k lt =
     omega (arith, here, there, ap (λ z. begin_of z (suc k)) same)
 
 -- the ends once they are moved to count from elsewhere
-module _ (n m : ℕ) (run ends old : List ℕ) (ls : Lines) (h : HoldsFrom n run ends ls) (start : ℕ) (at : start ≡ length old) where
+module _ (n m : ℕ) (run ends old : List ℕ) (ls : Lines) (h : LaidOutFrom n run ends ls) (start : ℕ) (at : start ≡ length old) where
   pub copied_fit : m + length (concat ls) < 2 ^ 64 → All (λ e. (n ≤ e) × (e - n + m < 2 ^ 64)) (drop start (old ++ ends))
   copied_fit fits =
       subst (λ (z : List ℕ). All (λ e. (n ≤ e) × (e - n + m < 2 ^ 64)) z) (sym (behind ∙ h.placed))

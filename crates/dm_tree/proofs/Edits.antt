@@ -6,7 +6,7 @@ use Rattle.std.proofs.lemmas.List.{length-take-le, take_at}
 use Rattle.std.proofs.lemmas.List.Prefix.{front_rest}
 use Rattle.dm_tree.specs.Paths.{Name, Path}
 use Rattle.dm_tree.specs.declared.fault.TreeFault.{TreeFault}
-use Rattle.dm_tree.specs.declared.fault.TreeFault.TheVariants.{NoParent, Occupied, Missing, NotFile, NotDir, NotEmpty, IntoItself, LineRange, OldDiffers, NoLines, TooDeep, NoMemory}
+use Rattle.dm_tree.specs.declared.fault.TreeFault.TheVariants.{NoParent, Occupied, Missing, NotFile, NotDir, NotEmpty, IntoItself, LineRange, OldDiffers, NoLines, TokenThere, TooLarge, TooDeep, NoMemory}
 use Rattle.dm_tree.specs.Trees.{Lines, Dir, File, Map, path_cmp}
 use Rattle.dm_tree.specs.Changes.{ReplacesLines, EditAnswers}
 use Rattle.dm_tree.specs.Children.{Child, IsRising, IsAt, IsTree, look}
@@ -148,6 +148,8 @@ module _ (m : Map) (p : Path) (n : ℕ) (old new ls : Lines) (file : m p ≡ Som
   edit_refused NotDir h = absurd h
   edit_refused NotEmpty h = absurd h
   edit_refused IntoItself h = absurd h
+  edit_refused TokenThere h = absurd h
+  edit_refused TooLarge h = absurd h
   edit_refused TooDeep h = absurd h
   edit_refused NoMemory h = absurd h
 

@@ -7,7 +7,9 @@ use Rattle.std.proofs.lemmas.Bool.{eqb-true}
 use Rattle.dm_tree.specs.Listings.{file_size}
 use Rattle.std.proofs.Math.Seq.{take-add, take-append-add, drop-append-add}
 use Rattle.std.proofs.lemmas.List.Sums.{sum_by-append}
+use Rattle.std.proofs.lemmas.List.Elements.{All-append, All-take, All-drop}
 use Rattle.dm_tree.specs.Trees.{Lines}
+use Rattle.dm_tree.specs.Validity.{IsPlain, ArePlain}
 use Rattle.dm_tree.specs.Files.{joined, lines_of, Locates, HasLine}
 
 pub lines_of-joined : (ps : List Lines) → 0 < length ps → lines_of ps ≡ joined ps
@@ -120,6 +122,10 @@ cut_less n at m lt step = omega arith
 pub size_spliced : (ls fs new : Lines) (i j n m count : ℕ) → i ≤ j → j ≤ length ls → n ≡ length ls → new ≡ splice ls i j fs → m ≡ length fs → count ≡ n - (j - i) + m → count ≡ length new
 size_spliced ls fs new i j n m count order within size e more is =
     omega (arith, ap length e, length-append (take i ls) (fs ++ drop j ls), length-append fs (drop j ls), length-take i ls, length-drop j ls)
+
+-- the lines of such a file are plain
+pub plain_spliced : (ls fs : Lines) (i j : ℕ) → ArePlain ls → ArePlain fs → ArePlain (splice ls i j fs)
+plain_spliced ls fs i j h k = All-append IsPlain (take i ls) (fs ++ drop j ls) (All-take IsPlain i ls h) (All-append IsPlain fs (drop j ls) k (All-drop IsPlain j ls h))
 
 pub range_within : (ls : Lines) (i j n : ℕ) → n ≡ length ls → j ≤ length ls → j - i ≤ n
 range_within ls i j n size within = omega arith

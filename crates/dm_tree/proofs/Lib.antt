@@ -4,6 +4,7 @@ pub mod Borrowed
 pub mod Chained
 pub mod Children
 pub mod Copies
+pub mod Cursors
 pub mod Edits
 pub mod Fronts
 pub mod Listings

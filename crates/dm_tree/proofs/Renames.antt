@@ -6,7 +6,7 @@ use Rattle.std.specs.FinMap.{find}
 use Rattle.std.proofs.lemmas.List.{drop_all, drop_more}
 use Rattle.std.proofs.lemmas.Bool.Decides.{nat_tests}
 use Rattle.dm_tree.specs.declared.fault.TreeFault.{TreeFault}
-use Rattle.dm_tree.specs.declared.fault.TreeFault.TheVariants.{NoParent, Occupied, Missing, NotFile, NotDir, NotEmpty, IntoItself, LineRange, OldDiffers, NoLines, TooDeep, NoMemory}
+use Rattle.dm_tree.specs.declared.fault.TreeFault.TheVariants.{NoParent, Occupied, Missing, NotFile, NotDir, NotEmpty, IntoItself, LineRange, OldDiffers, NoLines, TokenThere, TooLarge, TooDeep, NoMemory}
 use Rattle.dm_tree.specs.declared.node.Body.{Body}
 use Rattle.dm_tree.specs.Paths.{Name, Path, Under}
 use Rattle.dm_tree.specs.Trees.{Entry, Dir, Map, HasParent, path_cmp}
@@ -112,6 +112,8 @@ module _ (m : Map) (a b : Path) where
   refused_by there off LineRange h = absurd h
   refused_by there off OldDiffers h = absurd h
   refused_by there off NoLines h = absurd h
+  refused_by there off TokenThere h = absurd h
+  refused_by there off TooLarge h = absurd h
   refused_by there off TooDeep h = absurd h
   refused_by there off NoMemory h = absurd h
 
@@ -126,6 +128,8 @@ adds_refused m p IntoItself h = absurd h
 adds_refused m p LineRange h = absurd h
 adds_refused m p OldDiffers h = absurd h
 adds_refused m p NoLines h = absurd h
+adds_refused m p TokenThere h = absurd h
+adds_refused m p TooLarge h = absurd h
 adds_refused m p TooDeep h = absurd h
 adds_refused m p NoMemory h = absurd h
 

@@ -2,7 +2,7 @@
 use Rattle.std.proofs.Common.{◌≡◌, ℕ, ◌+◌, ◌-◌, ◌^◌, ◌<◌, ◌≤◌, List, [], ◌∷◌, ◌++◌, length, take, drop, get_or, map, zero, suc, refl, sym, ap, ap₂, subst, ◌∙◌, arith, length-append, add-zero}
 use Rattle.std.specs.List.{All, concat, splice}
 use Rattle.dm_tree.specs.Trees.{Lines}
-use Rattle.dm_tree.specs.Texts.{Holds, ends_from, begin_of}
+use Rattle.dm_tree.specs.Texts.{LaidOut, ends_from, begin_of}
 use Rattle.dm_tree.proofs.Texts.{concat-append, ends_from-append, length-ends_from, get_or-ends_from, begin_of-le, take-begin_of, drop-begin_of}
 
 pub take-ends_from : (n i : ℕ) (ls : Lines) → take i (ends_from n ls) ≡ ends_from n (take i ls)
@@ -31,7 +31,7 @@ ends_from-within n ls k d lt =
     let is = get_or-ends_from n ls k d (omega (arith, lt, length-ends_from n ls)) in
     (omega (arith, is), omega (arith, is, begin_of-le ls (suc k)))
 
-module _ (run ends frun fends : List ℕ) (ls fs : Lines) (h : Holds run ends ls) (f : Holds frun fends fs) (i j from to added : ℕ) (at : from ≡ begin_of ls i) (until : to ≡ begin_of ls j) (size : added ≡ length frun) where
+module _ (run ends frun fends : List ℕ) (ls fs : Lines) (h : LaidOut run ends ls) (f : LaidOut frun fends fs) (i j from to added : ℕ) (at : from ≡ begin_of ls i) (until : to ≡ begin_of ls j) (size : added ≡ length frun) where
   module _ (run' : List ℕ) (e : run' ≡ splice run from to frun) where
     spliced_run : run' ≡ concat (splice ls i j fs)
     spliced_run =
@@ -55,7 +55,7 @@ module _ (run ends frun fends : List ℕ) (ls fs : Lines) (h : Holds run ends ls
         subst (λ (z : List ℕ). All (λ x. (to ≤ x) × (x - to + (from + added) < 2 ^ 64)) z) (sym (ap (drop j) h.placed ∙ drop-ends_from 0 j ls))
         (λ k d lt. let w = ends_from-within (0 + begin_of ls j) (drop j ls) k d lt in (omega (arith, w.0, until), omega (arith, w.1, until, spliced_size, fits)))
 
-    pub holds_splice : (ends' : List ℕ) → ends' ≡ take i ends ++ (map (λ x. from + x) fends ++ map (λ x. x - to + (from + added)) (drop j ends)) → Holds run' ends' (splice ls i j fs)
+    pub holds_splice : (ends' : List ℕ) → ends' ≡ take i ends ++ (map (λ x. from + x) fends ++ map (λ x. x - to + (from + added)) (drop j ends)) → LaidOut run' ends' (splice ls i j fs)
     holds_splice ends' d = record {
       whole = spliced_run;
       placed =

@@ -5,7 +5,7 @@ use Rattle.std.specs.Prelude.{sum_by}
 use Rattle.std.proofs.lemmas.List.{take_at, drop_at, drop_more, take_more}
 use Rattle.std.proofs.lemmas.List.Concat.{concat_is, length-flat_map}
 use Rattle.dm_tree.specs.Trees.{Lines}
-use Rattle.dm_tree.specs.Texts.{Holds, ends_from, cut, begin_of}
+use Rattle.dm_tree.specs.Texts.{LaidOut, ends_from, cut, begin_of}
 
 -- the lines come back
 pub cut-ends : (n : ℕ) (ls : Lines) → cut n (ends_from n ls) (concat ls) ≡ ls
@@ -16,20 +16,20 @@ cut-ends n (l ∷ ls) =
 
 module _ (run ends : List ℕ) (ls : Lines) where
   -- a text is seen as the lines that it holds, and those alone
-  pub view_of : Holds run ends ls → cut 0 ends run ≡ ls
+  pub view_of : LaidOut run ends ls → cut 0 ends run ≡ ls
   view_of h = ap₂ (λ e r. cut 0 e r) h.placed h.whole ∙ cut-ends 0 ls
 
-  pub valid_of : Holds run ends ls → Holds run ends (cut 0 ends run)
-  valid_of h = subst (λ (x : Lines). Holds run ends x) (sym (view_of h)) h
+  pub valid_of : LaidOut run ends ls → LaidOut run ends (cut 0 ends run)
+  valid_of h = subst (λ (x : Lines). LaidOut run ends x) (sym (view_of h)) h
 
-  pub held : Holds run ends (cut 0 ends run) → cut 0 ends run ≡ ls → Holds run ends ls
-  held h e = subst (λ (x : Lines). Holds run ends x) e h
+  pub held : LaidOut run ends (cut 0 ends run) → cut 0 ends run ≡ ls → LaidOut run ends ls
+  held h e = subst (λ (x : Lines). LaidOut run ends x) e h
 
 pub length-ends_from : (n : ℕ) (ls : Lines) → length (ends_from n ls) ≡ length ls
 length-ends_from n [] = refl
 length-ends_from n (l ∷ ls) = ap suc (length-ends_from (n + length l) ls)
 
-pub length-held : (run ends : List ℕ) (ls : Lines) → Holds run ends ls → length ends ≡ length ls
+pub length-held : (run ends : List ℕ) (ls : Lines) → LaidOut run ends ls → length ends ≡ length ls
 length-held run ends ls h = ap length h.placed ∙ length-ends_from 0 ls
 
 pub concat-append : (xs ys : Lines) → concat (xs ++ ys) ≡ concat xs ++ concat ys
@@ -95,7 +95,7 @@ line_at ls i d lt =
     ap (take (begin_of ls (i + 1) - begin_of ls i)) (drop-begin_of ls i ∙ ap concat (drop_more ls i d lt))
     ∙ take_at l (concat (drop (i + 1) ls)) (begin_of ls (i + 1) - begin_of ls i) size
 
-module _ (run ends : List ℕ) (ls : Lines) (h : Holds run ends ls) where
+module _ (run ends : List ℕ) (ls : Lines) (h : LaidOut run ends ls) where
   -- an end that was read
   pub end_is : (i j x : ℕ) → j ≡ i + 1 → i < length ls → x ≡ get_or ends i x → x ≡ begin_of ls j
   end_is i j x e lt read = read ∙ ap (λ z. get_or z i x) h.placed ∙ end_at ls i j x e lt
@@ -111,14 +111,14 @@ module _ (run ends : List ℕ) (ls : Lines) (h : Holds run ends ls) where
       ∙ line_at ls i [] lt
 
   -- one more line
-  pub holds_push : (run' ends' line : List ℕ) (n : ℕ) → run' ≡ run ++ line → ends' ≡ ends ++ n ∷ [] → n ≡ length run' → Holds run' ends' (ls ++ line ∷ [])
+  pub holds_push : (run' ends' line : List ℕ) (n : ℕ) → run' ≡ run ++ line → ends' ≡ ends ++ n ∷ [] → n ≡ length run' → LaidOut run' ends' (ls ++ line ∷ [])
   holds_push run' ends' line n e f size = record {
     whole = e ∙ ap₂ (λ x y. x ++ y) h.whole (sym (append-nil line)) ∙ sym (concat-append ls (line ∷ []));
     placed = f ∙ ap₂ (λ x k. x ++ k ∷ []) h.placed (omega (arith, size, ap length e, length-append run line, ap length h.whole)) ∙ sym (ends_from-append 0 ls (line ∷ []));
   }
 
   -- more lines
-  pub holds_append : (run' ends' : List ℕ) (fs : Lines) (n : ℕ) → run' ≡ run ++ concat fs → ends' ≡ ends ++ ends_from n fs → n ≡ length run → Holds run' ends' (ls ++ fs)
+  pub holds_append : (run' ends' : List ℕ) (fs : Lines) (n : ℕ) → run' ≡ run ++ concat fs → ends' ≡ ends ++ ends_from n fs → n ≡ length run → LaidOut run' ends' (ls ++ fs)
   holds_append run' ends' fs n e f size = record {
     whole = e ∙ ap (λ x. x ++ concat fs) h.whole ∙ sym (concat-append ls fs);
     placed = f ∙ ap₂ (λ x k. x ++ ends_from k fs) h.placed (omega (arith, size, ap length h.whole)) ∙ sym (ends_from-append 0 ls fs);

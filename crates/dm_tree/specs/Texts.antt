@@ -14,12 +14,12 @@ cut n [] run = []
 cut n (e ∷ es) run = take (e - n) run ∷ cut e es (drop (e - n) run)
 
 -- the run is the lines one after another, and the ends are theirs
-pub record Holds (run ends : List ℕ) (ls : Lines) : Type 0 where
+pub record LaidOut (run ends : List ℕ) (ls : Lines) : Type 0 where
   pub whole : run ≡ concat ls
   pub placed : ends ≡ ends_from 0 ls
 
 -- the run is the lines one after another, and the ends are theirs, the first of which begins at n
-pub record HoldsFrom (n : ℕ) (run ends : List ℕ) (ls : Lines) : Type 0 where
+pub record LaidOutFrom (n : ℕ) (run ends : List ℕ) (ls : Lines) : Type 0 where
   pub whole : run ≡ concat ls
   pub placed : ends ≡ ends_from n ls
 

@@ -1,6 +1,7 @@
 //! The change of a range of a file's lines.
 ghost use Rattle.std.specs.Prelude.{◌≡◌, ◌+◌, ◌-◌, ◌<◌, ◌^◌, length, IfNone, OnOk, OnErr};
 ghost use Rattle.dm_tree.specs.Children.{IsRising, look};
+ghost use Rattle.dm_tree.specs.Validity.{ArePlain};
 ghost use Rattle.dm_tree.specs.Walks.{CanSplice, RefusesEdit, SetsAt, spliced};
 
 use crate::bytes::Bytes;
@@ -51,6 +52,7 @@ pub(crate) fn edit_at<A: Allocator + Copy, B: Allocator, C: Allocator>(
     requires nonempty { 0 < length path.now }
     requires rising { IsRising children.old.items }
     requires may { CanSplice (look children.old.items path.now) start end fresh.now }
+    requires plain { ArePlain fresh.now }
     ensures rising { IsRising children.new.items }
     ensures ok { OnOk result (SetsAt (look children.old.items) (look children.new.items) path.now (spliced (look children.old.items path.now) start end fresh.now)) }
     ensures err { OnErr result (children.new.items ≡ children.old.items) }

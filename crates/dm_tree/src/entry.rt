@@ -1,8 +1,10 @@
 //! What stands at a path, borrowed.
 ghost use Rattle.std.specs.Prelude.{◌≡◌, ◌<◌, [], length, slice_index_or};
 ghost use Rattle.dm_tree.specs.Listings.{file_size};
+ghost use Rattle.dm_tree.specs.Validity.{ArePlain};
 
 use crate::file::File;
+use crate::file_lines::FileLines;
 use std::alloc::Allocator;
 use std::marker::Model;
 
@@ -39,11 +41,23 @@ impl<'t, A: Allocator> FileRef<'t, A> {
         FileRef { file }
     }
 
-    /// The count of lines, at least one.
+    /// The count of lines, at least one. No line has a newline.
     pub fn count(&self) -> usize
-        ensures { result ≡ length self.now }
+        ensures value { result ≡ length self.now }
+        ensures some { 0 < length self.now }
+        ensures plain { ArePlain self.now }
     {
         self.file.len()
+    }
+
+    /// The lines in turn, which takes less than to ask for each by its place.
+    pub fn lines(&self) -> FileLines<'t, A>
+        ensures value { result ≡ self.now }
+        ensures some { 0 < length self.now }
+        ensures plain { ArePlain self.now }
+    {
+        let _ = self.file.len();
+        self.file.lines()
     }
 
     /// The line at a place, from 0, borrowed.
@@ -59,5 +73,12 @@ impl<'t, A: Allocator> FileRef<'t, A> {
         ensures { result ≡ file_size self.now }
     {
         self.file.bytes()
+    }
+}
+
+impl<'t, A: Allocator + Copy> FileRef<'t, A> {
+    /// The allocator of the tree.
+    pub fn allocator(&self) -> A {
+        self.file.allocator()
     }
 }

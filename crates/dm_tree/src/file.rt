@@ -3,7 +3,9 @@ ghost use Rattle.std.specs.Prelude.{◌≡◌, ◌↔◌, ◌+◌, ◌-◌, ◌<
 ghost use Rattle.std.specs.List.{splice};
 ghost use Rattle.dm_tree.specs.Files.{lines_of, BeginWith};
 ghost use Rattle.dm_tree.specs.Listings.{file_size};
+ghost use Rattle.dm_tree.specs.Validity.{ArePlain};
 
+use crate::file_lines::FileLines;
 use crate::parts::{copy_parts, find, replace, seek, size, stands};
 use crate::text::Text;
 use std::alloc::{AllocError, Allocator};
@@ -20,12 +22,13 @@ pub(crate) struct File<A: Allocator> {
 impl<A: Allocator> Model for File<A> {
     ghost use Rattle.std.specs.Prelude.{◌≡◌, List, ℕ, length};
     ghost use Rattle.dm_tree.specs.Files.{lines_of};
+    ghost use Rattle.dm_tree.specs.Validity.{ArePlain};
 
     ghost Value = { List (List ℕ) };
 
     ghost view = { λ a. lines_of a.parts.items };
 
-    ghost invariant = { λ a. a.count ≡ length (lines_of a.parts.items) };
+    ghost invariant = { λ a. (a.count ≡ length (lines_of a.parts.items)) × ArePlain (lines_of a.parts.items) };
 }
 
 impl<A: Allocator + Copy> File<A> {
@@ -39,6 +42,11 @@ impl<A: Allocator + Copy> File<A> {
         }
     }
 
+    /// The allocator of its lines.
+    pub(crate) fn allocator(&self) -> A {
+        *self.parts.allocator()
+    }
+
     /// Puts copies of the fresh lines in place of those from `start` to before `end`.
     pub(crate) fn splice<B: Allocator>(
         &mut self,
@@ -48,6 +56,7 @@ impl<A: Allocator + Copy> File<A> {
     ) -> Result<(), AllocError>
         requires order { start ≤ end }
         requires within { end ≤ length self.old }
+        requires plain { ArePlain fresh.now }
         ensures ok { OnOk result (self.new ≡ splice self.old start end fresh.now) }
         ensures err { OnErr result (self.new ≡ self.old) }
     {
@@ -63,7 +72,8 @@ impl<A: Allocator + Copy> File<A> {
 impl<A: Allocator> File<A> {
     /// The count of lines.
     pub(crate) fn len(&self) -> usize
-        ensures { result ≡ length self.now }
+        ensures value { result ≡ length self.now }
+        ensures plain { ArePlain self.now }
     {
         self.count
     }
@@ -73,6 +83,13 @@ impl<A: Allocator> File<A> {
         ensures { IsTrue result ↔ (self.now ≡ [] ∷ []) }
     {
         self.len() == 1 && self.line(0).is_empty()
+    }
+
+    /// The lines in turn.
+    pub(crate) fn lines(&self) -> FileLines<'_, A>
+        ensures { result ≡ self.now }
+    {
+        FileLines::new(&self.parts)
     }
 
     /// The line at a place, from 0, borrowed.

@@ -19,6 +19,7 @@ mod ends;
 mod entry;
 mod fault;
 mod file;
+mod file_lines;
 mod gap;
 pub mod laws;
 mod limits;
@@ -34,6 +35,7 @@ mod tree;
 
 pub use entry::{Entry, FileRef};
 pub use fault::{LineFault, PathFault, TreeFault};
+pub use file_lines::FileLines;
 pub use limits::{MOST_NAME_BYTES, MOST_NAMES};
 pub use lines::Lines;
 pub use listing::{Kind, Listed};

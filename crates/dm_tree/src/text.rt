@@ -19,13 +19,13 @@ pub(crate) struct Text<A: Allocator> {
 
 impl<A: Allocator> Model for Text<A> {
     ghost use Rattle.std.specs.Prelude.{List, ℕ};
-    ghost use Rattle.dm_tree.specs.Texts.{Holds, cut};
+    ghost use Rattle.dm_tree.specs.Texts.{LaidOut, cut};
 
     ghost Value = { List (List ℕ) };
 
     ghost view = { λ a. cut 0 a.ends.items a.bytes.items };
 
-    ghost invariant = { λ a. Holds a.bytes.items a.ends.items (cut 0 a.ends.items a.bytes.items) };
+    ghost invariant = { λ a. LaidOut a.bytes.items a.ends.items (cut 0 a.ends.items a.bytes.items) };
 }
 
 impl<A: Allocator + Copy> Text<A> {

@@ -2,7 +2,7 @@
 ghost use Rattle.std.specs.Prelude.{◌≡◌, ◌↔◌, ◌+◌, ◌-◌, ◌^◌, ◌<◌, ◌≤◌, ◌++◌, length, take, drop, IsTrue, slice_index, vec_len, vec_capacity};
 ghost use Rattle.std.specs.List.{EachIndex, concat};
 ghost use Rattle.dm_tree.specs.Trees.{Lines};
-ghost use Rattle.dm_tree.specs.Texts.{Holds, begin_of, cut, ends_from};
+ghost use Rattle.dm_tree.specs.Texts.{LaidOut, begin_of, cut, ends_from};
 
 use crate::bytes;
 use crate::ends::shift;
@@ -20,19 +20,19 @@ pub(crate) struct TextRef<'t> {
 
 impl<'t> Model for TextRef<'t> {
     ghost use Rattle.std.specs.Prelude.{List, ℕ};
-    ghost use Rattle.dm_tree.specs.Texts.{HoldsFrom, cut};
+    ghost use Rattle.dm_tree.specs.Texts.{LaidOutFrom, cut};
 
     ghost Value = { List (List ℕ) };
 
     ghost view = { λ a. cut a.begin a.ends.now a.bytes.now };
 
-    ghost invariant = { λ a. HoldsFrom a.begin a.bytes.now a.ends.now (cut a.begin a.ends.now a.bytes.now) };
+    ghost invariant = { λ a. LaidOutFrom a.begin a.bytes.now a.ends.now (cut a.begin a.ends.now a.bytes.now) };
 }
 
 impl<'t> TextRef<'t> {
     /// All lines of a text.
     pub(crate) fn new(bytes: &'t [u8], ends: &'t [usize]) -> TextRef<'t>
-        requires { Holds bytes.now ends.now (cut 0 ends.now bytes.now) }
+        requires { LaidOut bytes.now ends.now (cut 0 ends.now bytes.now) }
         ensures { result ≡ cut 0 ends.now bytes.now }
     {
         TextRef {

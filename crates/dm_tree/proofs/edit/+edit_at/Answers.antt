@@ -34,7 +34,7 @@ edit_at-requires g t c κs within =
     let valid : IsRising c.in-Children.inner.items = subst IsValid c.in-Children.is c.child.invariant in
     let some = some_rest c.in-Some.rest.now (sym c.is_empty.ensures ∙ c.if-is_empty.false) in
     let less : length c.in-Some.rest.now < length c.args.path.now = omega (arith, c.in-Some.ensures.cases.1) in
-    (omega (arith, less, c.decreases), (within.0, (within.1.0, (within.1.1, (some, (valid, may))))))
+    (omega (arith, less, c.decreases), (within.0, (within.1.0, (within.1.1, (some, (valid, (may, c.requires.plain)))))))
 
 pub unreachable-requires-then-not-is_empty : goal.unreachable-requires-then-not-is_empty
 unreachable-requires-then-not-is_empty g t c =
@@ -51,7 +51,7 @@ splice-requires g t c =
     let seen_file = seen name ks c.in-Ok.i c.index_mut-child.result.now (leaf_child c.child.inside.name (File c.in-Text.file)) at c.index_mut-child.ensures.value view in
     let none = no_rest c.in-Some.rest.now (sym c.is_empty-in-Text.ensures ∙ c.if-not-is_empty.false) in
     let may : CanSplice (Some (File c.in-Text.file)) c.args.start c.args.end c.args.fresh.now = subst (λ x. CanSplice x c.args.start c.args.end c.args.fresh.now) (look_here name ks c.child.inside.name c.in-Text.file c.args.path.now c.in-Some.rest.now c.requires.rising seen_file c.in-Some.ensures.cases.0 none) c.requires.may in
-    record { order = may.0; within = may.1.0 }
+    record { order = may.0; within = may.1.0; plain = c.requires.plain }
 
 pub invariant_of-child-in-Text : goal.invariant_of-child-in-Text
 invariant_of-child-in-Text g t c =

@@ -21,7 +21,7 @@ returns-then-is_empty-clause-fault g c =
     let some : 0 < n = omega (arith, c.if-line-eq0.false) in
     let within : n - 1 ≤ length ls = omega (arith, c.if-count-start.false) in
     let begins = c.if-not-begins.ensures.0 refl in
-    none_left ls n c.args.old.now c.args.new.now some within begins (sym c.len-2.ensures ∙ c.if-len-count.true ∙ c.len-count.ensures) (no_rest c.args.new.now (sym c.if-is_empty.ensures))
+    none_left ls n c.args.old.now c.args.new.now some within begins (sym c.len-2.ensures ∙ c.if-len-count.true ∙ c.len-count.ensures.value) (no_rest c.args.new.now (sym c.if-is_empty.ensures))
 
 pub returns-clause-fault : goal.returns-clause-fault
 returns-clause-fault g c =

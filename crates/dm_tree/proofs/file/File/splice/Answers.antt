@@ -2,7 +2,8 @@ use Rattle.std.proofs.Common.{◌≡◌, ◌<◌, ◌≤◌, ◌^◌, arith, ◌
 use Rattle.std.specs.List.{splice}
 use Rattle.dm_tree.specs.Trees.{Lines}
 use Rattle.dm_tree.specs.Files.{joined, lines_of}
-use Rattle.dm_tree.proofs.Joined.{lines_of-joined, size_spliced, size_fits, range_within}
+use Rattle.dm_tree.specs.Validity.{ArePlain}
+use Rattle.dm_tree.proofs.Joined.{lines_of-joined, size_spliced, size_fits, range_within, plain_spliced}
 use Rattle.dm_tree.proofs.Plain.{if_err}
 use Rattle.dm_tree.proofs.file.File.splice.Goals as goal
 
@@ -10,13 +11,13 @@ pub overflow_sub-end : goal.overflow_sub-end
 overflow_sub-end g c = c.requires.order
 
 pub overflow_sub-self-inside : goal.overflow_sub-self-inside
-overflow_sub-self-inside g c = range_within c.args.self.now c.args.start c.args.end c.self.inside.count (c.self.invariant ∙ ap length c.self.view_is) c.requires.within
+overflow_sub-self-inside g c = range_within c.args.self.now c.args.start c.args.end c.self.inside.count (c.self.invariant.0 ∙ ap length c.self.view_is) c.requires.within
 
 pub returns-in_err-count-clause-err : goal.returns-in_err-count-clause-err
 returns-in_err-count-clause-err g c = if_err c.from_residual.result _ refl
 
 pub invariant_of-self : goal.invariant_of-self
-invariant_of-self g c = c.self.invariant ∙ ap length (sym c.make_part.ensures.lines)
+invariant_of-self g c = (c.self.invariant.0 ∙ ap length (sym c.make_part.ensures.lines), subst ArePlain (sym c.make_part.ensures.lines) c.self.invariant.1)
 
 pub returns-in_err-make_part-clause-err : goal.returns-in_err-make_part-clause-err
 returns-in_err-make_part-clause-err g c = if_err c.from_residual-in_err-make_part.result _ (c.make_part.ensures.lines ∙ c.self.view_is)
@@ -36,10 +37,12 @@ pub replace-requires-clause-fits : goal.replace-requires-clause-fits
 replace-requires-clause-fits g c =
     let now = sym (lines_of-joined c.make_part.new.parts.items c.in_ok-make_part.ensures.some) ∙ c.make_part.ensures.lines in
     let fits : c.in_ok-count.count < 2 ^ 64 = omega arith in
-    size_fits (joined c.make_part.new.parts.items) c.args.start c.args.end c.self.inside.count (length c.args.fresh.now) c.in_ok-count.count (c.self.invariant ∙ ap length (sym now)) (rw c.len.ensures at c.in_ok-count.ensures) fits
+    size_fits (joined c.make_part.new.parts.items) c.args.start c.args.end c.self.inside.count (length c.args.fresh.now) c.in_ok-count.count (c.self.invariant.0 ∙ ap length (sym now)) (rw c.len.ensures at c.in_ok-count.ensures) fits
 
 pub invariant_of-self-in_err-replace : goal.invariant_of-self-in_err-replace
-invariant_of-self-in_err-replace g c = c.self.invariant ∙ ap length (sym (ap lines_of c.in_err-replace.ensures.err ∙ c.make_part.ensures.lines))
+invariant_of-self-in_err-replace g c =
+    let same = ap lines_of c.in_err-replace.ensures.err ∙ c.make_part.ensures.lines in
+    (c.self.invariant.0 ∙ ap length (sym same), subst ArePlain (sym same) c.self.invariant.1)
 
 pub returns-in_err-replace-clause-err : goal.returns-in_err-replace-clause-err
 returns-in_err-replace-clause-err g c = if_err c.from_residual-in_err-replace.result _ (ap lines_of c.in_err-replace.ensures.err ∙ c.make_part.ensures.lines ∙ c.self.view_is)
@@ -50,9 +53,11 @@ new_lines g c =
     lines_of-joined c.replace.new.parts.items c.replace.ensures.some ∙ c.in_ok-replace.ensures.ok ∙ ap (λ (l : Lines). splice l c.args.start c.args.end c.args.fresh.now) now
 
 pub invariant_of-self-2 : goal.invariant_of-self-2
-invariant_of-self-2 g c =
-    size_spliced c.args.self.now c.args.fresh.now (lines_of c.replace.new.parts.items) c.args.start c.args.end c.self.inside.count c.len.result c.in_ok-count.count c.requires.order c.requires.within (c.self.invariant ∙ ap length c.self.view_is)
-    (new_lines g c) c.len.ensures c.in_ok-count.ensures
+invariant_of-self-2 g c = (
+  size_spliced c.args.self.now c.args.fresh.now (lines_of c.replace.new.parts.items) c.args.start c.args.end c.self.inside.count c.len.result c.in_ok-count.count c.requires.order c.requires.within (c.self.invariant.0 ∙ ap length c.self.view_is)
+      (new_lines g c) c.len.ensures c.in_ok-count.ensures,
+  subst ArePlain (sym (new_lines g c)) (plain_spliced c.args.self.now c.args.fresh.now c.args.start c.args.end (subst ArePlain c.self.view_is c.self.invariant.1) c.requires.plain),
+)
 
 pub returns-clause-ok : goal.returns-clause-ok
 returns-clause-ok g c = new_lines g c

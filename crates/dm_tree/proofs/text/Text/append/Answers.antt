@@ -1,9 +1,9 @@
 use Rattle.std.proofs.Common.{◌++◌, ◌∙◌, ap}
-use Rattle.dm_tree.specs.Texts.{Holds, ends_from}
+use Rattle.dm_tree.specs.Texts.{LaidOut, ends_from}
 use Rattle.dm_tree.proofs.Texts.{held, valid_of, view_of, holds_append}
 use Rattle.dm_tree.proofs.text.Text.append.Goals as goal
 
-appended : (g : _) (c : goal.After-copy_ends g) → Holds c.extend_from_slice.new.self.items c.copy_ends.new.ends.items (c.args.self.now ++ c.args.lines.now)
+appended : (g : _) (c : goal.After-copy_ends g) → LaidOut c.extend_from_slice.new.self.items c.copy_ends.new.ends.items (c.args.self.now ++ c.args.lines.now)
 appended g c =
     holds_append _ _ _ (held _ _ _ c.self.invariant c.self.view_is) _ _ c.args.lines.now c.len-begin.result
     (c.in_ok-extend_from_slice.ensures.items ∙ ap (λ x. c.self.inside.bytes.items ++ x) c.bytes.ensures)

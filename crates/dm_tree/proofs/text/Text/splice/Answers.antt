@@ -1,6 +1,6 @@
 use Rattle.std.proofs.Common.{ℕ, ◌+◌, ◌-◌, ◌<◌, ◌≤◌, ◌^◌, ◌∙◌, List, length, drop, ap, subst, arith, sym}
 use Rattle.std.specs.List.{All, splice}
-use Rattle.dm_tree.specs.Texts.{Holds}
+use Rattle.dm_tree.specs.Texts.{LaidOut}
 use Rattle.dm_tree.proofs.Texts.{held, length-held, valid_of, view_of, begin_of-mono, begin_of-fits}
 use Rattle.dm_tree.proofs.Splices.{added_fits, fresh_fits, behind_fits, holds_splice}
 use Rattle.dm_tree.proofs.text.Text.splice.Goals as goal
@@ -44,7 +44,7 @@ replace_ends-requires-clause-behind g c =
     subst (λ (z : List ℕ). All (λ x. (c.begin-to.result ≤ x) × (x - c.begin-to.result + (c.begin-from.result + c.len-3.result) < 2 ^ 64)) (drop c.args.end z)) (sym c.reserve.ensures.items)
     (behind_fits _ _ _ _ _ _ h f c.args.start c.args.end _ _ _ c.begin-from.ensures c.begin-to.ensures size c.replace_bytes.new.bytes.items run fits)
 
-spliced : (g : _) (c : goal.After-replace_ends g) → Holds c.replace_bytes.new.bytes.items c.replace_ends.new.ends.items (splice c.args.self.now c.args.start c.args.end c.args.fresh.now)
+spliced : (g : _) (c : goal.After-replace_ends g) → LaidOut c.replace_bytes.new.bytes.items c.replace_ends.new.ends.items (splice c.args.self.now c.args.start c.args.end c.args.fresh.now)
 spliced g c =
     let h = held _ _ _ c.self.invariant c.self.view_is in
     let f = held _ _ _ c.fresh.invariant c.fresh.view_is in

@@ -1,5 +1,5 @@
 use Rattle.std.proofs.Common.{◌-◌, ◌≤◌, ◌∙◌, take, drop, length, arith}
-use Rattle.dm_tree.specs.Texts.{HoldsFrom}
+use Rattle.dm_tree.specs.Texts.{LaidOutFrom}
 use Rattle.dm_tree.proofs.Borrowed.{held_from, length-held_from, begin-within, holds_within, valid_from, view_from, clamped}
 use Rattle.dm_tree.proofs.text_ref.TextRef.within.Goals as goal
 
@@ -10,7 +10,7 @@ bounds c =
     (omega (arith, c.min-last.ensures, length-held_from _ _ _ _ h)) (c.begin_at-from.ensures c.args.self.now h.placed) (c.begin_at-to.ensures c.args.self.now h.placed)
 
 cut_out : (c : goal.After-result-4-1)
-    → HoldsFrom c.begin_at-from.result (take (c.begin_at-to.result - c.self.inside.begin - (c.begin_at-from.result - c.self.inside.begin)) (drop (c.begin_at-from.result - c.self.inside.begin) c.self.inside.bytes.now)) (take (c.min-last.result - c.min-first.result) (drop c.min-first.result c.self.inside.ends.now)) (take (c.min-last.result - c.min-first.result) (drop c.min-first.result c.args.self.now))
+    → LaidOutFrom c.begin_at-from.result (take (c.begin_at-to.result - c.self.inside.begin - (c.begin_at-from.result - c.self.inside.begin)) (drop (c.begin_at-from.result - c.self.inside.begin) c.self.inside.bytes.now)) (take (c.min-last.result - c.min-first.result) (drop c.min-first.result c.self.inside.ends.now)) (take (c.min-last.result - c.min-first.result) (drop c.min-first.result c.args.self.now))
 cut_out c =
     let h = held_from _ _ _ _ c.self.invariant c.self.view_is in
     holds_within _ _ _ _ h c.min-first.result c.min-last.result _ _ (omega (arith, c.min-first.ensures, c.min-last.ensures, c.requires))
