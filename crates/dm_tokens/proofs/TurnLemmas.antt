@@ -1,5 +1,5 @@
 -- What a text turns to, and that it turns back.
-use Rattle.std.proofs.Common.{◌≡◌, ◌≢◌, ℕ, Bool, true, false, not, List, [], ◌∷◌, ◌++◌, ◌==◌, ◌||◌, ◌↔◌, ◌-◌, length, take, drop, map, refl, sym, ap, subst, ◌∙◌, inl, inr}
+use Rattle.std.proofs.Common.{length-append, ◌+◌, ◌≡◌, ◌≢◌, ℕ, Bool, true, false, not, List, [], ◌∷◌, ◌++◌, ◌==◌, ◌||◌, ◌↔◌, ◌-◌, length, take, drop, map, refl, sym, ap, subst, ◌∙◌, inl, inr}
 use Rattle.std.specs.List.{All, AllZip, concat, list_any}
 use Rattle.std.specs.Str.{bytes_eq}
 use Rattle.std.proofs.lemmas.Bool.{cond-true, cond-false, eqb-true, false_from_ne_true, or_from, or_parts, or_right, false≢true}
@@ -315,6 +315,18 @@ pub pushed_all : (set : ByteSet) (old new text rest before out done : List ℕ) 
 unfolding turned pieces_of
 pushed_all set old new text rest before out done so whole e =
     so ∙ ap (λ (v : List ℕ). before ++ v) (sym (append-nil done) ∙ ap (λ (v : List ℕ). done ++ turned set old new v) (sym e) ∙ whole)
+
+-- the first piece is turned, and then the rest: so many bytes
+pub turned_size : (set : ByteSet) (old new rest piece : List ℕ) (n : ℕ) → pieces_of set rest ≡ take n rest ∷ pieces_of set (drop n rest) → piece ≡ turned_piece old new (take n rest) →
+    length (turned set old new rest) ≡ length piece + length (turned set old new (take (length rest - n) (drop n rest)))
+turned_size set old new rest piece n e is =
+    ap length (turned_more set old new rest n e ∙ ap (λ (v : List ℕ). v ++ turned set old new (take (length rest - n) (drop n rest))) (sym is))
+    ∙ length-append piece (turned set old new (take (length rest - n) (drop n rest)))
+
+-- of no text there are none
+pub turned_none : (set : ByteSet) (old new rest : List ℕ) → rest ≡ [] → length (turned set old new rest) ≡ 0
+unfolding turned pieces_of
+turned_none set old new rest e = ap (λ (v : List ℕ). length (turned set old new v)) e
 
 -- the old token was found, before or now
 pub or_found : (whole was here now left : Bool) → whole ≡ (was || here) → here ≡ true → now ≡ true → whole ≡ (now || left)

@@ -62,7 +62,8 @@ pub fn turning_lines_turns_back()
     ensures { TurningLinesTurnsBack }
 {}
 
-/// If one token becomes another, and then a third becomes a fourth, the other order ends alike.
+/// If one token becomes another, and then a third becomes a fourth, the other order ends alike, unless one of the last two is one of
+/// the first two.
 pub fn turnings_pass_each_other()
     ensures { TurningsPassEachOther }
 {}

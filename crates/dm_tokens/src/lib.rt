@@ -2,7 +2,8 @@
 //!
 //! A set is written between brackets, as in `[A-Za-z_0-9]` ([`TokenSet::read`]). It cuts a text into pieces, each of bytes of the
 //! set or of bytes outside of it. A piece of the set's bytes is a token. To turn a text is to put the new token in place of each
-//! old one; a text in which the new one stands turns to nothing, since nobody could turn it back. This crate uses `thiserror`.
+//! old one; a text in which the new one stands, and isn't the old one, turns to nothing, since nobody could turn it back. This crate
+//! uses `thiserror`.
 //!
 //! What is proved: a set has exactly the bytes that its text means, or the text means none. [`turn_into`] appends the one text that
 //! a text turns to, or nothing only if it turns to none. What is turned turns back ([`laws::turning_turns_back`]), keeps its pieces
@@ -19,4 +20,4 @@ mod turning;
 pub use pieces::has_piece;
 pub use set::TokenSet;
 pub use tokens::{BadTokens, Tokens};
-pub use turning::{Turned, turn_into, turns};
+pub use turning::{Turned, room_after, turn_into, turns};

@@ -27,9 +27,9 @@ impl<A: Allocator> Model for Tokens<A> {
     ghost invariant = { λ t. AreTokens (record { set = t.set.items; old = t.old.items; new = t.new.items }) };
 }
 
-/// There are no such tokens.
+/// The words are no set and no tokens that a patch may name.
 #[derive(Clone, Copy, Debug, PartialEq, Eq, Error)]
-#[error("the text means no set without the newline, or an old or a new token isn't one of it")]
+#[error("the text means no set without the newline, a token has other bytes than the set, or a word is longer than 255 bytes or isn't plain ASCII")]
 pub struct BadTokens;
 
 impl<A: Allocator> Tokens<A> {
@@ -67,7 +67,8 @@ impl<A: Allocator> Tokens<A> {
 
     /// The set. It is read anew: keep it for all lines of a file.
     pub fn token_set(&self) -> TokenSet
-        ensures { set_of self.now.set ≡ Some (in_table result) }
+        ensures set { set_of self.now.set ≡ Some (in_table result) }
+        ensures valid { AreTokens self.now }
     {
         let Some(set) = TokenSet::read(&self.set) else {
             unreachable!()

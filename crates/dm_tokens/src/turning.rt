@@ -1,5 +1,5 @@
 //! Turning a token of a text into another one.
-ghost use Rattle.std.specs.Prelude.{◌≡◌, ◌++◌, List, ℕ, IfOk, OnErr, OnOk};
+ghost use Rattle.std.specs.Prelude.{◌≡◌, ◌++◌, ◌+◌, ◌<◌, List, ℕ, IfOk, MatchOption, OnErr, OnOk, length};
 ghost use Rattle.std.specs.Bool.{OnTrue, OnFalse};
 ghost use Rattle.dm_tokens.specs.Sets.{in_table};
 ghost use Rattle.dm_tokens.specs.Turning.{Turns, TurnsAs};
@@ -66,6 +66,27 @@ pub fn turn_into<A: Allocator>(
             Ok(true)
         }
     }
+}
+
+/// Whether a turned text fits into so much room, and the room that is left then. No byte is written.
+pub fn room_after(set: &TokenSet, old: &[u8], new: &[u8], text: &[u8], room: usize) -> Option<usize>
+    ensures { MatchOption result
+        ((y : List ℕ) → Turns (in_table set.now) old.now new.now text.now y → room < length y)
+        (λ left. (y : List ℕ) → Turns (in_table set.now) old.now new.now text.now y → left + length y ≡ room) }
+{
+    let mut left = room;
+    let mut rest = text;
+    while !rest.is_empty() {
+        let len = first_len(set, rest);
+        let piece = &rest[..len];
+        let turned = pick(old, new, piece);
+        if left < turned.len() {
+            return None;
+        }
+        left -= turned.len();
+        rest = &rest[len..];
+    }
+    Some(left)
 }
 
 /// Appends the turned pieces of a text. A failed allocation appends nothing.
