@@ -5,7 +5,7 @@ use Rattle.std.proofs.lemmas.List.{take_all}
 use Rattle.std.specs.FinMap as map
 use Rattle.std.specs.Ordering.{eq_by_cmp}
 use Rattle.dm_tree.specs.declared.fault.TreeFault.{TreeFault}
-use Rattle.dm_tree.specs.declared.fault.TreeFault.TheVariants.{NoParent, Occupied, Missing, NotFile, NotDir, NotEmpty, IntoItself, LineRange, OldDiffers, NoLines, TooDeep, NoMemory}
+use Rattle.dm_tree.specs.declared.fault.TreeFault.TheVariants.{NoParent, Occupied, Missing, NotFile, NotDir, NotEmpty, IntoItself, LineRange, OldDiffers, NoLines, TokenThere, TooLarge, TooDeep, NoMemory}
 use Rattle.dm_tree.specs.Paths.{Path, Apart}
 use Rattle.dm_tree.specs.Trees.{Lines, Entry, Dir, File, Map, Tree, path_cmp, IsLawful, Deep, empty_file}
 use Rattle.dm_tree.specs.Changes.{AddAnswers, RemoveFileAnswers, RemoveDirAnswers, MayMove, RenameAnswers, Renamed, ReplacesLines, EditAnswers, Edited}
@@ -14,11 +14,12 @@ use Rattle.dm_tree.proofs.Trees.{path_total, equal_by}
 use Rattle.dm_tree.proofs.MoveLemmas.{self_equal}
 use Rattle.dm_tree.proofs.OneAnswer.{in_range, old_there, some_left}
 use Rattle.dm_prim.specs.InTurn.{InTurn, done, step}
-use Rattle.dm_prim.specs.Primitives.{AddFile, RmFile, AddDir, RmDir, Hunk, Binary, Prim, At, Move, Applies}
+use Rattle.dm_prim.specs.Primitives.{AddFile, RmFile, AddDir, RmDir, Hunk, Binary, Replace, Prim, At, Move, Applies, TurnsLines}
 use Rattle.dm_prim.specs.Prims.{prim_of, prims_of}
-use Rattle.dm_prim.specs.Applying.{Applied, BinaryAnswers, FaultsAs, AppliesToTree, AppliedAll}
+use Rattle.dm_prim.specs.Applying.{AdmitsFault, Applied, BinaryAnswers, ReplaceAnswers, FaultsAs, AppliesToTree, AppliedAll}
 use Rattle.dm_prim.specs.declared.primitive.Primitive as code
 use Rattle.dm_prim.proofs.Maps.{below_absent, moves_from}
+use Rattle.dm_prim.proofs.TurnedLines.{no_growth, no_new_token}
 use Rattle.dm_prim.proofs.ListLemmas.{prims_more, parted}
 use Rattle.dm_prim.proofs.RectangleLemmas.{runs_on}
 
@@ -57,6 +58,8 @@ module _ (t t' : Tree) (p : Path) where
   adds_file (Err LineRange) f ok err = absurd f
   adds_file (Err OldDiffers) f ok err = absurd f
   adds_file (Err NoLines) f ok err = absurd f
+  adds_file (Err TokenThere) f ok err = absurd f
+  adds_file (Err TooLarge) f ok err = absurd f
   adds_file (Err TooDeep) f ok err = absurd f
   adds_file (Err NoMemory) f ok err = (err, tt)
 
@@ -72,6 +75,8 @@ module _ (t t' : Tree) (p : Path) where
   adds_dir (Err LineRange) f ok err = absurd f
   adds_dir (Err OldDiffers) f ok err = absurd f
   adds_dir (Err NoLines) f ok err = absurd f
+  adds_dir (Err TokenThere) f ok err = absurd f
+  adds_dir (Err TooLarge) f ok err = absurd f
   adds_dir (Err TooDeep) f ok err = absurd f
   adds_dir (Err NoMemory) f ok err = (err, tt)
 
@@ -105,6 +110,8 @@ module _ (t t' : Tree) (p : Path) where
   removes_file (Err LineRange) f ok err = absurd f
   removes_file (Err OldDiffers) f ok err = absurd f
   removes_file (Err NoLines) f ok err = absurd f
+  removes_file (Err TokenThere) f ok err = absurd f
+  removes_file (Err TooLarge) f ok err = absurd f
   removes_file (Err TooDeep) f ok err = absurd f
   removes_file (Err NoMemory) f ok err = absurd f
 
@@ -124,6 +131,8 @@ module _ (t t' : Tree) (p : Path) where
   removes_dir (Err LineRange) l f ok err = absurd f
   removes_dir (Err OldDiffers) l f ok err = absurd f
   removes_dir (Err NoLines) l f ok err = absurd f
+  removes_dir (Err TokenThere) l f ok err = absurd f
+  removes_dir (Err TooLarge) l f ok err = absurd f
   removes_dir (Err TooDeep) l f ok err = absurd f
   removes_dir (Err NoMemory) l f ok err = absurd f
 
@@ -154,6 +163,8 @@ module _ (t t' : Tree) (a b : Path) (l : IsLawful (map.get t)) where
   renames (Err LineRange) f ok err = absurd f
   renames (Err OldDiffers) f ok err = absurd f
   renames (Err NoLines) f ok err = absurd f
+  renames (Err TokenThere) f ok err = absurd f
+  renames (Err TooLarge) f ok err = absurd f
   renames (Err TooDeep) f ok err = (err, (moved_map (map.get t) a b l f.0, would_move (map.get t) a b l f.0, would_be_deep (map.get t) a b l f.0 f.1.0 f.1.1 f.1.2))
   renames (Err NoMemory) f ok err = (err, tt)
 
@@ -191,6 +202,8 @@ module _ (t t' : Tree) (p : Path) (n : ℕ) (old new : Lines) where
   edits (Err LineRange) f ok err = (err, λ m' a. let e = edited m' f.0 f.1 a in f.2 (in_range n old new f.0 e.0 e.1))
   edits (Err OldDiffers) f ok err = (err, λ m' a. let e = edited m' f.0 f.1 a in f.3 (old_there n old new f.0 e.0 e.1))
   edits (Err NoLines) f ok err = (err, λ m' a. let e = edited m' f.0 f.1 a in some_left n old new f.0 e.0 e.1 f.2 f.4)
+  edits (Err TokenThere) f ok err = absurd f
+  edits (Err TooLarge) f ok err = absurd f
   edits (Err TooDeep) f ok err = absurd f
   edits (Err NoMemory) f ok err = (err, tt)
 
@@ -247,6 +260,8 @@ module _ (m : Map) (p : Path) (old new : Lines) where
     replaces_as (Err LineRange) f = let n = counted f.0 f.1 in absurd (f.2 (omega arith, omega arith))
     replaces_as (Err OldDiffers) f = (f.0, f.1, λ e. f.3 (all_taken f.0 e))
     replaces_as (Err NoLines) f = absurd (some f.4)
+    replaces_as (Err TokenThere) f = absurd f
+    replaces_as (Err TooLarge) f = absurd f
     replaces_as (Err TooDeep) f = absurd f
     replaces_as (Err NoMemory) f = there f.0 f.1 f.2 f.3
 
@@ -271,12 +286,77 @@ module _ (t t' : Tree) (p : Path) (old new : Lines) where
   replaces (Err NoMemory) some same f ok err = (err, tt)
   replaces (Err LineRange) some same f ok err = absurd (replaces_as (map.get t) p old new some same {T = Unit {0}} (Err LineRange) f)
   replaces (Err NoLines) some same f ok err = absurd (some f.4)
+  replaces (Err TokenThere) some same f ok err = absurd f
+  replaces (Err TooLarge) some same f ok err = absurd f
   replaces (Err NoParent) some same f ok err = absurd f
   replaces (Err Occupied) some same f ok err = absurd f
   replaces (Err NotDir) some same f ok err = absurd f
   replaces (Err NotEmpty) some same f ok err = absurd f
   replaces (Err IntoItself) some same f ok err = absurd f
   replaces (Err TooDeep) some same f ok err = absurd f
+
+module _ (m : Map) (p : Path) (set old new : List ℕ) where
+  -- why a replace is refused
+  pub turn_refused : (T : Type 0) (e : TreeFault) → ReplaceAnswers {T = T} m p set old new (Err e) → AdmitsFault (At p (Replace set old new)) m e
+  turn_refused T Missing f = λ m' a. let k : m p ≡ Some (File a.here.0) = a.here.2 in cc
+  turn_refused T NotFile f = λ m' a. let k : m p ≡ Some (File a.here.0) = a.here.2 in cc
+  turn_refused T TokenThere (ls, e, small, h) = λ m' a.
+      let k : m p ≡ Some (File a.here.0) = a.here.2 in
+      let same : a.here.0 ≡ ls = cc in
+      no_new_token set old new ls a.here.1 h (subst (λ z. TurnsLines set old new z a.here.1) same a.here.4)
+  turn_refused T TooLarge (ls, e, h) = λ m' a.
+      let k : m p ≡ Some (File a.here.0) = a.here.2 in
+      let same : a.here.0 ≡ ls = cc in
+      let turns = subst (λ z. TurnsLines set old new z a.here.1) same a.here.4 in
+      elim h [ inl large ↦ omega (arith, large, turns.was_small) | inr grows ↦ no_growth set old new ls a.here.1 grows.1 turns ]
+  turn_refused T NoMemory f = tt
+  turn_refused T NoParent f = absurd f
+  turn_refused T Occupied f = absurd f
+  turn_refused T NotDir f = absurd f
+  turn_refused T NotEmpty f = absurd f
+  turn_refused T IntoItself f = absurd f
+  turn_refused T LineRange f = absurd f
+  turn_refused T OldDiffers f = absurd f
+  turn_refused T NoLines f = absurd f
+  turn_refused T TooDeep f = absurd f
+
+  -- an edit of all lines of the file, to what they turn to
+  module _ (xs ys : Lines) (file : m p ≡ Some (File xs)) (turned : TurnsLines set old new xs ys) where
+    lines_are : (ls : Lines) → m p ≡ Some (File ls) → ls ≡ xs
+    lines_are ls e = cc
+
+    pub turn_answers : {T : Type 0} (r : Result T TreeFault) → EditAnswers m p 1 xs ys r → ReplaceAnswers m p set old new r
+    turn_answers (Ok x) f = (xs, ys, file, turned)
+    turn_answers (Err NoMemory) f = (xs, ys, file, turned)
+    turn_answers (Err Missing) f = f
+    turn_answers (Err NotFile) f = f
+    turn_answers (Err LineRange) f = let n : length f.0 ≡ length xs = ap length (lines_are f.0 f.1) in absurd (f.2 (omega arith, omega arith))
+    turn_answers (Err OldDiffers) f = absurd (f.3 (all_taken m p xs ys f.0 (lines_are f.0 f.1)))
+    turn_answers (Err NoLines) f = absurd (turned.left f.4)
+    turn_answers (Err TokenThere) f = absurd f
+    turn_answers (Err TooLarge) f = absurd f
+    turn_answers (Err NoParent) f = absurd f
+    turn_answers (Err Occupied) f = absurd f
+    turn_answers (Err NotDir) f = absurd f
+    turn_answers (Err NotEmpty) f = absurd f
+    turn_answers (Err IntoItself) f = absurd f
+    turn_answers (Err TooDeep) f = absurd f
+
+module _ (t t' : Tree) (p : Path) (set old new : List ℕ) where
+  -- each line stays as it is
+  pub turns_nothing : (ls : Lines) → map.get t p ≡ Some (File ls) → TurnsLines set old new ls ls → t' ≡ t → Applies (At p (Replace set old new)) (map.get t) (map.get t')
+  turns_nothing ls e h same = record { around = tt; here = (ls, ls, e, ap (λ z. map.get z p) same ∙ e, h); elsewhere = λ q n. ap (λ z. map.get z q) same }
+
+  pub turns_file : {T : Type 0} (r : Result T TreeFault) (xs ys : Lines) → map.get t p ≡ Some (File xs) → TurnsLines set old new xs ys →
+      EditAnswers (map.get t) p 1 xs ys r → OnOk r (Edited p 1 xs ys t t') → OnErr r (t' ≡ t) → Applied (At p (Replace set old new)) t t' r
+  turns_file (Ok x) xs ys e h f (ls, ls', i, w, made) err =
+      let same : ls ≡ xs = cc in
+      let all = whole (map.get t) p xs ys ls ls' (ap length same) w in record {
+        around = tt;
+        here = (xs, ys, e, rw made (put_here t p (File ls') ∙ ap (λ x. Some (File x)) all.1), h);
+        elsewhere = λ q n. rw made (put_else t p (File ls') q n);
+      }
+  turns_file {T} (Err x) xs ys e h f ok err = (err, turn_refused (map.get t) p set old new T x (turn_answers (map.get t) p set old new xs ys e h {T = T} (Err x) f))
 
 -- a list
 module _ {Y : Type 0} (prims : List (code.Primitive Y)) (i : ℕ) (p : code.Primitive Y) (l : i < length prims) (e : p ≡ get_or prims i p) where

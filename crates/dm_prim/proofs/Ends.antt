@@ -7,7 +7,7 @@ use Rattle.dm_prim.proofs.Squares.{Beside, Passing, Square, hunk_down, hunk_up, 
 use Rattle.dm_tree.specs.Paths.{Path, Apart}
 use Rattle.dm_tree.specs.Trees.{Lines, Entry, Dir, File, Map, HasParent, IsLawful, empty_file}
 use Rattle.dm_tree.specs.Changes.{ReplacesLines}
-use Rattle.dm_prim.specs.Primitives.{Work, AddFile, RmFile, AddDir, RmDir, Hunk, Binary, Prim, At, Move, ChangePref, inv_work, inv, Changes, Around, WorksAt, AppliesMove, Applies}
+use Rattle.dm_prim.specs.Primitives.{Work, AddFile, RmFile, AddDir, RmDir, Hunk, Binary, Replace, Prim, At, Move, ChangePref, inv_work, inv, Changes, Around, WorksAt, AppliesMove, Applies}
 use Rattle.dm_prim.specs.Table.{IsDirectoryWork, KeepsFile, LiesAbove, WorkAndWork}
 
 -- t with e at p
@@ -44,6 +44,7 @@ dir_after AddDir e e' c h = tt
 dir_after RmDir e e' c h = tt
 dir_after (Hunk l o n) e e' c h = let y : e' ≡ Some (File c.1) = c.3 in cc
 dir_after (Binary o n) e e' c h = let y : e' ≡ Some (File n) = c.1 in cc
+dir_after (Replace s o n) e e' c h = let y : e' ≡ Some (File c.1) = c.3 in cc
 
 pub dir_before : (w : Work) (e e' : Option Entry) → Changes w e e' → e ≡ Some Dir → IsDirectoryWork w
 dir_before AddFile e e' c h = let y : e ≡ None = c.0 in cc
@@ -52,6 +53,7 @@ dir_before AddDir e e' c h = tt
 dir_before RmDir e e' c h = tt
 dir_before (Hunk l o n) e e' c h = let y : e ≡ Some (File c.0) = c.2 in cc
 dir_before (Binary o n) e e' c h = let y : e ≡ Some (File o) = c.0 in cc
+dir_before (Replace s o n) e e' c h = let y : e ≡ Some (File c.0) = c.2 in cc
 
 -- what is around f is not changed by a change at g
 pub around_carry : (w : Work) (f g : Path) (s s' : Map) → ((q : Path) → q ≢ g → s' q ≡ s q) → (s g ≡ Some Dir → Apart f g) → (IsDirectoryWork w → Apart f g) → Around w f s → Around w f s'
@@ -71,6 +73,7 @@ around_carry w f g s s' same dir work a = go w work a
     go RmDir h a = λ n r. same (f ++ n ∷ r) (λ e. (h tt).right (n ∷ r, sym e)) ∙ a n r
     go (Hunk l o n) h a = tt
     go (Binary o n) h a = tt
+    go (Replace s o n) h a = tt
 
 pub runs_free : (f : Path) (w : Work) (g : Path) (v : Work) → WorkAndWork f w g v → (t u z : Map) → WorksAt f w t u → WorksAt g v u z → BothLead (At g v) (At f w) t z
 runs_free f w g v s t u z h k = (m, first, second)
@@ -109,6 +112,7 @@ file_there AddDir e e' i c x = absurd i
 file_there RmDir e e' i c x = absurd i
 file_there (Hunk l o n) e e' i c x = let y : e ≡ Some (File c.0) = c.2 in cc
 file_there (Binary o n) e e' i c x = let y : e ≡ Some (File o) = c.0 in cc
+file_there (Replace s o n) e e' i c x = let y : e ≡ Some (File c.0) = c.2 in cc
 
 -- a parent seen through a swap
 pub parent_swapped : (a b f : Path) (t u : Map) → Apart a b → f ≢ a → f ≢ b → ((p : Path) → u p ≡ t (swap a b p)) → HasParent f t → HasParent (swap a b f) u
@@ -122,6 +126,7 @@ around_swapped AddDir a b f t u s is h = parent_swapped a b f t u s.move_apart s
 around_swapped RmDir a b f t u s is h = λ n r. is (swap a b f ++ n ∷ r) ∙ rw (← swap-append a b f (n ∷ r) s.move_apart (beside_clear f RmDir a b s), swap-swap a b (f ++ n ∷ r) s.move_apart) (h n r)
 around_swapped (Hunk l o n) a b f t u s is h = tt
 around_swapped (Binary o n) a b f t u s is h = tt
+around_swapped (Replace w o n) a b f t u s is h = tt
 
 pub runs_then_move : (f : Path) (w : Work) (a b : Path) → Beside f w a b → (t u z : Map) → IsLawful t → IsLawful u → WorksAt f w t u → AppliesMove a b u z → BothLead (Move a b) (At (swap a b f) w) t z
 runs_then_move f w a b s t u z lt lu h k = (m, moves_from a b t m lt first, second)
@@ -162,6 +167,7 @@ inv_twice AddDir = refl
 inv_twice RmDir = refl
 inv_twice (Hunk l o n) = refl
 inv_twice (Binary o n) = refl
+inv_twice (Replace s o n) = refl
 
 -- two fronts of one list, the first the shorter
 pub split : {A : Type 0} (xs ys zs ws : List A) → xs ++ ys ≡ zs ++ ws → length xs ≤ length zs → (m : List A) × (zs ≡ xs ++ m) × (ys ≡ m ++ ws)

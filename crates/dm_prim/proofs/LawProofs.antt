@@ -4,9 +4,10 @@ use Rattle.dm_tree.specs.Validity.{IsValidPath}
 use Rattle.dm_tree.specs.Paths.{Path}
 use Rattle.dm_prim.specs.InTurn.{done, step}
 use Rattle.dm_prim.specs.Rectangles.{CellRow, none, next, empty, row}
-use Rattle.dm_prim.specs.Primitives.{AddFile, RmFile, AddDir, RmDir, Hunk, Binary, Prim, At, Move, ChangePref, inv, inv_all, LawfulMap, Leads, LeadsAll}
+use Rattle.dm_prim.specs.Primitives.{AddFile, RmFile, AddDir, RmDir, Hunk, Binary, Replace, Prim, At, Move, ChangePref, inv, inv_all, LawfulMap, Leads, LeadsAll}
 use Rattle.dm_prim.specs.Commuting.{IsValidPrim, Commutes, ListsCommute}
 use Rattle.dm_prim.specs.Laws.{PairLaws, ListLaws, CommutedPairsEndAlike, PairsCommuteBack, PairsCommutePastAnInverse, CommutedListsEndAlike, ListsCommuteBack, ListsCommutePastAnInverse, RectanglesTurn, InversesLeadBack, ListInversesLeadBack, OneWayToApply, OneWayToCommute, OneWayToCommuteLists}
+use Rattle.dm_prim.proofs.TurnedLines.{tokens_turned}
 use Rattle.dm_prim.proofs.Undoing.{OffRoot, undone, kept}
 use Rattle.dm_prim.proofs.TableRows.{square_from, row_turn, row_inv}
 use Rattle.dm_prim.proofs.Ends.{square_runs, inv_inv}
@@ -28,6 +29,7 @@ valid_inv (At f AddDir) h = h
 valid_inv (At f RmDir) h = h
 valid_inv (At f (Hunk l o n)) h = (h.0, (h.1.0, omega arith, h.1.3, h.1.2))
 valid_inv (At f (Binary o n)) h = (h.0, (h.1.1, h.1.0, h.1.3, h.1.2))
+valid_inv (At f (Replace s o n)) h = (h.0, tokens_turned s o n h.1)
 valid_inv (Move a b) h = (h.1, h.0)
 valid_inv (ChangePref name old new) h = (h.0, h.1, h.3, h.2)
 

@@ -1,4 +1,5 @@
 pub mod Maps
+pub mod TurnedLines
 pub mod Undoing
 pub mod Squares
 pub mod TableRows

@@ -1,19 +1,21 @@
 -- At most one answer: of a primitive on a map, of a list on a tree, and of the parts of a hunk.
-use Rattle.std.proofs.Common.{◌≡◌, ◌≢◌, ℕ, ◌+◌, suc, zero, List, [], ◌∷◌, ◌++◌, take, Option, Some, None, Result, Ok, Err, ◌⊎◌, inl, inr, refl, sym, ap, subst, ◌∙◌, arith}
+use Rattle.std.proofs.Common.{◌<◌, ◌≤◌, ◌≡◌, ◌≢◌, ℕ, ◌+◌, suc, zero, List, [], ◌∷◌, ◌++◌, take, Option, Some, None, Result, Ok, Err, ◌⊎◌, inl, inr, refl, sym, ap, subst, ◌∙◌, arith}
 use Rattle.std.specs.FinMap as map
 use Rattle.dm_tree.specs.declared.fault.TreeFault.{TreeFault}
-use Rattle.dm_tree.specs.declared.fault.TreeFault.TheVariants.{Missing, NotFile, OldDiffers, TooDeep, NoMemory}
+use Rattle.dm_tree.specs.declared.fault.TreeFault.TheVariants.{Missing, NotFile, OldDiffers, TooDeep, TokenThere, TooLarge, NoMemory}
 use Rattle.dm_tree.specs.Paths.{Path}
 use Rattle.dm_tree.specs.Trees.{Lines, Dir, File, Map, Tree, HasParent, IsLawful, Deep, empty_file}
 use Rattle.dm_tree.specs.Laws.{fault_of_change}
 use Rattle.dm_tree.proofs.OneAnswer.{adding_one, removing_a_file_one, removing_a_directory_one, renaming_one, editing_one}
 use Rattle.dm_tree.proofs.Trees.{path_total, path_same}
+use Rattle.dm_tree.specs.Listings.{file_size}
 use Rattle.dm_prim.specs.InTurn.{InTurn, done, step}
-use Rattle.dm_prim.specs.Primitives.{Work, AddFile, RmFile, AddDir, RmDir, Hunk, Binary, Prim, At, Move, ChangePref, Applies}
-use Rattle.dm_prim.specs.Applying.{AdmitsFault, BinaryAnswers, FaultsAs, AppliesToTree, AppliedAll}
+use Rattle.dm_prim.specs.Primitives.{Work, AddFile, RmFile, AddDir, RmDir, Hunk, Binary, Replace, Prim, At, Move, ChangePref, Applies, TurnsLines, most_turned}
+use Rattle.dm_prim.specs.Applying.{AdmitsFault, BinaryAnswers, GrowsTooLarge, HasNewToken, ReplaceAnswers, FaultsAs, AppliesToTree, AppliedAll}
 use Rattle.dm_prim.specs.Laws.{ApplyingHasOneAnswer, IsNotOutOfMemory, ApplyingAListHasOneAnswer, HunkHasOneAnswer, BinaryHasOneAnswer, PreferenceHasOneAnswer}
 use Rattle.dm_prim.specs.declared.hunk.HunkFault.TheVariants.{BadLine, NoChange}
 use Rattle.dm_prim.proofs.Maps.{path_dec}
+use Rattle.dm_prim.proofs.TurnedLines.{no_growth, no_new_token, there_is_no_growth}
 use Rattle.dm_prim.proofs.Undoing.{kept}
 use Rattle.dm_prim.proofs.Single.{applies_one}
 
@@ -43,6 +45,60 @@ module _ (m : Map) (p : Path) (old : Lines) where
 binary_one : (m : Map) (p : Path) (old : Lines) (r s : Result (Unit {0}) TreeFault) → BinaryAnswers m p old r → BinaryAnswers m p old s → fault_of_change r ≡ fault_of_change s
 binary_one m p old r s h k = else_one _ _ _ (else_one _ _ _ (else_one _ _ (λ o. o ≡ None) (λ o u i j. i ∙ sym j))) _ _ (stops_first m p old r h) (stops_first m p old s k)
 
+module _ (m : Map) (p : Path) (set old new : List ℕ) where
+  -- the entry is a file, with lines of which this holds
+  abbrev FileOf : (Lines → Type 0) → Type 0
+  FileOf P = (ls : Lines) × (m p ≡ Some (File ls)) × P ls
+
+  abbrev IsLarge : Lines → Type 0
+  IsLarge ls = most_turned < file_size ls
+
+  abbrev StopsToken : Option TreeFault → Type 0
+  StopsToken = Else (m p ≡ None) Missing (Else (m p ≡ Some Dir) NotFile (Else (FileOf IsLarge) TooLarge (Else (FileOf (HasNewToken set old new)) TokenThere (Else (FileOf (GrowsTooLarge set old new)) TooLarge (λ o. o ≡ None)))))
+
+  -- no such file, where this doesn't hold of the lines of the file
+  no_file : (P : Lines → Type 0) (ls : Lines) → m p ≡ Some (File ls) → (P ls → ⊥) → FileOf P → ⊥
+  no_file P ls e not (xs, i, h) = let same : xs ≡ ls = cc in not (subst P same h)
+
+  not_large : (ls : Lines) → file_size ls ≤ most_turned → IsLarge ls → ⊥
+  not_large ls h k = omega (arith, h, k)
+
+  turns : (ls ls' : Lines) → m p ≡ Some (File ls) → TurnsLines set old new ls ls' → StopsToken None
+  turns ls ls' e t = inr (
+    λ k. cc,
+    inr (
+      λ k. cc,
+      inr (
+        no_file IsLarge ls e (not_large ls t.was_small),
+        inr (no_file (HasNewToken set old new) ls e (λ h. no_new_token set old new ls ls' h t), inr (no_file (GrowsTooLarge set old new) ls e (λ h. no_growth set old new ls ls' h t), refl)),
+      ),
+    ),
+  )
+
+  token_first : (r : Result (Unit {0}) TreeFault) → ReplaceAnswers m p set old new r → StopsToken (fault_of_change r)
+  token_first (Ok x) (ls, ls', e, t) = turns ls ls' e t
+  token_first (Err Missing) h = inl (h, refl)
+  token_first (Err NotFile) h = inr (λ k. cc, inl (h, refl))
+  token_first (Err TooLarge) (ls, e, h) = inr (
+    λ k. cc,
+    inr (
+      λ k. cc,
+      elim h [
+        | inl large ↦ inl ((ls, e, large), refl)
+        | inr grows ↦ inr (
+          no_file IsLarge ls e (not_large ls grows.0),
+          inr (no_file (HasNewToken set old new) ls e (λ k. there_is_no_growth set old new ls k grows.1), inl ((ls, e, grows.1), refl)),
+        )
+      ],
+    ),
+  )
+  token_first (Err TokenThere) (ls, e, small, h) = inr (λ k. cc, inr (λ k. cc, inr (no_file IsLarge ls e (not_large ls small), inl ((ls, e, h), refl))))
+  token_first (Err NoMemory) (ls, ls', e, t) = turns ls ls' e t
+  token_first (Err e) h = absurd h
+
+replace_one : (m : Map) (p : Path) (set old new : List ℕ) (r s : Result (Unit {0}) TreeFault) → ReplaceAnswers m p set old new r → ReplaceAnswers m p set old new s → fault_of_change r ≡ fault_of_change s
+replace_one m p set old new r s h k = else_one _ _ _ (else_one _ _ _ (else_one _ _ _ (else_one _ _ _ (else_one _ _ (λ o. o ≡ None) (λ o u i j. i ∙ sym j))))) _ _ (token_first m p set old new r h) (token_first m p set old new s k)
+
 pub faults_one : ApplyingHasOneAnswer
 faults_one (At p AddFile) m r s h k = adding_one m p r s h k
 faults_one (At p RmFile) m r s h k = removing_a_file_one m p r s h k
@@ -50,6 +106,7 @@ faults_one (At p AddDir) m r s h k = adding_one m p r s h k
 faults_one (At p RmDir) m r s h k = removing_a_directory_one m p r s h k
 faults_one (At p (Hunk n old new)) m r s h k = editing_one m p n old new r s h k
 faults_one (At p (Binary old new)) m r s h k = binary_one m p old r s h k
+faults_one (At p (Replace set old new)) m r s h k = replace_one m p set old new r s h k
 faults_one (Move a b) m r s h k = renaming_one m a b r s h k
 faults_one (ChangePref name old new) m (Ok x) (Ok y) h k = refl
 faults_one (ChangePref name old new) m (Ok x) (Err e) h k = absurd k
@@ -67,6 +124,7 @@ from_nothing (At f AddDir) t u e h = let k : t h.around.0 ≡ Some Dir = h.aroun
 from_nothing (At f RmDir) t u e h = let k : t f ≡ Some Dir = h.here.0 in let n = e f in absurd (cc)
 from_nothing (At f (Hunk l old new)) t u e h = let k : t f ≡ Some (File h.here.0) = h.here.2 in let n = e f in absurd (cc)
 from_nothing (At f (Binary old new)) t u e h = let k : t f ≡ Some (File old) = h.here.0 in let n = e f in absurd (cc)
+from_nothing (At f (Replace set old new)) t u e h = let k : t f ≡ Some (File h.here.0) = h.here.2 in let n = e f in absurd (cc)
 from_nothing (Move a b) t u e h = absurd (h.0.present (e a))
 from_nothing (ChangePref name old new) t u e h = h
 
@@ -82,6 +140,7 @@ at_root RmDir t u l h [] = h.here.1
 at_root RmDir t u l h (n ∷ q) = h.elsewhere (n ∷ q) (λ e. cc) ∙ h.around n q
 at_root (Hunk i old new) t u l h q = let k : t [] ≡ Some (File h.here.0) = h.here.2 in let r : t [] ≡ Some Dir = l.root in cc
 at_root (Binary old new) t u l h q = let k : t [] ≡ Some (File old) = h.here.0 in let r : t [] ≡ Some Dir = l.root in cc
+at_root (Replace set old new) t u l h q = let k : t [] ≡ Some (File h.here.0) = h.here.2 in let r : t [] ≡ Some Dir = l.root in cc
 
 makes : (p : Prim) (t u : Map) → Made t → Applies p t u → Made u
 makes p t u (inr e) h = inr (λ q. ap (λ m. m q) (from_nothing p t u e h) ∙ e q)

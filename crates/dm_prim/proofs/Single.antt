@@ -7,9 +7,10 @@ use Rattle.dm_prim.proofs.RectangleLemmas.{rectangle_one}
 use Rattle.dm_tree.specs.Paths.{Path, forward}
 use Rattle.dm_tree.specs.Trees.{Lines, Entry, Map, IsLawful}
 use Rattle.dm_tree.specs.Changes.{ReplacesLines}
-use Rattle.dm_prim.specs.Primitives.{Work, AddFile, RmFile, AddDir, RmDir, Hunk, Binary, Prim, At, Move, ChangePref, Changes, Applies}
+use Rattle.dm_prim.specs.Primitives.{Work, AddFile, RmFile, AddDir, RmDir, Hunk, Binary, Replace, Prim, At, Move, ChangePref, Changes, Applies}
 use Rattle.dm_prim.specs.Table.{LiesAbove, WorkAndWork, WorkThenMove, MoveThenMove, TableRow, first_above, second_above, two_works, work_move, move_work, two_moves, preference_first, preference_second, MovesOutside}
 use Rattle.dm_prim.specs.Commuting.{Commutes, ListsCommute}
+use Rattle.dm_prim.proofs.TurnedLines.{turned_one}
 
 -- what the table answers for work on two paths
 pub data Both (f : Path) (w : Work) (g : Path) (v : Work) (q' p' : Prim) : Type 0 where
@@ -115,6 +116,8 @@ changes_one RmDir e a b x y = x.1 ∙ sym y.1
 changes_one (Hunk l old new) e a b (ls, ls1, i, j, k) (ms, ls2, i', j', k') =
     let s : ms ≡ ls = cc in let t : ls1 ≡ ls2 = edits_one l old new ls ls1 ls2 k (rw s at k') in cc
 changes_one (Binary old new) e a b x y = x.1 ∙ sym y.1
+changes_one (Replace set old new) e a b (ls, ls1, i, j, k) (ms, ls2, i', j', k') =
+    let s : ms ≡ ls = cc in let t : ls1 ≡ ls2 = turned_one set old new ls ls1 ls2 k (rw s at k') in cc
 
 pub applies_one : (p : Prim) (t u v : Map) → IsLawful t → Applies p t u → Applies p t v → (x : Path) → u x ≡ v x
 applies_one (At f w) t u v l h k x = go (path_dec x f)

@@ -6,7 +6,7 @@ use Rattle.dm_tree.proofs.Paths.{under_dec, comparable, apart_sym, inside_or_is,
 use Rattle.dm_prim.proofs.Undoing.{swap_left, swap_right}
 use Rattle.dm_tree.specs.Paths.{Path, Under, Inside, Apart}
 use Rattle.dm_tree.specs.Trees.{Lines}
-use Rattle.dm_prim.specs.Primitives.{Work, AddFile, RmFile, AddDir, RmDir, Hunk, Binary, Prim, At, Move, ChangePref, inv_work, inv}
+use Rattle.dm_prim.specs.Primitives.{Work, AddFile, RmFile, AddDir, RmDir, Hunk, Binary, Replace, Prim, At, Move, ChangePref, inv_work, inv}
 use Rattle.dm_prim.specs.Table.{IsDirectoryWork, KeepsFile, LiesAbove, WorkAndWork, MovesOutside}
 
 -- `move a b` against work on f, from the same start
@@ -88,6 +88,7 @@ dir_inv AddDir d = d
 dir_inv RmDir d = d
 dir_inv (Hunk l o n) d = d
 dir_inv (Binary o n) d = d
+dir_inv (Replace s o n) d = d
 
 pub keeps_inv : (w : Work) → KeepsFile w → KeepsFile (inv_work w)
 keeps_inv AddFile d = d
@@ -96,6 +97,7 @@ keeps_inv AddDir d = d
 keeps_inv RmDir d = d
 keeps_inv (Hunk l o n) d = d
 keeps_inv (Binary o n) d = d
+keeps_inv (Replace s o n) d = d
 
 pub outside_inv : (p : Prim) → MovesOutside p → MovesOutside (inv p)
 outside_inv (At f w) h = tt

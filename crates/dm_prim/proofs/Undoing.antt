@@ -5,7 +5,8 @@ use Rattle.dm_tree.proofs.Paths.{apart_sym, under_append, under_trans, swap, swa
 use Rattle.dm_prim.proofs.Maps.{path_dec, child_differs, below_absent, swap_child, Swaps, swaps_from, moves_from}
 use Rattle.dm_tree.specs.Paths.{Name, Path, Apart}
 use Rattle.dm_tree.specs.Trees.{Lines, Entry, Dir, File, Map, HasParent, IsLawful, empty_file}
-use Rattle.dm_prim.specs.Primitives.{Work, AddFile, RmFile, AddDir, RmDir, Hunk, Binary, Prim, At, Move, ChangePref, inv_work, inv, Changes, Around, WorksAt, Applies}
+use Rattle.dm_prim.specs.Primitives.{Work, AddFile, RmFile, AddDir, RmDir, Hunk, Binary, Replace, Prim, At, Move, ChangePref, inv_work, inv, Changes, Around, WorksAt, Applies}
+use Rattle.dm_prim.proofs.TurnedLines.{turned_back}
 
 pub snoc : (f : Path) → (f ≡ []) ⊎ ((q : Path) × (n : Name) × (f ≡ q ++ n ∷ []))
 snoc [] = inl refl
@@ -40,6 +41,7 @@ changes_inv AddDir e e' h c = (c.1, c.0)
 changes_inv RmDir e e' h c = (c.1, c.0)
 changes_inv (Hunk l old new) e e' h (ls, ls', is, is', ed) = (ls', ls, is', is, record { front = ed.front; back = ed.back; at = ed.at; before = ed.after; after = ed.before; left = h ls is })
 changes_inv (Binary old new) e e' h c = (c.1, c.0, h old c.0)
+changes_inv (Replace set old new) e e' h (ls, ls', is, is', t) = (ls', ls, is', is, turned_back set old new ls ls' t (h ls is))
 
 around_inv : (w : Work) (f : Path) (t u : Map) → IsLawful t → IsLawful u → WorksAt f w t u → Around (inv_work w) f u
 around_inv AddFile f t u lt lu h = tt
@@ -48,6 +50,7 @@ around_inv AddDir f t u lt lu h = λ n r. h.elsewhere (f ++ n ∷ r) (λ e. let 
 around_inv RmDir f t u lt lu h = parent_kept t u f h.elsewhere (parent_of t lt f (λ e. let x : u [] ≡ Some Dir = lu.root in let y : u f ≡ None = h.here.1 in let z : u [] ≡ None = rw e at y in cc) (λ e. let y : t f ≡ Some Dir = h.here.0 in cc))
 around_inv (Hunk l old new) f t u lt lu h = tt
 around_inv (Binary old new) f t u lt lu h = tt
+around_inv (Replace set old new) f t u lt lu h = tt
 
 pub swaps_inv : (a b : Path) (t u : Map) → IsLawful t → Swaps a b t u → Swaps b a u t
 swaps_inv a b t u l s = record {
@@ -92,6 +95,7 @@ present_parent AddDir f t u l nr h k = h.around
 present_parent RmDir f t u l nr h k = absurd (k h.here.1)
 present_parent (Hunk l1 old new) f t u l nr h k = parent_of t l f nr (λ e. let y : t f ≡ Some (File h.here.0) = h.here.2 in cc)
 present_parent (Binary old new) f t u l nr h k = parent_of t l f nr (λ e. let y : t f ≡ Some (File old) = h.here.0 in cc)
+present_parent (Replace set old new) f t u l nr h k = parent_of t l f nr (λ e. let y : t f ≡ Some (File h.here.0) = h.here.2 in cc)
 
 -- a directory on which work was done has nothing in it
 pub emptied : (w : Work) (f : Path) (t u : Map) → WorksAt f w t u → t f ≡ Some Dir → (n : Name) → t (f ++ n ∷ []) ≡ None
@@ -101,6 +105,7 @@ emptied AddDir f t u h d n = let y : t f ≡ None = h.here.0 in cc
 emptied RmDir f t u h d n = h.around n []
 emptied (Hunk l1 old new) f t u h d n = let y : t f ≡ Some (File h.here.0) = h.here.2 in cc
 emptied (Binary old new) f t u h d n = let y : t f ≡ Some (File old) = h.here.0 in cc
+emptied (Replace set old new) f t u h d n = let y : t f ≡ Some (File h.here.0) = h.here.2 in cc
 
 pub lines_after : (w : Work) (f : Path) (t u : Map) → WorksAt f w t u → (ls : Lines) → u f ≡ Some (File ls) → ls ≢ []
 lines_after AddFile f t u h ls e z = let y : u f ≡ Some empty_file = h.here.1 in cc
@@ -109,6 +114,7 @@ lines_after AddDir f t u h ls e z = let y : u f ≡ Some Dir = h.here.1 in cc
 lines_after RmDir f t u h ls e z = let y : u f ≡ None = h.here.1 in cc
 lines_after (Hunk l1 old new) f t u h ls e z = let y : u f ≡ Some (File h.here.1) = h.here.3 in h.here.4.left (cc)
 lines_after (Binary old new) f t u h ls e z = let y : u f ≡ Some (File new) = h.here.1 in h.here.2 (cc)
+lines_after (Replace set old new) f t u h ls e z = let y : u f ≡ Some (File h.here.1) = h.here.3 in h.here.4.left (cc)
 
 pub works_kept : (w : Work) (f : Path) (t u : Map) → f ≢ [] → IsLawful t → WorksAt f w t u → IsLawful u
 works_kept w f t u nr l h = record {

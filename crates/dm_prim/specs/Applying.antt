@@ -1,13 +1,17 @@
 -- What applying primitives to a tree may answer.
-use Rattle.std.specs.Prelude.{◌≡◌, ◌≢◌, ℕ, List, ◌∷◌, ◌++◌, take, Some, None, Result, Ok, Err}
+use Rattle.std.specs.Prelude.{◌≡◌, ◌≢◌, ◌≤◌, ◌<◌, ◌⊎◌, ℕ, List, ◌∷◌, ◌++◌, take, Contains, Some, None, Result, Ok, Err}
 use Rattle.std.specs.FinMap as map
 use Rattle.dm_tree.specs.declared.fault.TreeFault.{TreeFault}
-use Rattle.dm_tree.specs.declared.fault.TreeFault.TheVariants.{Missing, NotFile, OldDiffers, TooDeep, NoMemory}
+use Rattle.dm_tree.specs.declared.fault.TreeFault.TheVariants.{Missing, NotFile, OldDiffers, TokenThere, TooLarge, TooDeep, NoMemory}
 use Rattle.dm_tree.specs.Paths.{Path}
 use Rattle.dm_tree.specs.Trees.{Lines, Dir, File, Map, Tree, Deep}
 use Rattle.dm_tree.specs.Changes.{AddAnswers, RemoveFileAnswers, RemoveDirAnswers, RenameAnswers, EditAnswers}
+use Rattle.dm_tree.specs.Listings.{file_size}
+use Rattle.dm_tokens.specs.Turning.{TurnAll}
+use Rattle.dm_tokens.specs.Sets.{ByteSet, set_of}
+use Rattle.dm_tokens.specs.Pieces.{HasPiece}
 use Rattle.dm_prim.specs.InTurn.{InTurn}
-use Rattle.dm_prim.specs.Primitives.{AddFile, RmFile, AddDir, RmDir, Hunk, Binary, Prim, At, Move, ChangePref, Applies}
+use Rattle.dm_prim.specs.Primitives.{AddFile, RmFile, AddDir, RmDir, Hunk, Binary, Replace, Prim, At, Move, ChangePref, Applies, TurnsLines, most_turned}
 
 -- when a fault may come: the primitive does not apply, or it does and what it makes is too deep; memory may run out at any time
 abbrev pub AdmitsFault : Prim → Map → TreeFault → Type 0
@@ -29,6 +33,34 @@ BinaryAnswers m p old (Err OldDiffers) = (ls : Lines) × (m p ≡ Some (File ls)
 BinaryAnswers m p old (Err NoMemory) = m p ≡ Some (File old)
 BinaryAnswers m p old (Err e) = ⊥
 
+-- the new token, which isn't the old one, stands in one of the lines
+pub record HasNewToken (set_text old new : List ℕ) (ls : Lines) : Type 0 where
+  pub set : ByteSet
+  pub means : set_of set_text ≡ Some set
+  pub differ : old ≢ new
+  pub line : List ℕ
+  pub among : Contains ls line
+  pub there : HasPiece set line new
+
+-- the lines turn, but to too many bytes
+pub record GrowsTooLarge (set_text old new : List ℕ) (ls : Lines) : Type 0 where
+  pub set : ByteSet
+  pub means : set_of set_text ≡ Some set
+  pub lines : Lines
+  pub turned : TurnAll set old new ls lines
+  pub large : most_turned < file_size lines
+
+-- what a replace at p may answer: the file may not be too large, no line may have the new token unless it is the old one, and the turned file may
+-- not be too large
+abbrev pub ReplaceAnswers : {T : Type 0} → Map → Path → List ℕ → List ℕ → List ℕ → Result T TreeFault → Type 0
+ReplaceAnswers m p set old new (Ok x) = (ls : Lines) × (ls' : Lines) × (m p ≡ Some (File ls)) × TurnsLines set old new ls ls'
+ReplaceAnswers m p set old new (Err Missing) = m p ≡ None
+ReplaceAnswers m p set old new (Err NotFile) = m p ≡ Some Dir
+ReplaceAnswers m p set old new (Err TokenThere) = (ls : Lines) × (m p ≡ Some (File ls)) × (file_size ls ≤ most_turned) × HasNewToken set old new ls
+ReplaceAnswers m p set old new (Err TooLarge) = (ls : Lines) × (m p ≡ Some (File ls)) × ((most_turned < file_size ls) ⊎ ((file_size ls ≤ most_turned) × GrowsTooLarge set old new ls))
+ReplaceAnswers m p set old new (Err NoMemory) = (ls : Lines) × (ls' : Lines) × (m p ≡ Some (File ls)) × TurnsLines set old new ls ls'
+ReplaceAnswers m p set old new (Err e) = ⊥
+
 -- which fault comes, by what stood there before: that of the tree's call which the primitive is; a change of a preference has none
 abbrev pub FaultsAs : {T : Type 0} → Prim → Map → Result T TreeFault → Type 0
 FaultsAs (At p AddFile) m r = AddAnswers m p r
@@ -37,6 +69,7 @@ FaultsAs (At p AddDir) m r = AddAnswers m p r
 FaultsAs (At p RmDir) m r = RemoveDirAnswers m p r
 FaultsAs (At p (Hunk n old new)) m r = EditAnswers m p n old new r
 FaultsAs (At p (Binary old new)) m r = BinaryAnswers m p old r
+FaultsAs (At p (Replace set old new)) m r = ReplaceAnswers m p set old new r
 FaultsAs (Move a b) m r = RenameAnswers m a b r
 FaultsAs (ChangePref name old new) m (Ok x) = Unit {0}
 FaultsAs (ChangePref name old new) m (Err e) = ⊥

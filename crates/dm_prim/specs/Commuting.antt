@@ -2,8 +2,9 @@
 use Rattle.std.specs.Prelude.{◌≡◌, ◌≢◌, ℕ, ◌+◌, ◌<◌, ◌^◌, ◌&&◌, ◌||◌, ◌==◌, nat_le, Bool, false, List, [], length}
 use Rattle.std.specs.List.{list_any}
 use Rattle.dm_tree.specs.Validity.{IsValidPath, IsPlain, ArePlain}
+use Rattle.dm_tokens.specs.Validity.{AreTokens}
 use Rattle.dm_prim.specs.Rectangles.{Rectangle}
-use Rattle.dm_prim.specs.Primitives.{Work, AddFile, RmFile, AddDir, RmDir, Hunk, Binary, Prim, At, Move, ChangePref}
+use Rattle.dm_prim.specs.Primitives.{Work, AddFile, RmFile, AddDir, RmDir, Hunk, Binary, Replace, Prim, At, Move, ChangePref}
 use Rattle.dm_prim.specs.Table.{TableRow}
 
 -- the lines of a file are counted from 1 to 4,294,967,295
@@ -18,7 +19,8 @@ is_space b = nat_le 9 b && nat_le b 13 || b == 32
 abbrev pub IsPreference : List ℕ → List ℕ → List ℕ → Type 0
 IsPreference name old new = (name ≢ []) × (list_any is_space name ≡ false) × IsPlain old × IsPlain new
 
--- a hunk has a line in range, an old or a new line, and no newline in any of them; a file has at least one line
+-- a hunk has a line in range, an old or a new line, and no newline in any of them; a file has at least one line; tokens are of a set without
+-- the newline
 abbrev pub IsValidWork : Work → Type 0
 IsValidWork AddFile = Unit {0}
 IsValidWork RmFile = Unit {0}
@@ -26,6 +28,7 @@ IsValidWork AddDir = Unit {0}
 IsValidWork RmDir = Unit {0}
 IsValidWork (Hunk l old new) = IsLineNumber l × (0 < length old + length new) × ArePlain old × ArePlain new
 IsValidWork (Binary old new) = (old ≢ []) × (new ≢ []) × ArePlain old × ArePlain new
+IsValidWork (Replace set old new) = AreTokens (record { set = set; old = old; new = new })
 
 -- a primitive that may be: its paths and its work are valid
 abbrev pub IsValidPrim : Prim → Type 0

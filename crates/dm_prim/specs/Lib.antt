@@ -7,7 +7,9 @@ pub mod Laws
 pub mod Hunks
 pub mod Binaries
 pub mod Preferences
+pub mod Replaces
 pub mod Prims
 pub mod Applying
 pub mod Touch
+pub mod Turning
 pub mod Sketches

@@ -1,11 +1,15 @@
--- Primitive patches, their inverses, and what each does to a tree (Darcs.Patch.Prim.V1; this profile's own: `rmfile` wants an empty file, `rmdir` an empty directory, and a hunk or a binary leaves at least one line).
-use Rattle.std.specs.Prelude.{◌≡◌, ◌≢◌, ℕ, List, [], ◌∷◌, ◌++◌, Option, Some, None}
+-- Primitive patches, their inverses, and what each does to a tree (Darcs.Patch.Prim.V1; this profile's own: `rmfile` wants an empty file, `rmdir` an empty directory, and a hunk, a binary or a replace leaves at least one line).
+use Rattle.std.specs.Prelude.{◌≡◌, ◌≢◌, ◌≤◌, ℕ, List, [], ◌∷◌, ◌++◌, Option, Some, None}
 use Rattle.dm_tree.specs.Paths.{Name, Path}
 use Rattle.dm_tree.specs.Trees.{Lines, Entry, Dir, File, Map, HasParent, IsLawful, empty_file}
 use Rattle.dm_tree.specs.Changes.{MayMove, Renamed, ReplacesLines}
+use Rattle.dm_tree.specs.Listings.{file_size}
+use Rattle.dm_tokens.specs.Turning.{TurnAll}
+use Rattle.dm_tokens.specs.Validity.{AreOfSet}
 use Rattle.dm_prim.specs.InTurn.{InTurn}
 
--- what is done at one path; a hunk has a line, counted from 1, and the old lines that new lines replace there; a binary has all lines of the file, before and after
+-- what is done at one path; a hunk has a line, counted from 1, and the old lines that new lines replace there; a binary has all lines of the file, before and after;
+-- a replace has the text of a set, and the token that becomes another one
 pub data Work : Type 0 where
   AddFile : Work
   RmFile : Work
@@ -13,6 +17,7 @@ pub data Work : Type 0 where
   RmDir : Work
   Hunk : ℕ → Lines → Lines → Work
   Binary : Lines → Lines → Work
+  Replace : List ℕ → List ℕ → List ℕ → Work
 
 -- a primitive is work at a path, a move of all that is at or under a path to another, or another value for the preference of this name
 pub data Prim : Type 0 where
@@ -20,7 +25,7 @@ pub data Prim : Type 0 where
   Move : Path → Path → Prim
   ChangePref : List ℕ → List ℕ → List ℕ → Prim
 
--- adding and removing undo each other, and a hunk and a binary are undone with old and new exchanged
+-- adding and removing undo each other, and a hunk, a binary and a replace are undone with old and new exchanged
 abbrev pub inv_work : Work → Work
 inv_work AddFile = RmFile
 inv_work RmFile = AddFile
@@ -28,6 +33,7 @@ inv_work AddDir = RmDir
 inv_work RmDir = AddDir
 inv_work (Hunk l old new) = Hunk l new old
 inv_work (Binary old new) = Binary new old
+inv_work (Replace set old new) = Replace set new old
 
 -- the inverse of a primitive; a move is undone by the move back, another value by the old one
 abbrev pub inv : Prim → Prim
@@ -40,6 +46,18 @@ abbrev pub inv_all : List Prim → List Prim
 inv_all [] = []
 inv_all (p ∷ ps) = inv_all ps ++ inv p ∷ []
 
+-- the most bytes of a file in which tokens are replaced
+abbrev pub most_turned : ℕ
+most_turned = 4194304
+
+-- each line turns, by the set that the text means, of which both are tokens; a line is left; and the file isn't too large, before and after
+pub record TurnsLines (set_text old new : List ℕ) (ls ls' : Lines) : Type 0 where
+  pub tokens : AreOfSet set_text old new
+  pub turned : TurnAll tokens.set old new ls ls'
+  pub left : ls' ≢ []
+  pub was_small : file_size ls ≤ most_turned
+  pub is_small : file_size ls' ≤ most_turned
+
 -- what work finds at its path, and what it leaves there
 abbrev pub Changes : Work → Option Entry → Option Entry → Type 0
 Changes AddFile e e' = (e ≡ None) × (e' ≡ Some empty_file)
@@ -48,6 +66,7 @@ Changes AddDir e e' = (e ≡ None) × (e' ≡ Some Dir)
 Changes RmDir e e' = (e ≡ Some Dir) × (e' ≡ None)
 Changes (Hunk l old new) e e' = (ls : Lines) × (ls' : Lines) × (e ≡ Some (File ls)) × (e' ≡ Some (File ls')) × ReplacesLines l old new ls ls'
 Changes (Binary old new) e e' = (e ≡ Some (File old)) × (e' ≡ Some (File new)) × (new ≢ [])
+Changes (Replace set old new) e e' = (ls : Lines) × (ls' : Lines) × (e ≡ Some (File ls)) × (e' ≡ Some (File ls')) × TurnsLines set old new ls ls'
 
 -- what work asks of the tree around its path: a directory that holds what is added, nothing in a directory that is removed
 abbrev pub Around : Work → Path → Map → Type 0
@@ -57,6 +76,7 @@ Around AddDir p t = HasParent p t
 Around RmDir p t = (n : Name) (r : Path) → t (p ++ n ∷ r) ≡ None
 Around (Hunk l old new) p t = Unit {0}
 Around (Binary old new) p t = Unit {0}
+Around (Replace set old new) p t = Unit {0}
 
 -- work w at p makes t' of t
 pub record WorksAt (p : Path) (w : Work) (t t' : Map) : Type 0 where

@@ -8,8 +8,9 @@ use Rattle.dm_prim.specs.Laws.{PairLaws, ListLaws}
 use Rattle.dm_prim.specs.Hunks.{hunk_of}
 use Rattle.dm_prim.specs.Binaries.{binary_of}
 use Rattle.dm_prim.specs.Preferences.{preference_of}
+use Rattle.dm_prim.specs.Replaces.{replace_of}
 use Rattle.dm_prim.specs.declared.primitive.Primitive.{Primitive}
-use Rattle.dm_prim.specs.declared.primitive.Primitive.TheVariants.{AddFile, RmFile, AddDir, RmDir, Move, Hunk, Binary, ChangePref}
+use Rattle.dm_prim.specs.declared.primitive.Primitive.TheVariants.{AddFile, RmFile, AddDir, RmDir, Move, Hunk, Binary, Replace, ChangePref}
 
 -- the primitive that a value is
 abbrev pub prim_of : {Z : Type 0} → Primitive Z → primitives.Prim
@@ -20,6 +21,7 @@ prim_of (RmDir p) = primitives.At p primitives.RmDir
 prim_of (Move a b) = primitives.Move a b
 prim_of (Hunk h) = hunk_of h
 prim_of (Binary b) = binary_of b
+prim_of (Replace r) = replace_of r
 prim_of (ChangePref c) = preference_of c
 
 abbrev pub prims_of : {Z : Type 0} → List (Primitive Z) → List primitives.Prim

@@ -1,9 +1,9 @@
 -- When two primitives change places: this project's table, made after Darcs.Patch.Prim.V1.Commute, row by row.
--- File work is adding or removing a file, a hunk and a binary; directory work is adding or removing a directory.
+-- File work is adding or removing a file, a hunk, a binary and a replace; directory work is adding or removing a directory.
 use Rattle.std.specs.Prelude.{◌≡◌, ◌≢◌, ℕ, ◌+◌, ◌<◌, List, length, ◌⊎◌}
 use Rattle.dm_tree.specs.Paths.{Path, Inside, Apart, forward}
 use Rattle.dm_tree.specs.Trees.{Lines}
-use Rattle.dm_prim.specs.Primitives.{Work, AddFile, RmFile, AddDir, RmDir, Hunk, Binary, Prim, At, Move, ChangePref}
+use Rattle.dm_prim.specs.Primitives.{Work, AddFile, RmFile, AddDir, RmDir, Hunk, Binary, Replace, Prim, At, Move, ChangePref}
 
 -- directory work; all other work is file work
 abbrev pub IsDirectoryWork : Work → Type 0
@@ -13,6 +13,7 @@ IsDirectoryWork AddDir = Unit {0}
 IsDirectoryWork RmDir = Unit {0}
 IsDirectoryWork (Hunk l old new) = ⊥
 IsDirectoryWork (Binary old new) = ⊥
+IsDirectoryWork (Replace set old new) = ⊥
 
 -- work after which the file is still there, and was there before
 abbrev pub KeepsFile : Work → Type 0
@@ -22,6 +23,7 @@ KeepsFile AddDir = ⊥
 KeepsFile RmDir = ⊥
 KeepsFile (Hunk l old new) = Unit {0}
 KeepsFile (Binary old new) = Unit {0}
+KeepsFile (Replace set old new) = Unit {0}
 
 abbrev pub IsHunk : Work → Type 0
 IsHunk AddFile = ⊥
@@ -30,6 +32,7 @@ IsHunk AddDir = ⊥
 IsHunk RmDir = ⊥
 IsHunk (Hunk l old new) = Unit {0}
 IsHunk (Binary old new) = ⊥
+IsHunk (Replace set old new) = ⊥
 
 -- of two hunks with o1 and o2 old lines, n1 and n2 new ones, the one that ends before line e lies above line m:
 -- a line stands between them, or they touch and none of the four counts is zero

@@ -1,16 +1,20 @@
 //! What a primitive does to a tree.
-ghost use Rattle.std.specs.Prelude.{◌≡◌, ◌≢◌, ◌↔◌, Some, IsTrue, length};
+ghost use Rattle.std.specs.Prelude.{◌≡◌, ◌≢◌, ◌↔◌, Some, Err, IfErr, IfNone, IfOk, IfSome, IsTrue, length};
 ghost use Rattle.std.specs.FinMap as map;
 ghost use Rattle.dm_tree.specs.Trees.{path_cmp, File, Lines as TreeLines};
 ghost use Rattle.dm_prim.specs.Primitives.{AddFile, RmFile, AddDir, RmDir, At, Move};
 ghost use Rattle.dm_prim.specs.Hunks.{hunk_of};
 ghost use Rattle.dm_prim.specs.Binaries.{binary_of};
+ghost use Rattle.dm_prim.specs.Replaces.{replace_of};
 ghost use Rattle.dm_prim.specs.Prims.{prim_of, prims_of};
 ghost use Rattle.dm_prim.specs.Applying.{Applied, AppliedAll, FaultsAs};
+ghost use Rattle.dm_prim.specs.Turning.{TurnsBy};
 
 use crate::binary::Binary;
 use crate::hunk::Hunk;
 use crate::primitive::Primitive;
+use crate::replace::Replace;
+use crate::turning::{TurnedFile, turn_lines};
 use dm_tree::laws::tree_is_lawful;
 use dm_tree::{Entry, Path, Tree, TreeFault};
 use std::alloc::Allocator;
@@ -32,7 +36,8 @@ pub fn apply<A: Allocator + Copy, B: Allocator>(
         Primitive::RmDir(path) => remove_dir(tree, path),
         Primitive::Move(from, to) => rename(tree, from, to),
         Primitive::Hunk(hunk) => edit(tree, hunk),
-        Primitive::Binary(binary) => replace(tree, binary),
+        Primitive::Binary(binary) => rewrite(tree, binary),
+        Primitive::Replace(replace) => turn(tree, replace),
         Primitive::ChangePref(_) => Ok(()),
     }
 }
@@ -121,7 +126,7 @@ fn edit<A: Allocator + Copy, B: Allocator>(
 
 /// Replaces all lines of a file. Where there are as many of them as old lines, an edit at the first
 /// line replaces them all.
-fn replace<A: Allocator + Copy, B: Allocator>(
+fn rewrite<A: Allocator + Copy, B: Allocator>(
     tree: &mut Tree<A>,
     binary: &Binary<B>,
 ) -> Result<(), TreeFault>
@@ -142,5 +147,35 @@ fn has_other_count<A: Allocator, B: Allocator>(tree: &Tree<A>, path: &Path<B>, c
         None => false,
         Some(Entry::Dir) => false,
         Some(Entry::File(file)) => file.count() != count,
+    }
+}
+
+/// Turns all lines of a file. Where each stays as it is, nothing is written.
+fn turn<A: Allocator + Copy, B: Allocator>(
+    tree: &mut Tree<A>,
+    replace: &Replace<B>,
+) -> Result<(), TreeFault>
+    ensures change { Applied (replace_of replace.now) tree.old tree.new result }
+    ensures fault { FaultsAs (replace_of replace.now) (map.get tree.old) result }
+{
+    match turned_at(tree, replace)? {
+        None => Ok(()),
+        Some(turned) => tree.edit(replace.path(), 1, &turned.old, &turned.new),
+    }
+}
+
+/// What the lines of the file turn to; none where each stays as it is.
+fn turned_at<A: Allocator + Copy, B: Allocator>(
+    tree: &Tree<A>,
+    replace: &Replace<B>,
+) -> Result<Option<TurnedFile<A>>, TreeFault>
+    ensures same { IfOk result (λ t. IfNone t ((ls : TreeLines) × (map.get tree.now replace.now.path ≡ Some (File ls)) × TurnsBy replace.now.words ls ls)) }
+    ensures turned { IfOk result (λ t. IfSome t (λ f. (map.get tree.now replace.now.path ≡ Some (File f.old)) × TurnsBy replace.now.words f.old f.new)) }
+    ensures fault { IfErr result (λ e. FaultsAs {T = Unit {0}} (replace_of replace.now) (map.get tree.now) (Err e)) }
+{
+    match tree.entry(replace.path()) {
+        None => Err(TreeFault::Missing),
+        Some(Entry::Dir) => Err(TreeFault::NotFile),
+        Some(Entry::File(file)) => turn_lines(&file, replace.tokens()),
     }
 }

@@ -19,6 +19,7 @@ pub fn invert<A: Allocator>(prim: Primitive<A>) -> Primitive<A>
         Primitive::Move(from, to) => Primitive::Move(to, from),
         Primitive::Hunk(hunk) => Primitive::Hunk(hunk.inverse()),
         Primitive::Binary(binary) => Primitive::Binary(binary.inverse()),
+        Primitive::Replace(replace) => Primitive::Replace(replace.inverse()),
         Primitive::ChangePref(change) => Primitive::ChangePref(change.inverse()),
     }
 }

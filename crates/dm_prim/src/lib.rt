@@ -1,12 +1,13 @@
 //! Primitive patches, the smallest changes of a tree: what each does, what undoes it, and when two of
 //! them, or two lists, change places.
 //!
-//! It stands on `dm_tree`. [`apply`] changes a tree as the definition of its primitive says, or returns
-//! the first fault and changes nothing. [`commute`] returns what this project's table, made after
-//! Darcs.Patch.Prim.V1.Commute, relates, and none only where it relates nothing; of each answer its
-//! contract tells three laws: both orders have the same end on every tree, the answer commutes back,
-//! and it commutes past the inverse. [`commute_lists`] does the same for lists. The laws of all values
-//! stand in [`laws`]; none has the premise that a patch ever applies.
+//! It stands on `dm_tree`, and on `dm_tokens` for what a replace does to a line. [`apply`] changes a
+//! tree as the definition of its primitive says, or returns the first fault and changes nothing.
+//! [`commute`] returns what this project's table, made after Darcs.Patch.Prim.V1.Commute, relates, and
+//! none only where it relates nothing; of each answer its contract tells three laws: both orders have
+//! the same end on every tree, the answer commutes back, and it commutes past the inverse.
+//! [`commute_lists`] does the same for lists. The laws of all values stand in [`laws`]; none has the
+//! premise that a patch ever applies.
 #![tactic(auto)]
 
 mod binary;
@@ -19,8 +20,10 @@ mod pair;
 mod places;
 mod preference;
 mod primitive;
+mod replace;
 mod sketch;
 mod touched;
+mod turning;
 
 pub use binary::{Binary, NoContent};
 pub use effect::{apply, apply_all};
@@ -30,4 +33,6 @@ pub use list::{commute_lists, commute_lists_owned};
 pub use pair::commute;
 pub use preference::{BadPreference, Preference};
 pub use primitive::Primitive as Prim;
+pub use replace::Replace;
 pub use touched::{Touched, apart, touch};
+pub use turning::MOST_TURNED;

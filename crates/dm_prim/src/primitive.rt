@@ -9,6 +9,7 @@ ghost use Rattle.dm_prim.specs.Prims.{prim_of, path_of, work_of, IsWork, NamesAP
 use crate::binary::Binary;
 use crate::hunk::Hunk;
 use crate::preference::Preference;
+use crate::replace::Replace;
 use dm_tree::Path;
 use std::alloc::{AllocError, Allocator};
 
@@ -23,6 +24,7 @@ pub enum Primitive<A: Allocator> {
     Move(Path<A>, Path<A>),
     Hunk(Hunk<A>),
     Binary(Binary<A>),
+    Replace(Replace<A>),
     ChangePref(Preference<A>),
 }
 
@@ -45,6 +47,7 @@ impl<A: Allocator> Primitive<A> {
             }
             Primitive::Hunk(hunk) => Ok(Primitive::Hunk(hunk.copy_into(alloc)?)),
             Primitive::Binary(binary) => Ok(Primitive::Binary(binary.copy_into(alloc)?)),
+            Primitive::Replace(replace) => Ok(Primitive::Replace(replace.copy_into(alloc)?)),
             Primitive::ChangePref(change) => Ok(Primitive::ChangePref(change.copy_into(alloc)?)),
         }
     }
@@ -69,6 +72,7 @@ impl<A: Allocator> Primitive<A> {
             Primitive::Move(_, _) => true,
             Primitive::Hunk(_) => true,
             Primitive::Binary(_) => true,
+            Primitive::Replace(_) => true,
             Primitive::ChangePref(_) => false,
         }
     }
@@ -86,6 +90,7 @@ impl<A: Allocator> Primitive<A> {
             Primitive::Move(from, _) => from,
             Primitive::Hunk(hunk) => hunk.path(),
             Primitive::Binary(binary) => binary.path(),
+            Primitive::Replace(replace) => replace.path(),
             Primitive::ChangePref(_) => unreachable!(),
         }
     }
@@ -104,6 +109,7 @@ impl<A: Allocator> Primitive<A> {
             Primitive::Move(_, to) => Some(to),
             Primitive::Hunk(_) => None,
             Primitive::Binary(_) => None,
+            Primitive::Replace(_) => None,
             Primitive::ChangePref(_) => None,
         }
     }
@@ -135,6 +141,7 @@ impl<A: Allocator> Primitive<A> {
             Primitive::Binary(binary) => {
                 let _ = binary.path();
             }
+            Primitive::Replace(replace) => replace.tells_valid(),
             Primitive::ChangePref(change) => {
                 let _ = change.name();
             }
@@ -152,6 +159,7 @@ impl<A: Allocator> Primitive<A> {
             Primitive::Move(_, _) => false,
             Primitive::Hunk(_) => false,
             Primitive::Binary(_) => false,
+            Primitive::Replace(_) => false,
             Primitive::ChangePref(_) => false,
         }
     }
@@ -167,6 +175,7 @@ impl<A: Allocator> Primitive<A> {
             Primitive::Move(_, _) => false,
             Primitive::Hunk(_) => true,
             Primitive::Binary(_) => true,
+            Primitive::Replace(_) => true,
             Primitive::ChangePref(_) => false,
         }
     }
@@ -185,6 +194,7 @@ impl<A: Allocator> Primitive<A> {
             Primitive::Move(from, to) => Ok((from, to)),
             Primitive::Hunk(hunk) => Err(Primitive::Hunk(hunk)),
             Primitive::Binary(binary) => Err(Primitive::Binary(binary)),
+            Primitive::Replace(replace) => Err(Primitive::Replace(replace)),
             Primitive::ChangePref(change) => Err(Primitive::ChangePref(change)),
         }
     }
@@ -203,6 +213,7 @@ impl<A: Allocator> Primitive<A> {
             Primitive::Move(_, _) => None,
             Primitive::Hunk(hunk) => Some(hunk),
             Primitive::Binary(_) => None,
+            Primitive::Replace(_) => None,
             Primitive::ChangePref(_) => None,
         }
     }
@@ -220,6 +231,7 @@ impl<A: Allocator> Primitive<A> {
             Primitive::Move(_, _) => unreachable!(),
             Primitive::Hunk(hunk) => Primitive::Hunk(hunk.at(path)),
             Primitive::Binary(binary) => Primitive::Binary(binary.at(path)),
+            Primitive::Replace(replace) => Primitive::Replace(replace.at(path)),
             Primitive::ChangePref(_) => unreachable!(),
         }
     }

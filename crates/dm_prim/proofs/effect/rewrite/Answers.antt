@@ -2,7 +2,7 @@ use Rattle.std.proofs.Common.{refl}
 use Rattle.std.specs.FinMap as map
 use Rattle.dm_tree.proofs.Fronts.{refuted}
 use Rattle.dm_prim.proofs.ApplyLemmas.{refuses_count, refuses_as, replaces, replaces_as}
-use Rattle.dm_prim.proofs.effect.replace.Goals as goal
+use Rattle.dm_prim.proofs.effect.rewrite.Goals as goal
 
 pub returns-then-has_other_count-clause-change : goal.returns-then-has_other_count-clause-change
 returns-then-has_other_count-clause-change g c =

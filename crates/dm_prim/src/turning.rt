@@ -1,0 +1,127 @@
+//! What the lines of a file turn to.
+ghost use Rattle.std.specs.Prelude.{◌≡◌, ◌++◌, ◌≤◌, ◌<◌, IfErr, IfNone, IfOk, IfSome, MatchBool, false, length};
+ghost use Rattle.dm_tree.specs.Listings.{file_size};
+ghost use Rattle.dm_tree.specs.Trees.{Lines as TreeLines};
+ghost use Rattle.dm_tokens.specs.Pieces.{IsToken};
+ghost use Rattle.dm_tokens.specs.Sets.{in_table};
+ghost use Rattle.dm_tokens.specs.Turning.{TurnAll};
+ghost use Rattle.dm_prim.specs.Primitives.{most_turned};
+ghost use Rattle.dm_prim.specs.Turning.{FailsToTurn, LinesTurnAs, TurnsBy};
+
+use dm_tokens::{TokenSet, Tokens, Turned, room_after, turn_into, turns};
+use dm_tree::{FileRef, Lines, TreeFault};
+use std::alloc::{AllocError, Allocator};
+
+/// A file in which tokens are replaced has at most so many bytes, before and after. So a short text can't ask for any memory: a new
+/// token may be made of old ones of the next replace.
+pub const MOST_TURNED: usize = 4_194_304;
+
+/// All lines of a file, and what they turn to.
+#[derive(Drop)]
+pub(crate) struct TurnedFile<A: Allocator> {
+    pub(crate) old: Lines<A>,
+    pub(crate) new: Lines<A>,
+}
+
+/// What the lines of a file turn to; none where each stays as it is. All are read before one is
+/// copied, and nothing is copied of a file that would be too large.
+pub(crate) fn turn_lines<A: Allocator + Copy, B: Allocator>(
+    file: &FileRef<'_, A>,
+    tokens: &Tokens<B>,
+) -> Result<Option<TurnedFile<A>>, TreeFault>
+    ensures same { IfOk result (λ t. IfNone t (TurnsBy tokens.now file.now file.now)) }
+    ensures turned { IfOk result (λ t. IfSome t (λ f. (f.old ≡ file.now) × TurnsBy tokens.now file.now f.new)) }
+    ensures fault { IfErr result (λ e. FailsToTurn tokens.now file.now e) }
+{
+    if file.bytes() > MOST_TURNED as u128 {
+        return Err(TreeFault::TooLarge);
+    }
+    let set = tokens.token_set();
+    match lines_turn(file, &set, tokens.old(), tokens.new_token()) {
+        Turned::Same => Ok(None),
+        Turned::Nothing => Err(TreeFault::TokenThere),
+        Turned::Other => {
+            if !stays_small(file, &set, tokens.old(), tokens.new_token()) {
+                return Err(TreeFault::TooLarge);
+            }
+            let old = copy_lines(file)?;
+            let new = turn_each(file, &set, tokens.old(), tokens.new_token())?;
+            Ok(Some(TurnedFile { old, new }))
+        }
+    }
+}
+
+/// What the lines turn to.
+fn lines_turn<A: Allocator>(file: &FileRef<'_, A>, set: &TokenSet, old: &[u8], new: &[u8]) -> Turned
+    ensures turned { LinesTurnAs (in_table set.now) old.now new.now file.now result }
+    ensures some { 0 < length file.now }
+{
+    let mut turned = Turned::Same;
+    let mut lines = file.lines();
+    while let Some(line) = lines.next() {
+        match turns(set, old, new, line) {
+            Turned::Same => {}
+            Turned::Other => turned = Turned::Other,
+            Turned::Nothing => return Turned::Nothing,
+        }
+    }
+    turned
+}
+
+/// Whether the turned lines have no more bytes than a file may have. None is written.
+fn stays_small<A: Allocator>(file: &FileRef<'_, A>, set: &TokenSet, old: &[u8], new: &[u8]) -> bool
+    ensures { MatchBool result
+        ((ls : TreeLines) → TurnAll (in_table set.now) old.now new.now file.now ls → file_size ls ≤ most_turned)
+        ((ls : TreeLines) → TurnAll (in_table set.now) old.now new.now file.now ls → most_turned < file_size ls) }
+{
+    // A byte more, since the last line has no newline.
+    let mut room = MOST_TURNED + 1;
+    let mut lines = file.lines();
+    while let Some(line) = lines.next() {
+        let Some(left) = room_after(set, old, new, line, room) else {
+            return false;
+        };
+        if left == 0 {
+            return false;
+        }
+        room = left - 1;
+    }
+    true
+}
+
+/// A copy of the lines.
+fn copy_lines<A: Allocator + Copy>(file: &FileRef<'_, A>) -> Result<Lines<A>, AllocError>
+    ensures { IfOk result (λ copy. copy ≡ file.now) }
+{
+    let mut copy = Lines::new(file.allocator());
+    let mut lines = file.lines();
+    while let Some(line) = lines.next() {
+        copy.push_plain(line)?;
+    }
+    Ok(copy)
+}
+
+/// The turned lines, of lines that turn.
+fn turn_each<A: Allocator + Copy>(
+    file: &FileRef<'_, A>,
+    set: &TokenSet,
+    old: &[u8],
+    new: &[u8],
+) -> Result<Lines<A>, AllocError>
+    requires turn { (ls : TreeLines) × TurnAll (in_table set.now) old.now new.now file.now ls }
+    requires no_newline { in_table set.now 10 ≡ false }
+    requires token { IsToken (in_table set.now) new.now }
+    ensures { IfOk result (λ turned. TurnAll (in_table set.now) old.now new.now file.now turned) }
+{
+    let mut turned = Lines::new(file.allocator());
+    let mut text = Vec::new(file.allocator());
+    let mut lines = file.lines();
+    while let Some(line) = lines.next() {
+        text.clear();
+        if !turn_into(set, old, new, line, &mut text)? {
+            unreachable!()
+        }
+        turned.push_plain(&text)?;
+    }
+    Ok(turned)
+}
