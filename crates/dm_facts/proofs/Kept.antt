@@ -5,7 +5,7 @@ use Rattle.std.proofs.lemmas.List.Elements.{Contains-append_left, Contains-appen
 use Rattle.dm_tree.specs.Paths.{Name, Path}
 use Rattle.dm_tree.specs.Trees.{Lines, IsLawful}
 use Rattle.dm_tree.proofs.Paths.{swap, swap_inj}
-use Rattle.dm_prim.specs.Primitives.{Work, AddFile, RmFile, AddDir, RmDir, Hunk, Binary, Prim, At, Move, ChangePref}
+use Rattle.dm_prim.specs.Primitives.{Work, AddFile, RmFile, AddDir, RmDir, Hunk, Binary, Replace, Prim, At, Move, ChangePref}
 use Rattle.dm_prim.proofs.Maps.{path_dec}
 use Rattle.dm_prim.proofs.Undoing.{OffRoot, kept}
 use Rattle.dm_chain.specs.Chains.{Token, HunkSteps, lefts, Distinct, HasOnePortEach}
@@ -13,7 +13,7 @@ use Rattle.dm_chain.proofs.Members.{none_in_nil, head_is_in, distinct-left, dist
 use Rattle.dm_chain.proofs.Stepping.{steps_keep_chains}
 use Rattle.dm_facts.specs.Nodes.{Node, Folder, FileWith, NodeMap, identity, plain, IsFile, IsFolder, IsEmptyFile, IsTree}
 use Rattle.dm_facts.specs.Facts.{TokenOf, facts_of, Effect}
-use Rattle.dm_facts.specs.Steps.{Creates, Edits, Rewrites, Makes, StepsAt, StepsMove, Steps}
+use Rattle.dm_facts.specs.Steps.{Creates, Edits, Exchanges, Makes, StepsAt, StepsMove, Steps}
 use Rattle.dm_facts.specs.Identities.{subject, IsOf, ports_of, AddsNew}
 use Rattle.dm_facts.specs.Laws.{StepsKeepTrees}
 use Rattle.dm_facts.proofs.TreeLemmas.{folder_of, none_of, tree_lawful}
@@ -81,8 +81,8 @@ module _ (I : Type 0) where
             let all : HasOnePortEach h.tokens' = rw (r.after, map-append (λ z. z.left) r.front (h.added ++ r.back), map-append (λ z. z.left) h.added r.back) after in
             (rw (← file, ← same) (was.0.0, steps_keep_chains I h.file was.0.0 l old more h.taken h.added h.tokens h.tokens' was.0.1 r), rw (← same) all)
 
-    rewrite_apart : (old more : Lines) → Rewrites old more (s p) (t p) e → (x : I) (c : List (Token I)) → t p ≡ Some (FileWith x c) → IsFile x c × HasOnePortEach c
-    rewrite_apart old more h x c i =
+    exchange_apart : Exchanges (s p) (t p) e → (x : I) (c : List (Token I)) → t p ≡ Some (FileWith x c) → IsFile x c × HasOnePortEach c
+    exchange_apart h x c i =
         let file : h.file ≡ x = cc (h.there, i) in
         let same : h.tokens' ≡ c = cc (h.there, i) in
         let all : HasOnePortEach h.tokens' = rw (h.effect, ports I h.file h.tokens') at new.apart in
@@ -98,19 +98,23 @@ module _ (I : Type 0) where
     file_after AddDir d n h x c i = let same : h.node ≡ FileWith x c = cc (h.there, i) in absurd (rw same at h.is)
     file_after RmDir d n h x c i = let k : t p ≡ None = h.nothing in absurd (cc)
     file_after (Hunk l old more) d n h x c i = hunk_apart l old more h x c i
-    file_after (Binary old more) d n h x c i = rewrite_apart old more h x c i
+    file_after (Binary old more) d n h x c i = exchange_apart h.exchange x c i
+    file_after (Replace set old more) d n h x c i = exchange_apart h.exchange x c i
+
+    -- a file that keeps its identity
+    only_file : (f : I) (c c' : List (Token I)) → s p ≡ Some (FileWith f c) → t p ≡ Some (FileWith f c') → (x y : Node I) (q : Path) → t p ≡ Some x → s q ≡ Some y → identity x ≡ identity y → p ≡ q
+    only_file f c c' stood there x y q i j k =
+        let same : FileWith f c' ≡ x = cc (there, i) in
+        tree.unique p q (FileWith f c) y stood j (ap identity same ∙ k)
 
     only_one : (w : Work) (d : I) (n : Name) → Makes w d n (s p) (t p) e → (x y : Node I) (q : Path) → t p ≡ Some x → s q ≡ Some y → identity x ≡ identity y → p ≡ q
     only_one AddFile d n h x y q i j k = created IsEmptyFile d n h x y q i j k
     only_one RmFile d n h x y q i j k = let z : t p ≡ None = h.nothing in absurd (cc)
     only_one AddDir d n h x y q i j k = created IsFolder d n h x y q i j k
     only_one RmDir d n h x y q i j k = let z : t p ≡ None = h.nothing in absurd (cc)
-    only_one (Hunk l old more) d n h x y q i j k =
-        let same : FileWith h.file h.tokens' ≡ x = cc (h.there, i) in
-        tree.unique p q (FileWith h.file h.tokens) y h.stood j (ap identity same ∙ k)
-    only_one (Binary old more) d n h x y q i j k =
-        let same : FileWith h.file h.tokens' ≡ x = cc (h.there, i) in
-        tree.unique p q (FileWith h.file h.tokens) y h.stood j (ap identity same ∙ k)
+    only_one (Hunk l old more) d n h x y q i j k = only_file h.file h.tokens h.tokens' h.stood h.there x y q i j k
+    only_one (Binary old more) d n h x y q i j k = only_file h.exchange.file h.exchange.tokens h.exchange.tokens' h.exchange.stood h.exchange.there x y q i j k
+    only_one (Replace set old more) d n h x y q i j k = only_file h.exchange.file h.exchange.tokens h.exchange.tokens' h.exchange.stood h.exchange.there x y q i j k
 
     work_keeps : (w : Work) → StepsAt p w e s t → IsTree t
     work_keeps w h = record {

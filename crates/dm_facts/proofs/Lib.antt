@@ -1,4 +1,5 @@
 pub mod TreeLemmas
+pub mod TurnedTokens
 pub mod StepLemmas
 pub mod Undoing
 pub mod SquareLemmas

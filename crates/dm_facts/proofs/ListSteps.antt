@@ -2,7 +2,7 @@
 use Rattle.std.proofs.Common.{◌≡◌, ◌↔◌, inl, inr, ℕ, zero, suc, ◌≤◌, List, [], ◌∷◌, ◌++◌, length, Some, None, Contains, refl, sym, ap, subst, ◌∙◌, append-nil, append_assoc, length-append, arith}
 use Rattle.std.proofs.lemmas.List.Elements.{Contains-append_left, Contains-append_right}
 use Rattle.dm_prim.specs.InTurn.{done, step}
-use Rattle.dm_prim.specs.Primitives.{AddFile, RmFile, AddDir, RmDir, Hunk, Binary, Prim, At, Move, ChangePref, inv, inv_all, Applies, LawfulMap, LeadsAll}
+use Rattle.dm_prim.specs.Primitives.{AddFile, RmFile, AddDir, RmDir, Hunk, Binary, Replace, Prim, At, Move, ChangePref, inv, inv_all, Applies, LawfulMap, LeadsAll}
 use Rattle.dm_prim.specs.Rectangles.{CellRow, none, next, empty, row}
 use Rattle.dm_tree.specs.Paths.{Name, Path}
 use Rattle.dm_tree.specs.Trees.{Dir, File, empty_file}
@@ -38,6 +38,7 @@ off_root_between (At p RmDir) a b h = λ e. let k : b.map [] ≡ None = rw e at 
 off_root_between (ChangePref name old new) a b h = tt
 off_root_between (At p (Binary old new)) a b h = λ e. let k : a.map [] ≡ Some (File old) = rw e at h.here.0 in let r : a.map [] ≡ Some Dir = a.lawful.root in absurd (cc)
 off_root_between (At p (Hunk l old new)) a b h = λ e. let k : a.map [] ≡ Some (File h.here.0) = rw e at h.here.2 in let r : a.map [] ≡ Some Dir = a.lawful.root in absurd (cc)
+off_root_between (At p (Replace set old new)) a b h = λ e. let k : a.map [] ≡ Some (File h.here.0) = rw e at h.here.2 in let r : a.map [] ≡ Some Dir = a.lawful.root in absurd (cc)
 
 -- what undoes all of es: the inverses, in reversed order
 abbrev inverse_all : {I : Type 0} → List (Effect I) → List (Effect I)

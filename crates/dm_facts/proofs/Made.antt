@@ -2,24 +2,29 @@
 use Rattle.std.proofs.Common.{◌≡◌, ◌≢◌, ℕ, ◌≤◌, ◌*◌, ◌⊎◌, inl, inr, List, [], ◌∷◌, ◌++◌, length, map, Option, Some, None, option_map, Contains, refl, sym, ap, subst, ◌∙◌, arith}
 use Rattle.std.proofs.lemmas.List.{map-append}
 use Rattle.std.proofs.lemmas.List.Elements.{Contains-append_left, Contains-append_right}
+use Rattle.std.specs.List.{AllZip}
 use Rattle.dm_tree.specs.Paths.{Name, Path}
 use Rattle.dm_tree.specs.Trees.{Lines, Dir, File, Map, IsLawful, empty_file}
+use Rattle.dm_tree.specs.Listings.{file_size}
 use Rattle.dm_tree.specs.Changes.{ReplacesLines}
 use Rattle.dm_tree.proofs.Paths.{swap}
-use Rattle.dm_prim.specs.Primitives.{Work, AddFile, RmFile, AddDir, RmDir, Hunk, Binary, Prim, At, Move, ChangePref, Changes, WorksAt, AppliesMove, Applies}
+use Rattle.dm_tokens.specs.Turning.{TurnAll}
+use Rattle.dm_tokens.specs.Validity.{AreOfSet}
+use Rattle.dm_prim.specs.Primitives.{Work, AddFile, RmFile, AddDir, RmDir, Hunk, Binary, Replace, Prim, At, Move, ChangePref, Changes, WorksAt, AppliesMove, Applies, most_turned}
 use Rattle.dm_prim.specs.Table.{IsDirectoryWork}
 use Rattle.dm_prim.proofs.Maps.{path_dec, below_absent, swaps_from}
 use Rattle.dm_prim.proofs.Undoing.{OffRoot, parent_of}
 use Rattle.dm_prim.proofs.Single.{same_map}
-use Rattle.dm_chain.specs.Chains.{Token, Gap, Line, IsChain, HunkSteps, lefts, inner, lines_of, cuts_at, other, Distinct}
+use Rattle.dm_chain.specs.Chains.{Token, Gap, Line, IsChain, HunkSteps, lefts, inner, lines_of, cuts_at, other, Distinct, HasOnePortEach}
 use Rattle.dm_chain.proofs.Members.{none_in_nil, head_is_in, it_is_in, in_cases, distinct-left}
 use Rattle.dm_chain.proofs.Determined.{lefts-cons}
 use Rattle.dm_chain.proofs.Made.{replaced_step, lines_have_a_chain}
 use Rattle.dm_chain.proofs.Once.{left_ports}
 use Rattle.dm_facts.specs.Nodes.{Node, Folder, FileWith, NodeMap, entry_of, plain, IsFile, IsNameIn, IsTree}
 use Rattle.dm_facts.specs.Facts.{TokenOf, stands, facts_of, Effect}
-use Rattle.dm_facts.specs.Steps.{Makes, Steps}
+use Rattle.dm_facts.specs.Steps.{TurnsInPlace, Makes, Steps}
 use Rattle.dm_facts.specs.Identities.{subject, IsIn, UsesOf, ports_of, AddsNew, enough}
+use Rattle.dm_facts.proofs.TurnedTokens.{same_lefts, chain_turns, turned_tokens}
 use Rattle.dm_facts.proofs.TreeLemmas.{folder_of, text_of, none_of, some_of, name_of, tree_lawful}
 use Rattle.dm_facts.proofs.SquareLemmas.{put, put_same, put_other, moves_from}
 
@@ -185,7 +190,7 @@ module _ (I : Type 0) where
             (c' : List (Token I)) × (rest : List I) × IsChain x c' last × (lines_of c' ≡ more) × (ids ≡ inner c' ++ rest) → HasStep (At p (Binary old more)) s m ids
         made d n placed x c last is chain was (c', rest, chain', lines, all) =
             work_step p (Binary old more) s m ids tree off h d n (Some (FileWith x c')) (record { taken = map (TokenOf x) c; added = map (TokenOf x) c' }) placed (λ i. absurd i)
-            (record { file = x; tokens = c; tokens' = c'; stood = is; there = refl; was_file = (last, chain); is_file = (last, chain'); old_is = was; new_is = lines; effect = refl })
+            (record { exchange = record { file = x; tokens = c; tokens' = c'; stood = is; there = refl; was_file = (last, chain); is_file = (last, chain'); effect = refl }; old_is = was; new_is = lines })
             (ap (λ z. Some (File z)) lines ∙ sym h.here.1) listed (rw (ports x c', of_new) (λ k. new x (from_inner x k) (p, FileWith x c, is, inl refl), inner_apart))
           where
             of_new : lefts c' ≡ x ∷ inner c'
@@ -205,6 +210,32 @@ module _ (I : Type 0) where
               | inl e ↦ inl (rw (subjects x c, of_old, ← e) (head_is_in x (inner c)))
               | inr i ↦ inr (from_inner y i)
             ]
+
+    turns_file : (set old more : List ℕ) → WorksAt p (Replace set old more) (plain s) m → HasStep (At p (Replace set old more)) s m ids
+    turns_file set old more h = go h.here
+      where
+        go : Changes (Replace set old more) (plain s p) (m p) → HasStep (At p (Replace set old more)) s m ids
+        go (ls, ls', is, is', turn) =
+            let r = named p (Replace set old more) s m ids tree off h (λ k. let z : plain s p ≡ Some (File ls) = is in cc) in
+            let f = text_of I (s p) ls is in
+            let file = tree.files p f.0 f.1 f.2 in
+            made r.0 r.1 r.2 f.0 f.1 file.0.0 f.2 file.0.1 file.1 ls' is' turn.tokens
+            (turned_tokens I turn.tokens.set old more f.1 ls' (subst (λ z. TurnAll turn.tokens.set old more z ls') (sym f.3) turn.turned)) (subst (λ z. file_size z ≤ most_turned) (sym f.3) turn.was_small) turn.is_small
+          where
+            made : (d : I) (n : Name) → IsNameIn p d n s → (x : I) (c : List (Token I)) (last : I) → s p ≡ Some (FileWith x c) → IsChain x c last → HasOnePortEach c → (ls' : Lines) →
+                m p ≡ Some (File ls') → (words : AreOfSet set old more) → (c' : List (Token I)) × AllZip (TurnsInPlace words.set old more) c c' × (lines_of c' ≡ ls') →
+                file_size (lines_of c) ≤ most_turned → file_size ls' ≤ most_turned → HasStep (At p (Replace set old more)) s m ids
+            made d n placed x c last is chain each ls' is' words (c', turned, lines) was_small is_small =
+                let same : lefts c' ≡ lefts c = same_lefts I words.set old more c c' turned in
+                work_step p (Replace set old more) s m ids tree off h d n (Some (FileWith x c')) (record { taken = map (TokenOf x) c; added = map (TokenOf x) c' }) placed (λ i. absurd i)
+                (record {
+                  exchange = record { file = x; tokens = c; tokens' = c'; stood = is; there = refl; was_file = (last, chain); is_file = (last, chain_turns I words.set old more x last c c' chain turned); effect = refl };
+                  words = words;
+                  turned = turned;
+                  was_small = was_small;
+                  is_small = subst (λ z. file_size z ≤ most_turned) (sym lines) is_small;
+                })
+                (ap (λ z. Some (File z)) lines ∙ sym is') (λ y k. inl (rw (subjects x c, ← same) (rw (subjects x c') at k))) (rw (ports x c', same) each)
 
   moves : (a b : Path) (s : NodeMap I) (m : Map) (ids : List I) → IsTree s → AppliesMove a b (plain s) m → HasStep (Move a b) s m ids
   moves a b s m ids tree h =
@@ -253,6 +284,7 @@ module _ (I : Type 0) where
   has_step (At p RmDir) s m ids off tree h a k new = removes_folder p s m ids tree off a new h
   has_step (At p (Hunk l old more)) s m ids off tree h a k new = edits_file p s m ids tree off a new l old more h k
   has_step (At p (Binary old more)) s m ids off tree h a k new = rewrites_file p s m ids tree off a new old more h k
+  has_step (At p (Replace set old more)) s m ids off tree h a k new = turns_file p s m ids tree off a new set old more h
   has_step (Move a b) s m ids off tree h d k new = moves a b s m ids tree h
   has_step (ChangePref name old new) s m ids off tree h a k more =
       let e : Effect I = record { taken = []; added = [] } in record { effect = e; end = s; steps = (refl, refl); same = sym h; from_list = takes_alone e ids refl; apart = tt }

@@ -5,13 +5,13 @@ use Rattle.std.proofs.lemmas.List.Elements.{Contains-append_left, Contains-appen
 use Rattle.dm_tree.specs.Paths.{Name, Path}
 use Rattle.dm_tree.specs.Trees.{Lines}
 use Rattle.dm_tree.proofs.Paths.{swap}
-use Rattle.dm_prim.specs.Primitives.{Work, AddFile, RmFile, AddDir, RmDir, Hunk, Binary, Prim, At, Move, ChangePref}
+use Rattle.dm_prim.specs.Primitives.{Work, AddFile, RmFile, AddDir, RmDir, Hunk, Binary, Replace, Prim, At, Move, ChangePref}
 use Rattle.dm_prim.proofs.Maps.{path_dec}
 use Rattle.dm_chain.specs.Chains.{Token, HunkSteps, lefts}
 use Rattle.dm_chain.proofs.Members.{none_in_nil, head_is_in, it_is_in, next_is_in, in_cases}
 use Rattle.dm_facts.specs.Nodes.{Node, Folder, FileWith, NodeMap, IsFolder, IsEmptyFile}
 use Rattle.dm_facts.specs.Facts.{TokenOf, stands, facts_of, Effect, inverse}
-use Rattle.dm_facts.specs.Steps.{Creates, Edits, Rewrites, Makes, Steps}
+use Rattle.dm_facts.specs.Steps.{Creates, Edits, Exchanges, Makes, Steps}
 use Rattle.dm_facts.specs.Identities.{subject, IsOf, IsIn}
 use Rattle.dm_facts.specs.Runs.{SharesNone, AllAddNew}
 use Rattle.dm_facts.proofs.SquareLemmas.{swaps_from}
@@ -65,8 +65,8 @@ module _ (I : Type 0) where
           ]
         ]
 
-    rewritten : (old new : Lines) (y : Node I) → Rewrites old new (s p) (t p) e → t p ≡ Some y → IsOf x y → IsIn x s ⊎ Contains (map subject e.added) x
-    rewritten old new y h i k = go (rw (← same) at k)
+    exchanged : (y : Node I) → Exchanges (s p) (t p) e → t p ≡ Some y → IsOf x y → IsIn x s ⊎ Contains (map subject e.added) x
+    exchanged y h i k = go (rw (← same) at k)
       where
         same : FileWith h.file h.tokens' ≡ y
         same = cc (h.there, i)
@@ -81,10 +81,14 @@ module _ (I : Type 0) where
     made AddDir d n y h i k = created IsFolder d n y h i k
     made RmDir d n y h i k = let z : t p ≡ None = h.nothing in absurd (cc)
     made (Hunk l old new) d n y h i k = edited l old new y h i k
-    made (Binary old new) d n y h i k = rewritten old new y h i k
+    made (Binary old new) d n y h i k = exchanged y h.exchange i k
+    made (Replace set old new) d n y h i k = exchanged y h.exchange i k
 
     removed : (Is : Node I → Type 0) (d : I) (n : Name) → Creates Is d n (t p) (s p) (inverse e) → Contains (map subject e.taken) x → IsIn x s
     removed Is d n c k = (p, c.node, c.there, is_of x c.node d n (rw (ap (λ z. z.added) c.effect) at k))
+
+    gave_way : Exchanges (s p) (t p) e → Contains (map subject e.taken) x → IsIn x s
+    gave_way h k = (p, FileWith h.file h.tokens, h.stood, inr (rw (ap (λ z. z.taken) h.effect, subjects I h.file h.tokens) at k))
 
     took : (w : Work) (d : I) (n : Name) → Makes w d n (s p) (t p) e → Contains (map subject e.taken) x → IsIn x s
     took AddFile d n h k = absurd (none_in_nil x (rw (ap (λ z. z.taken) h.effect) at k))
@@ -101,7 +105,8 @@ module _ (I : Type 0) where
           inr (rw (r.before, parts r.front h.taken r.back)
               (Contains-append_right (lefts r.front) (lefts h.taken ++ lefts r.back) x (Contains-append_left (lefts h.taken) (lefts r.back) x (rw (ap (λ z. z.taken) h.effect, subjects I h.file h.taken) at k)))),
         )
-    took (Binary old new) d n h k = (p, FileWith h.file h.tokens, h.stood, inr (rw (ap (λ z. z.taken) h.effect, subjects I h.file h.tokens) at k))
+    took (Binary old new) d n h k = gave_way h.exchange k
+    took (Replace set old new) d n h k = gave_way h.exchange k
 
   -- what is in the tree after a step was there before, or is added
   pub in_after : (p : Prim) (e : Effect I) (s t : NodeMap I) → Steps p e s t → (x : I) → IsIn x t → IsIn x s ⊎ Contains (map subject e.added) x

@@ -3,7 +3,7 @@ use Rattle.std.proofs.Common.{◌≡◌, ◌≢◌, ℕ, List, [], ◌∷◌, �
 use Rattle.dm_tree.specs.Paths.{Name, Path, Inside, Apart}
 use Rattle.dm_tree.specs.Trees.{Lines, Dir}
 use Rattle.dm_tree.proofs.Paths.{Place, in_left, in_right, outside, place, apart_sym, swap, swap-left, swap-right, swap-other, swap-swap, swap_inj, swap_turn, Clear, swap-append}
-use Rattle.dm_prim.specs.Primitives.{Work, AddFile, RmFile, AddDir, RmDir, Hunk, Binary, Prim, At, Move, inv_work}
+use Rattle.dm_prim.specs.Primitives.{Work, AddFile, RmFile, AddDir, RmDir, Hunk, Binary, Replace, Prim, At, Move, inv_work}
 use Rattle.dm_prim.specs.Table.{KeepsFile, WorkAndWork, TableRow}
 use Rattle.dm_prim.proofs.Maps.{path_dec, child_differs, swap_child}
 use Rattle.dm_prim.proofs.Undoing.{swap_left, swap_right}
@@ -286,6 +286,11 @@ module _ (I : Type 0) where
   any_name RmDir d d' n n' o o' e i h = absurd i
   any_name (Hunk l old new) d d' n n' o o' e i h = h
   any_name (Binary old new) d d' n n' o o' e i h = h
+  any_name (Replace set old new) d d' n n' o o' e i h = h
+
+  file_alike : (f : I) (c c' : List (Token I)) (o o' : Option (Node I)) (x : Node I) → o ≡ Some (FileWith f c) → o' ≡ Some (FileWith f c') → o' ≡ Some x →
+      (y : Node I) × (o ≡ Some y) × ((d : I) (n : Name) → stands y d n ≡ stands x d n)
+  file_alike f c c' o o' x stood there j = let z : FileWith f c' ≡ x = (cc (there, j)) in (FileWith f c, stood, λ d n. rw (← z))
 
   -- what work finds that keeps the file stands where what it leaves does
   stands_alike : (w : Work) (d : I) (n : Name) (o o' : Option (Node I)) (e : Effect I) (x : Node I) → KeepsFile w → Makes w d n o o' e → o' ≡ Some x →
@@ -294,8 +299,9 @@ module _ (I : Type 0) where
   stands_alike RmFile d n o o' e x i h j = absurd i
   stands_alike AddDir d n o o' e x i h j = absurd i
   stands_alike RmDir d n o o' e x i h j = absurd i
-  stands_alike (Hunk l old new) d n o o' e x i h j = let z : FileWith h.file h.tokens' ≡ x = (cc (h.there, j)) in (FileWith h.file h.tokens, h.stood, λ d n. rw (← z))
-  stands_alike (Binary old new) d n o o' e x i h j = let z : FileWith h.file h.tokens' ≡ x = (cc (h.there, j)) in (FileWith h.file h.tokens, h.stood, λ d n. rw (← z))
+  stands_alike (Hunk l old new) d n o o' e x i h j = file_alike h.file h.tokens h.tokens' o o' x h.stood h.there j
+  stands_alike (Binary old new) d n o o' e x i h j = file_alike h.exchange.file h.exchange.tokens h.exchange.tokens' o o' x h.exchange.stood h.exchange.there j
+  stands_alike (Replace set old new) d n o o' e x i h j = file_alike h.exchange.file h.exchange.tokens h.exchange.tokens' o o' x h.exchange.stood h.exchange.there j
 
   work_then_move : (f : Path) (w : Work) (a b : Path) → Beside f w a b → (x y : Effect I) (s t u : NodeMap I) → StepsAt f w x s t → StepsMove a b y t u → BothStep (Move a b) (At (swap a b f) w) y x s u
   work_then_move f w a b c x y s t u h k = (m, moves_from a b y s m first, second (path_dec f a))

@@ -2,12 +2,13 @@
 use Rattle.std.proofs.Common.{◌≡◌, [], Option, Some, None, option_map, refl, sym, ap, ◌∙◌, append-nil}
 use Rattle.dm_tree.specs.Paths.{Name, Path}
 use Rattle.dm_tree.specs.Trees.{Entry, Dir, File, HasParent, empty_file}
-use Rattle.dm_prim.specs.Primitives.{Work, AddFile, RmFile, AddDir, RmDir, Hunk, Binary, Prim, At, Move, ChangePref, Changes, Around, Applies}
+use Rattle.dm_prim.specs.Primitives.{Work, AddFile, RmFile, AddDir, RmDir, Hunk, Binary, Replace, Prim, At, Move, ChangePref, Changes, Around, Applies}
 use Rattle.dm_chain.specs.Chains.{lines_of}
 use Rattle.dm_chain.proofs.Stepping.{steps_replace}
 use Rattle.dm_facts.specs.Nodes.{Node, Folder, FileWith, NodeMap, IsFolder, IsEmptyFile, entry_of, plain, IsNameIn}
 use Rattle.dm_facts.specs.Facts.{Effect}
 use Rattle.dm_facts.specs.Steps.{Creates, Makes, StepsAt, Steps}
+use Rattle.dm_facts.proofs.TurnedTokens.{lines_turn}
 
 module _ (I : Type 0) where
   parent_of : (p : Path) (d : I) (n : Name) (s : NodeMap I) → IsNameIn p d n s → HasParent p (plain s)
@@ -31,7 +32,17 @@ module _ (I : Type 0) where
   changes AddDir d n o o' e c = creates IsFolder Dir folder_is d n o o' e c
   changes RmDir d n o o' e c = let h = creates IsFolder Dir folder_is d n o' o (record { taken = e.added; added = e.taken }) c in (h.1, h.0)
   changes (Hunk l old new) d n o o' e c = (lines_of c.tokens, lines_of c.tokens', ap (option_map entry_of) c.stood, ap (option_map entry_of) c.there, steps_replace I l old new c.taken c.added c.tokens c.tokens' c.replaced)
-  changes (Binary old new) d n o o' e c = (ap (option_map entry_of) c.stood ∙ ap (λ z. Some (File z)) c.old_is, ap (option_map entry_of) c.there ∙ ap (λ z. Some (File z)) c.new_is, λ z. c.is_file.1.has_lines (c.new_is ∙ z))
+  changes (Binary old new) d n o o' e c =
+      let a = c.exchange in
+      (ap (option_map entry_of) a.stood ∙ ap (λ z. Some (File z)) c.old_is, ap (option_map entry_of) a.there ∙ ap (λ z. Some (File z)) c.new_is, λ z. a.is_file.1.has_lines (c.new_is ∙ z))
+  changes (Replace set old new) d n o o' e c =
+      let a = c.exchange in (
+        lines_of a.tokens,
+        lines_of a.tokens',
+        ap (option_map entry_of) a.stood,
+        ap (option_map entry_of) a.there,
+        record { tokens = c.words; turned = lines_turn I c.words.set old new a.tokens a.tokens' c.turned; left = a.is_file.1.has_lines; was_small = c.was_small; is_small = c.is_small },
+      )
 
   around : (w : Work) (p : Path) (e : Effect I) (s t : NodeMap I) → StepsAt p w e s t → Around w p (plain s)
   around AddFile p e s t h = parent_of p h.directory h.name s h.placed
@@ -40,6 +51,7 @@ module _ (I : Type 0) where
   around RmDir p e s t h = λ n r. ap (option_map entry_of) (h.empty tt n r)
   around (Hunk l old new) p e s t h = tt
   around (Binary old new) p e s t h = tt
+  around (Replace set old new) p e s t h = tt
 
   pub applies : (p : Prim) (e : Effect I) (s t : NodeMap I) → Steps p e s t → Applies p (plain s) (plain t)
   applies (At p w) e s t h = record {

@@ -6,7 +6,7 @@ use Rattle.std.proofs.lemmas.List.Sorted.{IsPermutation-refl, IsPermutation-tran
 use Rattle.dm_tree.specs.Paths.{Name, Path}
 use Rattle.dm_tree.proofs.Paths.{swap, swap-swap, swap-other, swap_inj}
 use Rattle.dm_tree.proofs.Trees.{snoc_inj}
-use Rattle.dm_prim.specs.Primitives.{Work, AddFile, RmFile, AddDir, RmDir, Hunk, Binary, Prim, At, Move, ChangePref}
+use Rattle.dm_prim.specs.Primitives.{Work, AddFile, RmFile, AddDir, RmDir, Hunk, Binary, Replace, Prim, At, Move, ChangePref}
 use Rattle.dm_prim.proofs.Maps.{path_dec, child_differs}
 use Rattle.dm_prim.proofs.Undoing.{swap_left}
 use Rattle.dm_chain.specs.Chains.{Token, Distinct}
@@ -15,7 +15,7 @@ use Rattle.dm_chain.proofs.Determined.{keep_the_sum}
 use Rattle.dm_chain.proofs.Adding.{last_exchanged}
 use Rattle.dm_facts.specs.Nodes.{Node, Folder, FileWith, NodeMap, IsFolder, IsEmptyFile, IsNameIn}
 use Rattle.dm_facts.specs.Facts.{Fact, FileIn, TokenOf, stands, facts_of, Effect, inverse}
-use Rattle.dm_facts.specs.Steps.{Creates, StepsAt, StepsMove}
+use Rattle.dm_facts.specs.Steps.{Creates, Exchanges, StepsAt, StepsMove}
 use Rattle.dm_facts.specs.Sums.{FactsAt, AreFacts}
 use Rattle.dm_facts.specs.Laws.{StepsKeepTheSum}
 use Rattle.dm_facts.proofs.Undoing.{name_kept, moved_node, moved_name}
@@ -310,6 +310,10 @@ module _ (I : Type 0) where
           bare : (q : Path) (x : Node I) → s q ≡ Some x → q ≢ b
           bare q x i j = let z : Some x ≡ None = sym i ∙ ap s (j ∙ sym (append-nil b)) ∙ h.free [] in cc
 
+  exchanged : (p : Path) (e : Effect I) (s t : NodeMap I) (fs : List (Fact I)) → AreFacts s fs → ((q : Path) → q ≢ p → t q ≡ s q) → Exchanges (s p) (t p) e → p ≢ [] → Result t e fs
+  exchanged p e s t fs all elsewhere k nr =
+      replaces p s t elsewhere fs all k.file k.tokens k.tokens' k.tokens k.tokens' e k.stood k.there (IsPermutation-append_comm k.tokens k.tokens') k.effect nr
+
   works : (p : Path) (w : Work) (e : Effect I) (s t : NodeMap I) (fs : List (Fact I)) → AreFacts s fs → StepsAt p w e s t → p ≢ [] → Result t e fs
   works p AddFile e s t fs all h nr = adds p s t h.elsewhere fs all IsEmptyFile h.directory h.name e h.here h.placed
   works p RmFile e s t fs all h nr = removes p s t h.elsewhere fs all IsEmptyFile h.directory h.name e h.here h.placed nr (λ d i n r. absurd (no_folder h.here d i))
@@ -321,9 +325,8 @@ module _ (I : Type 0) where
   works p (Hunk l old new) e s t fs all h nr =
       let k = h.here in
       replaces p s t h.elsewhere fs all k.file k.tokens k.tokens' k.taken k.added e k.stood k.there (keep_the_sum I l old new k.taken k.added k.tokens k.tokens' k.replaced) k.effect nr
-  works p (Binary old new) e s t fs all h nr =
-      let k = h.here in
-      replaces p s t h.elsewhere fs all k.file k.tokens k.tokens' k.tokens k.tokens' e k.stood k.there (IsPermutation-append_comm k.tokens k.tokens') k.effect nr
+  works p (Binary old new) e s t fs all h nr = exchanged p e s t fs all h.elsewhere h.here.exchange nr
+  works p (Replace set old new) e s t fs all h nr = exchanged p e s t fs all h.elsewhere h.here.exchange nr
 
   pub steps_keep_the_sum : StepsKeepTheSum I
   steps_keep_the_sum (At p w) e s t fs all h = works p w e s t fs all h (off_root I (At p w) e s t h)

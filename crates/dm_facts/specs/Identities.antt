@@ -2,7 +2,7 @@
 use Rattle.std.specs.Prelude.{◌≡◌, ℕ, ◌*◌, ◌⊎◌, List, [], ◌∷◌, length, map, Some}
 use Rattle.std.specs.List.{Contains}
 use Rattle.dm_tree.specs.Paths.{Path}
-use Rattle.dm_prim.specs.Primitives.{Work, AddFile, RmFile, AddDir, RmDir, Hunk, Binary, Prim, At, Move, ChangePref}
+use Rattle.dm_prim.specs.Primitives.{Work, AddFile, RmFile, AddDir, RmDir, Hunk, Binary, Replace, Prim, At, Move, ChangePref}
 use Rattle.dm_chain.specs.Chains.{lefts, Distinct}
 use Rattle.dm_facts.specs.Nodes.{Node, Folder, FileWith, NodeMap}
 use Rattle.dm_facts.specs.Facts.{Fact, FolderIn, FileIn, TokenOf, Effect}
@@ -50,6 +50,7 @@ enough_for AddDir = 1
 enough_for RmDir = 0
 enough_for (Hunk l old new) = 2 * length new
 enough_for (Binary old new) = 2 * length new
+enough_for (Replace set old new) = 0
 
 abbrev pub enough : Prim → ℕ
 enough (At p w) = enough_for w
