@@ -5,7 +5,7 @@ use Rattle.std.specs.Prelude.{◌⊎◌, nat_eq}
 use Rattle.std.specs.Cmp.Lexicographic.{pointwise}
 use lib.Pointwise.{bytes_decides}
 use Rattle.dm_named.specs.Words.{Among, WordAmong, Begins}
-use Rattle.dm_named.specs.Patches.{RunEnds, prim_words, wider_words, unsupported_words, prim_words_of, unsupported_words_of}
+use Rattle.dm_named.specs.Patches.{RunEnds, prim_words, wider_words, refused_words, unsupported_words, prim_words_of, unsupported_words_of}
 use Rattle.dm_named.specs.declared.limits.Kinds.{Kinds}
 use Rattle.dm_named.specs.declared.limits.Kinds.TheVariants as these
 use Rattle.dm_named.proofs.WordLemmas.{one_word}
@@ -51,6 +51,10 @@ not_shared (v ∷ vs) ws w none a o =
 among_front : (vs ws : List (List ℕ)) (w : List ℕ) → Among vs w → Among (vs ++ ws) w
 among_front [] ws w a = absurd a
 among_front (v ∷ vs) ws w a = elim a [ inl e ↦ inl e | inr p ↦ inr (among_front vs ws w p) ]
+
+among_back : (vs ws : List (List ℕ)) (w : List ℕ) → Among ws w → Among (vs ++ ws) w
+among_back [] ws w a = a
+among_back (v ∷ vs) ws w a = inr (among_back vs ws w a)
 
 among_parts : (vs ws : List (List ℕ)) (w : List ℕ) → Among (vs ++ ws) w → Among vs w ⊎ Among ws w
 among_parts [] ws w a = inr a
@@ -121,20 +125,16 @@ prim_in_all these.Six w a = among_front prim_words wider_words w a
 prim_in_all these.All w a = a
 
 pub wider_in_all : (w : List ℕ) → Among wider_words w → Among (prim_words_of these.All) w
-wider_in_all w a = elim a [ inl e ↦ inr (inr (inr (inr (inr (inr (inl e)))))) | inr b ↦ elim b [ inl e ↦ inr (inr (inr (inr (inr (inr (inr (inl e))))))) | inr n ↦ absurd n ] ]
+wider_in_all w a = among_back prim_words wider_words w a
 
 pub wider_refused : (w : List ℕ) → Among wider_words w → Among unsupported_words w
-wider_refused w a = elim a [ inl e ↦ inl e | inr b ↦ elim b [ inl e ↦ inr (inr (inl e)) | inr n ↦ absurd n ] ]
+wider_refused w a = among_front wider_words refused_words w a
 
 pub refused_in_six : (w : List ℕ) → Among (unsupported_words_of these.All) w → Among unsupported_words w
-refused_in_six w a = elim a [ inl e ↦ inr (inl e) | inr b ↦ inr (inr (inr b)) ]
+refused_in_six w a = among_back wider_words refused_words w a
 
 pub six_refused : (w : List ℕ) → Among unsupported_words w → Among wider_words w ⊎ Among (unsupported_words_of these.All) w
-six_refused w a =
-    elim a [
-      | inl e ↦ inl (inl e)
-      | inr b ↦ elim b [ inl e ↦ inr (inl e) | inr c ↦ elim c [ inl e ↦ inl (inr (inl e)) | inr d ↦ inr (inr d) ] ]
-    ]
+six_refused w a = among_parts wider_words refused_words w a
 
 pub refused_of : (kinds : Kinds) (w : List ℕ) → Among (unsupported_words_of these.All) w → Among (unsupported_words_of kinds) w
 refused_of these.Six w a = refused_in_six w a

@@ -2,14 +2,16 @@
 use Rattle.std.proofs.Common.{◌≡◌, ◌≤◌, ℕ, Bool, true, false, List, [], ◌∷◌, length, refl, ap, arith, inl, inr, length-append}
 use Rattle.std.specs.Prelude.{◌≢◌, codes}
 use Rattle.dm_tree.specs.Paths.{Path}
-use Rattle.dm_prim.specs.Primitives.{Prim, AddFile, RmFile, AddDir, RmDir, Hunk, Binary, At, Move, ChangePref}
+use Rattle.dm_prim.specs.Primitives.{Prim, AddFile, RmFile, AddDir, RmDir, Hunk, Binary, Replace, At, Move, ChangePref}
 use Rattle.dm_named.specs.Words.{is_white, skipped, Word, Line, MarkedLine, NumberLine}
 use Rattle.dm_named.specs.Paths.{NextPath, WordAndPath}
+use Rattle.dm_tokens.specs.Validity.{TokenWords}
 use Rattle.dm_named.specs.Binaries.{WordAndStars, BinaryBody}
+use Rattle.dm_named.specs.Replaces.{bracketed, TokensText}
 use Rattle.dm_named.specs.Preferences.{WholeLine, PreferenceLines}
 use Rattle.dm_named.specs.Many.{Many}
 use Rattle.dm_named.specs.Patches.{HunkBody, PrimText, NextPrim}
-use Rattle.dm_named.specs.Faults.{PathFaultAt, HunkFaultAt, HexFaultAt, old_hex, new_hex, BinaryFaultAt, PreferenceFaultAt, PrimFaultAt, path, second, hunk, binary, preference}
+use Rattle.dm_named.specs.Faults.{PathFaultAt, HunkFaultAt, HexFaultAt, old_hex, new_hex, BinaryFaultAt, ReplaceFaultAt, PreferenceFaultAt, PrimFaultAt, path, second, hunk, binary, replace, preference}
 use Rattle.dm_named.specs.declared.fault.FaultKind.{FaultKind}
 use Rattle.dm_named.specs.declared.fault.FaultKind.TheVariants as K
 use Rattle.dm_named.specs.declared.limits.Kinds.{Kinds}
@@ -66,21 +68,42 @@ binary_shorter : (text : List ℕ) (old new : List (List ℕ)) (rest : List ℕ)
 binary_shorter text old new rest b =
     omega (arith, skipped_shorter text, stars_shorter (codes "oldhex") (skipped text) old b.mid b.olds, skipped_shorter b.mid, stars_shorter (codes "newhex") (skipped b.mid) new rest b.news)
 
+tokens_shorter : (text : List ℕ) (words : TokenWords) (rest : List ℕ) → TokensText text words rest → length rest ≤ length text
+tokens_shorter text words rest a =
+    omega (
+      arith,
+      word_shorter text (bracketed words.set) a.olds a.set_read,
+      skipped_shorter a.olds,
+      word_shorter (skipped a.olds) words.old a.news a.old_read,
+      skipped_shorter a.news,
+      word_shorter (skipped a.news) words.new rest a.new_read,
+    )
+
 preference_shorter : (text name old new rest : List ℕ) → PreferenceLines text name old new rest → length rest ≤ length text
 preference_shorter text name old new rest a =
     omega (arith, word_shorter text name a.after a.word, whole_shorter a.after a.end.blank a.olds a.end.line, whole_shorter a.olds old a.news a.old_read, line_shorter a.news new rest a.new_read)
 
-prim_shorter : (text : List ℕ) (p : Prim) (rest : List ℕ) → PrimText text p rest → length rest ≤ length text
+pub prim_shorter : (text : List ℕ) (p : Prim) (rest : List ℕ) → PrimText text p rest → length rest ≤ length text
 prim_shorter text (At p AddFile) rest a = after_path (codes "addfile") text p rest a
 prim_shorter text (At p RmFile) rest a = after_path (codes "rmfile") text p rest a
 prim_shorter text (At p AddDir) rest a = after_path (codes "adddir") text p rest a
 prim_shorter text (At p RmDir) rest a = after_path (codes "rmdir") text p rest a
 prim_shorter text (At p (Hunk n old new)) rest a = omega (arith, after_path (codes "hunk") text p a.mid a.first, hunk_shorter a.mid n old new rest a.body)
 prim_shorter text (At p (Binary old new)) rest a = omega (arith, after_path (codes "binary") text p a.mid a.first, binary_shorter a.mid old new rest a.body)
+prim_shorter text (At p (Replace set old new)) rest a =
+    omega (arith, after_path (codes "replace") text p a.mid a.first, skipped_shorter a.mid, tokens_shorter (skipped a.mid) (record { set = set; old = old; new = new }) rest a.tokens)
 prim_shorter text (Move p q) rest a = omega (arith, after_path (codes "move") text p a.mid a.first, path_shorter a.mid q rest a.second)
 prim_shorter text (ChangePref name old new) rest a =
     omega (arith, word_shorter text (codes "changepref") a.after a.named, skipped_shorter a.after, preference_shorter (skipped a.after) name old new rest a.lines)
 
+-- primitives leave no more than their text
+pub run_shorter : (kinds : Kinds) (text : List ℕ) (ps : List Prim) (rest : List ℕ) → Many (NextPrim kinds) text ps rest → length rest ≤ length text
+run_shorter kinds text [] rest r = omega (arith, ap length r)
+run_shorter kinds text (p ∷ ps) rest r =
+    let first = r.1 in
+    omega (arith, run_shorter kinds r.0 ps rest r.2, prim_shorter (skipped text) p r.0 first.read, skipped_shorter text)
+
+-- the same past white space
 pub prims_shorter : (kinds : Kinds) (text : List ℕ) (ps : List Prim) (rest : List ℕ) → Many (NextPrim kinds) text ps rest → length (skipped rest) ≤ length (skipped text)
 prims_shorter kinds text [] rest r = omega (arith, ap (λ (t : List ℕ). length (skipped t)) r)
 prims_shorter kinds text (p ∷ ps) rest r =
@@ -109,6 +132,11 @@ binary_place K.BadHex text here k f = hex_place text here f
 binary_place K.NoMemory text here k f = absurd (k refl)
 binary_place kind text here k f = absurd f
 
+replace_place : (kind : FaultKind) (text here : List ℕ) → kind ≢ K.NoMemory → ReplaceFaultAt kind text here → length here ≤ length text
+replace_place K.BadTokens text here k f = omega (arith, skipped_shorter text, ap length f.0)
+replace_place K.NoMemory text here k f = absurd (k refl)
+replace_place kind text here k f = absurd f
+
 preference_place : (kind : FaultKind) (text here : List ℕ) → kind ≢ K.NoMemory → PreferenceFaultAt kind text here → length here ≤ length text
 preference_place K.BadPreference text here k f = omega (arith, skipped_shorter text, ap length f.0)
 preference_place K.NoMemory text here k f = absurd (k refl)
@@ -119,4 +147,5 @@ prim_place kind text here k (path a f) = omega (arith, word_shorter text a.word 
 prim_place kind text here k (second p mid s f) = omega (arith, after_path (codes "move") text p mid s, path_place kind mid here k f)
 prim_place kind text here k (hunk p mid s f) = hunk_place kind text mid here k (after_path (codes "hunk") text p mid s) f
 prim_place kind text here k (binary p mid s f) = omega (arith, after_path (codes "binary") text p mid s, binary_place kind mid here k f)
+prim_place kind text here k (replace p mid s f) = omega (arith, after_path (codes "replace") text p mid s, replace_place kind mid here k f)
 prim_place kind text here k (preference mid s f) = omega (arith, word_shorter text (codes "changepref") mid s, preference_place kind mid here k f)

@@ -5,6 +5,7 @@ pub mod PathLemmas
 pub mod GroupLemmas
 pub mod KindLemmas
 pub mod BinaryLemmas
+pub mod ReplaceLemmas
 pub mod PreferenceLemmas
 pub mod ChosenKinds
 pub mod Lengths

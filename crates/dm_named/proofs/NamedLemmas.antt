@@ -1,6 +1,6 @@
 -- Lists of which elements are compared or copied one after the other.
-use Rattle.std.proofs.Common.{Option, Some, None, ◌≡◌, ◌<◌, ◌+◌, ℕ, List, [], ◌∷◌, ◌++◌, length, get_or, take, map, refl, sym, ap, subst, ◌∙◌, arith, append_assoc}
-use Rattle.std.proofs.lemmas.List.{take_more, map_push, append-nil}
+use Rattle.std.proofs.Common.{Option, Some, None, ◌≡◌, ◌≤◌, ◌<◌, ◌+◌, ℕ, List, [], ◌∷◌, ◌++◌, length, get_or, take, map, refl, sym, ap, subst, ◌∙◌, arith, append_assoc}
+use Rattle.std.proofs.lemmas.List.{take_more, take_all, map_push, append-nil}
 use Rattle.std.specs.List.{AllByRecursion, flat_map}
 use Rattle.std.specs.Prelude.{Result, Ok, Err, OnOk}
 use Rattle.dm_prim.specs.Primitives.{Prim, inv_all}
@@ -16,6 +16,10 @@ pub copied_more : {X Y V : Type 0} (f : X → V) (g : Y → V) (xs : List X) (ys
 copied_more f g xs ys ys' i x y lt is same new so =
     let here : take (i + 1) xs ≡ take i xs ++ x ∷ [] = take_more xs i x lt ∙ ap (λ z. take i xs ++ z ∷ []) (sym is) in
     rw (new, here, map_push g ys y, map_push f (take i xs) x, so, same) refl
+
+-- all elements are copied
+pub copied_whole : {X Y V : Type 0} (f : X → V) (g : Y → V) (xs : List X) (ys : List Y) (i : ℕ) → length xs ≤ i → map g ys ≡ map f (take i xs) → map g ys ≡ map f xs
+copied_whole f g xs ys i end so = so ∙ ap (map f) (take_all i xs end)
 
 -- two patches that commuted commute back
 pub commuted_back : (x y y' x' : Patch) → NamedCommutes x y y' x' → NamedCommutes y' x' x y

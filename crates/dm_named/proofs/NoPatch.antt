@@ -7,14 +7,16 @@ use Rattle.dm_info.specs.PatchInfo.{PatchInfo}
 use Rattle.dm_info.specs.Spelling.{Stands}
 use Rattle.dm_tree.specs.Paths.{Path}
 use Rattle.dm_tree.specs.Trees.{Lines}
-use Rattle.dm_prim.specs.Primitives.{Prim, AddFile, RmFile, AddDir, RmDir, Hunk, Binary, At, Move, ChangePref}
+use Rattle.dm_tokens.specs.Validity.{TokenWords}
+use Rattle.dm_prim.specs.Primitives.{Prim, AddFile, RmFile, AddDir, RmDir, Hunk, Binary, Replace, At, Move, ChangePref}
 use Rattle.dm_named.specs.Words.{skipped, Word, WordAmong, Begins, LineGroup, NumberLine}
 use Rattle.dm_named.specs.Paths.{NextPath, PathWord, WordAndPath}
 use Rattle.dm_named.specs.Binaries.{WordAndStars, BinaryBody}
+use Rattle.dm_named.specs.Replaces.{TokensText}
 use Rattle.dm_named.specs.Preferences.{PreferenceLines}
 use Rattle.dm_named.specs.Many.{Many}
 use Rattle.dm_named.specs.Patches.{HunkBody, PrimText, NextPrim, NextInfo, Dependencies, Body, RunEnds, prim_words_of, Patch, PatchTextIn}
-use Rattle.dm_named.specs.Faults.{InfoFaultAt, PathFaultAt, NoChange, HunkFaultAt, HexFaultAt, old_hex, new_hex, BinaryFaultAt, PreferenceFaultAt, path_words, PrimFaultAt, path, second, hunk, binary, preference, CountFaultWithin, BraceFaultAt, RunFaultAt, DependsFaultAt, AfterPrimsWithin, PrimsFaultWithin, BodyFaultWithin, in_braces, in_run, InfosFaultAt, OpenFaultAt, DepsFaultAt, PatchFaultWithin, info, deps, body, ExcludesPatch}
+use Rattle.dm_named.specs.Faults.{InfoFaultAt, PathFaultAt, NoChange, HunkFaultAt, HexFaultAt, old_hex, new_hex, BinaryFaultAt, ReplaceFaultAt, PreferenceFaultAt, path_words, PrimFaultAt, path, second, hunk, binary, replace, preference, CountFaultWithin, BraceFaultAt, RunFaultAt, DependsFaultAt, AfterPrimsWithin, PrimsFaultWithin, BodyFaultWithin, in_braces, in_run, InfosFaultAt, OpenFaultAt, DepsFaultAt, PatchFaultWithin, info, deps, body, ExcludesPatch}
 use Rattle.dm_named.specs.declared.fault.FaultKind.{FaultKind}
 use Rattle.dm_named.specs.declared.fault.FaultKind.TheVariants as K
 use Rattle.dm_named.specs.declared.limits.Limits.{Limits}
@@ -73,6 +75,7 @@ no_first kind text here stands k f (At p AddDir) r a = path_stands kind (codes "
 no_first kind text here stands k f (At p RmDir) r a = path_stands kind (codes "rmdir") text r here p stands k f a
 no_first kind text here stands k f (At p (Hunk n old new)) r a = path_stands kind (codes "hunk") text a.mid here p stands k f a.first
 no_first kind text here stands k f (At p (Binary old new)) r a = path_stands kind (codes "binary") text a.mid here p stands k f a.first
+no_first kind text here stands k f (At p (Replace set old new)) r a = path_stands kind (codes "replace") text a.mid here p stands k f a.first
 no_first kind text here stands k f (Move p q) r a = path_stands kind (codes "move") text a.mid here p stands k f a.first
 no_first kind text here stands k f (ChangePref name old new) r a = no_path_word text a.after a.named stands
 
@@ -89,7 +92,7 @@ no_body kind text mid here p k s f (At q (Hunk n old new)) r e t =
     no_hunk kind text mid here k f n old new r (subst (λ (x : List ℕ). HunkBody x n old new r) one.1 t.body)
 no_body kind text mid here p k s f q r e t = other_text (codes "hunk") (prim_word q) refl e
 
--- ---- contents in hex and preferences
+-- ---- contents in hex, tokens and preferences
 
 no_content : (text here : List ℕ) (old new : Lines) (r : List ℕ) → HexFaultAt text here → BinaryBody text old new r → ⊥
 no_content text here old new r (old_hex f) b = stars_or_none (codes "oldhex") text here old b.mid f b.olds
@@ -107,6 +110,18 @@ no_binary kind text mid here p k s f (At q (Binary old new)) r e t =
     let one = one_single (codes "binary") text q p t.mid mid t.first s in
     no_hex kind mid here k f old new r (subst (λ (x : List ℕ). BinaryBody x old new r) one.1 t.body)
 no_binary kind text mid here p k s f q r e t = other_text (codes "binary") (prim_word q) refl e
+
+no_tokens_there : (kind : FaultKind) (text here : List ℕ) → kind ≢ K.NoMemory → ReplaceFaultAt kind text here → (words : TokenWords) (r : List ℕ) → TokensText (skipped text) words r → ⊥
+no_tokens_there K.BadTokens text here k f words r b = f.1 words r (subst (λ (t : List ℕ). TokensText t words r) (sym f.0) b)
+no_tokens_there K.NoMemory text here k f words r b = k refl
+no_tokens_there kind text here k f words r b = absurd f
+
+no_replace : (kind : FaultKind) (text mid here : List ℕ) (p : Path) → kind ≢ K.NoMemory → WordAndPath (codes "replace") text p mid → ReplaceFaultAt kind mid here → (q : Prim) (r : List ℕ) → codes "replace" ≡ prim_word q → PrimText text q r → ⊥
+no_replace kind text mid here p k s f (At q (Replace set old new)) r e t =
+    let words : TokenWords = record { set = set; old = old; new = new } in
+    let one = one_single (codes "replace") text q p t.mid mid t.first s in
+    no_tokens_there kind mid here k f words r (subst (λ (x : List ℕ). TokensText (skipped x) words r) one.1 t.tokens)
+no_replace kind text mid here p k s f q r e t = other_text (codes "replace") (prim_word q) refl e
 
 no_lines_there : (kind : FaultKind) (text here : List ℕ) → kind ≢ K.NoMemory → PreferenceFaultAt kind text here → (name old new r : List ℕ) → PreferenceLines (skipped text) name old new r → ⊥
 no_lines_there K.BadPreference text here k f name old new r b = f.1 name old new r (subst (λ (t : List ℕ). PreferenceLines t name old new r) (sym f.0) b)
@@ -128,6 +143,7 @@ no_prim kind text here k (path stands f) q r t = no_first kind text here stands 
 no_prim kind text here k (second p mid s f) q r t = no_second kind text mid here p k s f q r (word_is text (codes "move") s.after q r s.named t) t
 no_prim kind text here k (hunk p mid s f) q r t = no_body kind text mid here p k s f q r (word_is text (codes "hunk") s.after q r s.named t) t
 no_prim kind text here k (binary p mid s f) q r t = no_binary kind text mid here p k s f q r (word_is text (codes "binary") s.after q r s.named t) t
+no_prim kind text here k (replace p mid s f) q r t = no_replace kind text mid here p k s f q r (word_is text (codes "replace") s.after q r s.named t) t
 no_prim kind text here k (preference mid s f) q r t = no_change kind text mid here k s f q r (word_is text (codes "changepref") mid q r s t) t
 
 -- ---- repetitions

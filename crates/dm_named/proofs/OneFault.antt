@@ -11,7 +11,7 @@ use Rattle.dm_named.specs.Kinds.{IsOf}
 use Rattle.dm_named.specs.Words.{skipped, Word, WordAmong, Begins, NumberLine}
 use Rattle.dm_named.specs.Many.{Many}
 use Rattle.dm_named.specs.Patches.{PrimText, NextPrim, NextInfo, Dependencies, prim_words_of, unsupported_words_of, RunEnds}
-use Rattle.dm_named.specs.Faults.{InfoFaultAt, PathFaultAt, NoChange, HunkFaultAt, HexFaultAt, old_hex, new_hex, BinaryFaultAt, PreferenceFaultAt, PrimFaultAt, path, second, hunk, binary, preference, PrimFaultOf, CountFaultWithin, BraceFaultAt, RunFaultAt, DependsFaultAt, AfterPrimsWithin, PrimsFaultWithin, BodyFaultWithin, in_braces, in_run, InfosFaultAt, OpenFaultAt, DepsFaultAt, PatchFaultWithin, info, deps, body}
+use Rattle.dm_named.specs.Faults.{InfoFaultAt, PathFaultAt, NoChange, HunkFaultAt, HexFaultAt, old_hex, new_hex, BinaryFaultAt, ReplaceFaultAt, PreferenceFaultAt, PrimFaultAt, path, second, hunk, binary, replace, preference, PrimFaultOf, CountFaultWithin, BraceFaultAt, RunFaultAt, DependsFaultAt, AfterPrimsWithin, PrimsFaultWithin, BodyFaultWithin, in_braces, in_run, InfosFaultAt, OpenFaultAt, DepsFaultAt, PatchFaultWithin, info, deps, body}
 use Rattle.dm_named.specs.declared.fault.FaultKind.{FaultKind}
 use Rattle.dm_named.specs.declared.fault.FaultKind.TheVariants as K
 use Rattle.dm_named.specs.declared.limits.Limits.{Limits}
@@ -78,7 +78,7 @@ one_hunk_fault k l start text x y m n f g =
       | inr p ↦ elim (hunk_kind l start text y n g) [ inl q ↦ absurd (a_number text q.2 p.2) | inr q ↦ both (p.0, p.1) (q.0, q.1) ]
     ]
 
--- ---- contents in hex and preferences
+-- ---- contents in hex, tokens and preferences
 
 one_hex_place : (text x y : List ℕ) → HexFaultAt text x → HexFaultAt text y → x ≡ y
 one_hex_place text x y (old_hex f) (old_hex g) = f.place ∙ sym g.place
@@ -99,6 +99,11 @@ one_binary_fault k l text x y m n f g =
     let b = binary_kind l text y n g in
     (a.0 ∙ sym b.0, one_hex_place text x y a.1 b.1)
 
+replace_kind : (k : FaultKind) (text x : List ℕ) → k ≢ K.NoMemory → ReplaceFaultAt k text x → (k ≡ K.BadTokens) × (x ≡ skipped text)
+replace_kind K.BadTokens text x m f = (refl, f.0)
+replace_kind K.NoMemory text x m f = absurd (m refl)
+replace_kind k text x m f = absurd f
+
 preference_kind : (k : FaultKind) (text x : List ℕ) → k ≢ K.NoMemory → PreferenceFaultAt k text x → (k ≡ K.BadPreference) × (x ≡ skipped text)
 preference_kind K.BadPreference text x m f = (refl, f.0)
 preference_kind K.NoMemory text x m f = absurd (m refl)
@@ -117,6 +122,7 @@ one_prim_fault k l text x y m n (path a f) (path b g) =
 one_prim_fault k l text x y m n (path a f) (second q mid t g) = absurd (path_stands k (codes "move") text mid x q a m f t)
 one_prim_fault k l text x y m n (path a f) (hunk q mid t g) = absurd (path_stands k (codes "hunk") text mid x q a m f t)
 one_prim_fault k l text x y m n (path a f) (binary q mid t g) = absurd (path_stands k (codes "binary") text mid x q a m f t)
+one_prim_fault k l text x y m n (path a f) (replace q mid t g) = absurd (path_stands k (codes "replace") text mid x q a m f t)
 one_prim_fault k l text x y m n (path a f) (preference mid t g) = absurd (no_path_word text mid t a)
 one_prim_fault k l text x y m n (second p mid s f) (path b g) = absurd (path_stands l (codes "move") text mid y p b n g s)
 one_prim_fault k l text x y m n (second p mid s f) (second q mid' t g) =
@@ -124,6 +130,7 @@ one_prim_fault k l text x y m n (second p mid s f) (second q mid' t g) =
     one_path_fault k l mid' x y m n (subst (λ (u : List ℕ). PathFaultAt k u x) one.1 f) g
 one_prim_fault k l text x y m n (second p mid s f) (hunk q mid' t g) = absurd (two_words (codes "move") (codes "hunk") text s.after t.after refl s.named t.named)
 one_prim_fault k l text x y m n (second p mid s f) (binary q mid' t g) = absurd (two_words (codes "move") (codes "binary") text s.after t.after refl s.named t.named)
+one_prim_fault k l text x y m n (second p mid s f) (replace q mid' t g) = absurd (two_words (codes "move") (codes "replace") text s.after t.after refl s.named t.named)
 one_prim_fault k l text x y m n (second p mid s f) (preference mid' t g) = absurd (two_words (codes "move") (codes "changepref") text s.after mid' refl s.named t)
 one_prim_fault k l text x y m n (hunk p mid s f) (path b g) = absurd (path_stands l (codes "hunk") text mid y p b n g s)
 one_prim_fault k l text x y m n (hunk p mid s f) (second q mid' t g) = absurd (two_words (codes "hunk") (codes "move") text s.after t.after refl s.named t.named)
@@ -131,6 +138,7 @@ one_prim_fault k l text x y m n (hunk p mid s f) (hunk q mid' t g) =
     let one = one_single (codes "hunk") text p q mid mid' s t in
     one_hunk_fault k l text mid' x y m n (subst (λ (u : List ℕ). HunkFaultAt k text u x) one.1 f) g
 one_prim_fault k l text x y m n (hunk p mid s f) (binary q mid' t g) = absurd (two_words (codes "hunk") (codes "binary") text s.after t.after refl s.named t.named)
+one_prim_fault k l text x y m n (hunk p mid s f) (replace q mid' t g) = absurd (two_words (codes "hunk") (codes "replace") text s.after t.after refl s.named t.named)
 one_prim_fault k l text x y m n (hunk p mid s f) (preference mid' t g) = absurd (two_words (codes "hunk") (codes "changepref") text s.after mid' refl s.named t)
 one_prim_fault k l text x y m n (binary p mid s f) (path b g) = absurd (path_stands l (codes "binary") text mid y p b n g s)
 one_prim_fault k l text x y m n (binary p mid s f) (second q mid' t g) = absurd (two_words (codes "binary") (codes "move") text s.after t.after refl s.named t.named)
@@ -138,11 +146,21 @@ one_prim_fault k l text x y m n (binary p mid s f) (hunk q mid' t g) = absurd (t
 one_prim_fault k l text x y m n (binary p mid s f) (binary q mid' t g) =
     let one = one_single (codes "binary") text p q mid mid' s t in
     one_binary_fault k l mid' x y m n (subst (λ (u : List ℕ). BinaryFaultAt k u x) one.1 f) g
+one_prim_fault k l text x y m n (binary p mid s f) (replace q mid' t g) = absurd (two_words (codes "binary") (codes "replace") text s.after t.after refl s.named t.named)
 one_prim_fault k l text x y m n (binary p mid s f) (preference mid' t g) = absurd (two_words (codes "binary") (codes "changepref") text s.after mid' refl s.named t)
+one_prim_fault k l text x y m n (replace p mid s f) (path b g) = absurd (path_stands l (codes "replace") text mid y p b n g s)
+one_prim_fault k l text x y m n (replace p mid s f) (second q mid' t g) = absurd (two_words (codes "replace") (codes "move") text s.after t.after refl s.named t.named)
+one_prim_fault k l text x y m n (replace p mid s f) (hunk q mid' t g) = absurd (two_words (codes "replace") (codes "hunk") text s.after t.after refl s.named t.named)
+one_prim_fault k l text x y m n (replace p mid s f) (binary q mid' t g) = absurd (two_words (codes "replace") (codes "binary") text s.after t.after refl s.named t.named)
+one_prim_fault k l text x y m n (replace p mid s f) (replace q mid' t g) =
+    let one = one_single (codes "replace") text p q mid mid' s t in
+    both (replace_kind k mid' x m (subst (λ (u : List ℕ). ReplaceFaultAt k u x) one.1 f)) (replace_kind l mid' y n g)
+one_prim_fault k l text x y m n (replace p mid s f) (preference mid' t g) = absurd (two_words (codes "replace") (codes "changepref") text s.after mid' refl s.named t)
 one_prim_fault k l text x y m n (preference mid s f) (path b g) = absurd (no_path_word text mid s b)
 one_prim_fault k l text x y m n (preference mid s f) (second q mid' t g) = absurd (two_words (codes "changepref") (codes "move") text mid t.after refl s t.named)
 one_prim_fault k l text x y m n (preference mid s f) (hunk q mid' t g) = absurd (two_words (codes "changepref") (codes "hunk") text mid t.after refl s t.named)
 one_prim_fault k l text x y m n (preference mid s f) (binary q mid' t g) = absurd (two_words (codes "changepref") (codes "binary") text mid t.after refl s t.named)
+one_prim_fault k l text x y m n (preference mid s f) (replace q mid' t g) = absurd (two_words (codes "changepref") (codes "replace") text mid t.after refl s t.named)
 one_prim_fault k l text x y m n (preference mid s f) (preference mid' t g) =
     let one = (one_word text (codes "changepref") (codes "changepref") mid mid' s t).1 in
     both (preference_kind k mid' x m (subst (λ (u : List ℕ). PreferenceFaultAt k u x) one f)) (preference_kind l mid' y n g)

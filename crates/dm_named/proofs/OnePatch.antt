@@ -5,12 +5,14 @@ use Rattle.std.specs.Cmp.Lexicographic.{other_text, pointwise}
 use Rattle.dm_info.proofs.SpellingLemmas.{one_info, stands_opens}
 use Rattle.dm_info.specs.PatchInfo.{PatchInfo}
 use Rattle.dm_tree.specs.Paths.{Path}
-use Rattle.dm_prim.specs.Primitives.{Work, Prim, AddFile, RmFile, AddDir, RmDir, Hunk, Binary, At, Move, ChangePref}
+use Rattle.dm_prim.specs.Primitives.{Work, Prim, AddFile, RmFile, AddDir, RmDir, Hunk, Binary, Replace, At, Move, ChangePref}
 use Rattle.dm_tree.specs.Trees.{Lines}
+use Rattle.dm_tokens.specs.Validity.{TokenWords}
 use Rattle.dm_named.specs.Kinds.{IsOfSix, IsOf}
 use Rattle.dm_named.specs.Words.{skipped, Word, Among, WordAmong, Begins, LineGroup}
 use Rattle.dm_named.specs.Paths.{NextPath, WordAndPath}
 use Rattle.dm_named.specs.Binaries.{BinaryBody, BinaryText}
+use Rattle.dm_named.specs.Replaces.{TokensText, ReplaceText}
 use Rattle.dm_named.specs.Preferences.{PreferenceLines, PreferenceText}
 use Rattle.dm_named.specs.Many.{Many}
 use Rattle.dm_named.specs.Patches.{WordAndPaths, HunkLines, HunkBody, HunkText, PrimText, NextPrim, NextInfo, Dependencies, Body, prim_words, wider_words, prim_words_of, Patch, PatchTextIn}
@@ -19,6 +21,7 @@ use Rattle.dm_named.specs.declared.limits.Kinds.TheVariants as these
 use Rattle.dm_named.proofs.WordLemmas.{one_word}
 use Rattle.dm_named.proofs.KindLemmas.{no_close_word, no_prim_ends, wider_in_all}
 use Rattle.dm_named.proofs.BinaryLemmas.{one_binary_body}
+use Rattle.dm_named.proofs.ReplaceLemmas.{one_tokens_text}
 use Rattle.dm_named.proofs.PreferenceLemmas.{one_preference_lines}
 use Rattle.dm_named.proofs.PathLemmas.{one_path_here}
 use Rattle.dm_named.proofs.GroupLemmas.{one_group, one_number_line}
@@ -57,6 +60,12 @@ one_binary text p q old new old' new' r s a b =
     let body = one_binary_body b.mid old new old' new' r s (subst (λ (t : List ℕ). BinaryBody t old new r) first.1 a.body) b.body in
     (first.0, body.0, body.1, body.2)
 
+one_replace : (text : List ℕ) (p q : Path) (v w : TokenWords) (r s : List ℕ) → ReplaceText text p v r → ReplaceText text q w s → (p ≡ q) × (v ≡ w) × (r ≡ s)
+one_replace text p q v w r s a b =
+    let first = one_single (codes "replace") text p q a.mid b.mid a.first b.first in
+    let tokens = one_tokens_text (skipped b.mid) v w r s (subst (λ (t : List ℕ). TokensText (skipped t) v r) first.1 a.tokens) b.tokens in
+    (first.0, tokens.0, tokens.1)
+
 one_preference : (text name old new name' old' new' r s : List ℕ) → PreferenceText text name old new r → PreferenceText text name' old' new' s → (name ≡ name') × (old ≡ old') × (new ≡ new') × (r ≡ s)
 one_preference text name old new name' old' new' r s a b =
     let after = (one_word text (codes "changepref") (codes "changepref") a.after b.after a.named b.named).1 in
@@ -70,6 +79,7 @@ prim_word (At p AddDir) = codes "adddir"
 prim_word (At p RmDir) = codes "rmdir"
 prim_word (At p (Hunk n old new)) = codes "hunk"
 prim_word (At p (Binary old new)) = codes "binary"
+prim_word (At p (Replace set old new)) = codes "replace"
 prim_word (Move p q) = codes "move"
 prim_word (ChangePref name old new) = codes "changepref"
 
@@ -80,6 +90,7 @@ stands_word text (At p AddDir) r a = (a.after, a.named)
 stands_word text (At p RmDir) r a = (a.after, a.named)
 stands_word text (At p (Hunk n old new)) r a = (a.first.after, a.first.named)
 stands_word text (At p (Binary old new)) r a = (a.first.after, a.first.named)
+stands_word text (At p (Replace set old new)) r a = (a.first.after, a.first.named)
 stands_word text (Move p q) r a = (a.first.after, a.first.named)
 stands_word text (ChangePref name old new) r a = (a.after, a.named)
 
@@ -97,11 +108,13 @@ word_in_six (At p RmDir) o = inr (inr (inr (inl refl)))
 word_in_six (Move p q) o = inr (inr (inr (inr (inl refl))))
 word_in_six (At p (Hunk n old new)) o = inr (inr (inr (inr (inr (inl refl)))))
 word_in_six (At p (Binary old new)) o = absurd o
+word_in_six (At p (Replace set old new)) o = absurd o
 word_in_six (ChangePref name old new) o = absurd o
 
 word_in_all : (p : Prim) → Among (prim_words_of these.All) (prim_word p)
 word_in_all (At p (Binary old new)) = wider_in_all (codes "binary") (inl refl)
-word_in_all (ChangePref name old new) = wider_in_all (codes "changepref") (inr (inl refl))
+word_in_all (At p (Replace set old new)) = wider_in_all (codes "replace") (inr (inl refl))
+word_in_all (ChangePref name old new) = wider_in_all (codes "changepref") (inr (inr (inl refl)))
 word_in_all (At p AddFile) = inl refl
 word_in_all (At p RmFile) = inr (inl refl)
 word_in_all (At p AddDir) = inr (inr (inl refl))
@@ -122,7 +135,8 @@ of_six_or_wider (At p RmDir) = inl tt
 of_six_or_wider (Move p q) = inl tt
 of_six_or_wider (At p (Hunk n old new)) = inl tt
 of_six_or_wider (At p (Binary old new)) = inr (inl refl)
-of_six_or_wider (ChangePref name old new) = inr (inr (inl refl))
+of_six_or_wider (At p (Replace set old new)) = inr (inr (inl refl))
+of_six_or_wider (ChangePref name old new) = inr (inr (inr (inl refl)))
 
 pub prim_a_word : (kinds : Kinds) (text : List ℕ) (p : Prim) (r : List ℕ) → PrimText text p r → IsOf kinds p → WordAmong (prim_words_of kinds) text
 prim_a_word kinds text p r a o = let s = stands_word text p r a in record { word = prim_word p; rest = s.0; stands = s.1; among = word_in kinds p o }
@@ -155,6 +169,10 @@ one_prim text (At p (Hunk pn po pw)) (At q (Hunk qn qo qw)) r s a b = let o = on
 one_prim text (At p (Hunk pn po pw)) q r s a b = absurd (differ (codes "hunk") (prim_word q) refl (same_word text (At p (Hunk pn po pw)) q r s a b))
 one_prim text (At p (Binary po pw)) (At q (Binary qo qw)) r s a b = let o = one_binary text p q po pw qo qw r s a b in ((λ k. At (o.0 k) (Binary (o.1 k) (o.2 k))), o.3)
 one_prim text (At p (Binary po pw)) q r s a b = absurd (differ (codes "binary") (prim_word q) refl (same_word text (At p (Binary po pw)) q r s a b))
+one_prim text (At p (Replace ps po pn)) (At q (Replace qs qo qn)) r s a b =
+    let o = one_replace text p q (record { set = ps; old = po; new = pn }) (record { set = qs; old = qo; new = qn }) r s a b in
+    ((λ k. let w = o.1 k in At (o.0 k) (Replace w.set w.old w.new)), o.2)
+one_prim text (At p (Replace ps po pn)) q r s a b = absurd (differ (codes "replace") (prim_word q) refl (same_word text (At p (Replace ps po pn)) q r s a b))
 one_prim text (ChangePref pn po pw) (ChangePref qn qo qw) r s a b = let o = one_preference text pn po pw qn qo qw r s a b in ((λ k. ChangePref (o.0 k) (o.1 k) (o.2 k)), o.3)
 one_prim text (ChangePref pn po pw) (At q w) r s a b = absurd (no_preference q w (same_word text (ChangePref pn po pw) (At q w) r s a b))
 one_prim text (ChangePref pn po pw) (Move q q2) r s a b = absurd (differ (codes "changepref") (codes "move") refl (same_word text (ChangePref pn po pw) (Move q q2) r s a b))

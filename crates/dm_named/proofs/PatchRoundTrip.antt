@@ -10,20 +10,23 @@ use Rattle.dm_info.specs.PatchInfo.{PatchInfo, IsInfo}
 use Rattle.dm_info.specs.Spelling.{Stands, canonical}
 use Rattle.dm_tree.specs.Paths.{Path}
 use Rattle.dm_tree.specs.Trees.{Lines}
+use Rattle.dm_tokens.specs.Validity.{TokenWords, AreTokens}
 use Rattle.dm_hex.specs.Contents.{content, AreFileLines}
 use Rattle.dm_hex.specs.Digits.{star_lines, star_text, stars_text}
 use Rattle.dm_hex.proofs.StarLemmas.{lines_stand, lines_count, lines_plain}
-use Rattle.dm_prim.specs.Primitives.{Prim, AddFile, RmFile, AddDir, RmDir, Hunk, Binary, At, Move, ChangePref}
+use Rattle.dm_prim.specs.Primitives.{Prim, AddFile, RmFile, AddDir, RmDir, Hunk, Binary, Replace, At, Move, ChangePref}
 use Rattle.dm_tree.specs.Validity.{IsValidPath}
 use Rattle.dm_prim.specs.Commuting.{IsValidPrim, IsValidWork, IsPreference}
 use Rattle.dm_named.specs.Kinds.{IsOf, HasByteWork, IsWritable, AreWritable}
-use Rattle.dm_named.specs.Words.{NoNewline, is_white, skipped, EndsWord, number_from, Begins, MarkedLine, LineGroup, NumberLine}
+use Rattle.dm_named.specs.Words.{NoNewline, is_white, skipped, EndsWord, Word, number_from, Begins, MarkedLine, LineGroup, NumberLine}
 use Rattle.dm_named.specs.Paths.{NoSlash, EndsPiece, SlashName, NameByte, PathWord, WordAndPath}
 use Rattle.dm_named.specs.Binaries.{WordAndStars, BinaryBody, BinaryText}
+use Rattle.dm_named.specs.Replaces.{bracketed, TokensText, ReplaceText}
 use Rattle.dm_named.specs.Preferences.{PreferenceLines, PreferenceText}
 use Rattle.dm_named.specs.Patches.{WordAndPaths, HunkBody, HunkText, PrimText, NextPrim, NextInfo, Dependencies, Body, RunEnds, Patch, IsValidPatch}
 use Rattle.dm_named.specs.declared.limits.Kinds.{Kinds}
 use Rattle.dm_named.specs.declared.limits.Kinds.TheVariants as these
+use Rattle.dm_named.proofs.ReplaceLemmas.{part_solid}
 use Rattle.dm_named.proofs.ValidParts.{path_free, free_lines, some_lines, none_of}
 use Rattle.dm_named.specs.Canonical.{name_text, info_line, byte_text, path_text, lines_text, prim_text, deps_text, body_text, patch_text}
 use Rattle.dm_named.specs.Laws.{NoLine, NoLineOf, ReadsPrim, ReadsPatchIn}
@@ -159,6 +162,9 @@ joined_move a b e = simp append_assoc refl
 joined_binary : (a o b n c e : List ℕ) → (a ++ 10 ∷ (o ++ (b ++ (n ++ c)))) ++ e ≡ a ++ 10 ∷ (o ++ (b ++ (n ++ (c ++ e))))
 joined_binary a o b n c e = simp append_assoc refl
 
+joined_replace : (a b o n e : List ℕ) → (a ++ 32 ∷ (b ++ 32 ∷ (o ++ 32 ∷ (n ++ 10 ∷ [])))) ++ e ≡ a ++ 32 ∷ (b ++ 32 ∷ (o ++ 32 ∷ (n ++ 10 ∷ e)))
+joined_replace a b o n e = simp append_assoc refl
+
 joined_preference : (a b c e : List ℕ) → (a ++ 10 ∷ (b ++ 10 ∷ (c ++ 10 ∷ []))) ++ e ≡ a ++ 10 ∷ (b ++ 10 ∷ (c ++ 10 ∷ e))
 joined_preference a b c e = simp append_assoc refl
 
@@ -193,6 +199,22 @@ binary_back old new rest valid bytes none =
 name_skipped : (name rest : List ℕ) → name ≢ [] → AllByRecursion (λ b. is_white b ≡ false) name → skipped (name ++ rest) ≡ name ++ rest
 name_skipped [] rest some f = absurd (some refl)
 name_skipped (b ∷ name) rest some f = skipped_solid b (name ++ rest) f.0
+
+-- a word is read again after a space, before anything that ends it
+word_back : (word rest : List ℕ) → word ≢ [] → AllByRecursion (λ b. is_white b ≡ false) word → EndsWord rest → Word (skipped (32 ∷ (word ++ rest))) word rest
+word_back word rest some solid ends = subst (λ (t : List ℕ). Word t word rest) (sym (name_skipped word rest some solid)) (record { parts = refl; solid = solid; ends = ends })
+
+tokens_back : (words : TokenWords) (rest : List ℕ) → AreTokens words → TokensText (bracketed words.set ++ 32 ∷ (words.old ++ 32 ∷ (words.new ++ 10 ∷ rest))) words (10 ∷ rest)
+tokens_back words rest valid =
+    let set_solid = solid_append words.set (93 ∷ []) (part_solid words.set valid.set_word) (refl, tt) in
+    record {
+      olds = 32 ∷ (words.old ++ 32 ∷ (words.new ++ 10 ∷ rest));
+      news = 32 ∷ (words.new ++ 10 ∷ rest);
+      set_read = record { parts = refl; solid = (refl, set_solid); ends = refl };
+      old_read = word_back words.old (32 ∷ (words.new ++ 10 ∷ rest)) valid.of_set.old_token.0 (part_solid words.old valid.old_word) refl;
+      new_read = word_back words.new (10 ∷ rest) valid.of_set.new_token.0 (part_solid words.new valid.new_word) refl;
+      valid = valid;
+    }
 
 preference_back : (name old new rest : List ℕ) → IsPreference name old new → PreferenceLines (name ++ 10 ∷ (old ++ 10 ∷ (new ++ 10 ∷ rest))) name old new rest
 preference_back name old new rest valid =
@@ -244,6 +266,16 @@ prim_back these.All (At p (Binary old new)) rest valid can none =
           (record { mid = tail; first = single_back (codes "binary") p tail (refl, (refl, (refl, (refl, (refl, (refl, tt)))))) valid.0 refl; body = binary_back old new rest valid.1 can none.1 });
       left = refl;
     }
+prim_back these.Six (At p (Replace set old new)) rest valid can none = absurd can
+prim_back these.All (At p (Replace set old new)) rest valid can none =
+    let words : TokenWords = record { set = set; old = old; new = new } in
+    let tail = bracketed set ++ 32 ∷ (old ++ 32 ∷ (new ++ 10 ∷ rest)) in
+    record {
+      after = 10 ∷ rest;
+      read = subst (λ (t : List ℕ). ReplaceText (codes "replace" ++ 32 ∷ t) p words (10 ∷ rest)) (sym (joined_replace (path_text p) (bracketed set) old new rest))
+          (record { mid = 32 ∷ tail; first = single_back (codes "replace") p (32 ∷ tail) (refl, (refl, (refl, (refl, (refl, (refl, (refl, tt))))))) valid.0 refl; tokens = tokens_back words rest valid.1 });
+      left = refl;
+    }
 prim_back these.Six (ChangePref name old new) rest valid can none = absurd can
 prim_back these.All (ChangePref name old new) rest valid can none =
     let tail = name ++ 10 ∷ (old ++ 10 ∷ (new ++ 10 ∷ rest)) in
@@ -274,6 +306,7 @@ lettered (At p AddDir) rest = record { first = 97; more = _; parts = refl; low =
 lettered (At p RmDir) rest = record { first = 114; more = _; parts = refl; low = omega arith; high = omega arith }
 lettered (At p (Hunk n old new)) rest = record { first = 104; more = _; parts = refl; low = omega arith; high = omega arith }
 lettered (At p (Binary old new)) rest = record { first = 98; more = _; parts = refl; low = omega arith; high = omega arith }
+lettered (At p (Replace set old new)) rest = record { first = 114; more = _; parts = refl; low = omega arith; high = omega arith }
 lettered (ChangePref name old new) rest = record { first = 99; more = _; parts = refl; low = omega arith; high = omega arith }
 lettered (Move p q) rest = record { first = 109; more = _; parts = refl; low = omega arith; high = omega arith }
 
@@ -284,6 +317,7 @@ skipped_prim (At p AddDir) rest = refl
 skipped_prim (At p RmDir) rest = refl
 skipped_prim (At p (Hunk n old new)) rest = refl
 skipped_prim (At p (Binary old new)) rest = refl
+skipped_prim (At p (Replace set old new)) rest = refl
 skipped_prim (ChangePref name old new) rest = refl
 skipped_prim (Move p q) rest = refl
 

@@ -12,7 +12,7 @@ use Rattle.dm_named.specs.declared.fault.FaultKind.{FaultKind}
 use Rattle.dm_named.specs.declared.fault.FaultKind.TheVariants as K
 use Rattle.dm_named.specs.declared.limits.Limits.{Limits}
 use Rattle.dm_named.specs.declared.limits.Kinds.{Kinds}
-use Rattle.dm_named.proofs.Lengths.{skipped_shorter, prims_shorter, prim_place}
+use Rattle.dm_named.proofs.Lengths.{skipped_shorter, run_shorter, prims_shorter, prim_place}
 use Rattle.dm_named.proofs.OneFault.{info_kind, count_kind, brace_kind, run_kind, depends_kind}
 
 pub infos_shorter : (text : List ℕ) (is : List PatchInfo) (rest : List ℕ) → Many NextInfo text is rest → length rest ≤ length text
@@ -26,15 +26,14 @@ depends_shorter text ds rest d =
       | inr x ↦ omega (arith, ap length x.2)
     ]
 
--- what is left behind a body, past white space
-body_shorter : (kinds : Kinds) (text : List ℕ) (ps : List Prim) (rest : List ℕ) → Body kinds text ps rest → length (skipped rest) ≤ length text
+body_shorter : (kinds : Kinds) (text : List ℕ) (ps : List Prim) (rest : List ℕ) → Body kinds text ps rest → length rest ≤ length text
 body_shorter kinds text ps rest b =
     elim b [
-      | inl x ↦ omega (arith, ap length x.opens, skipped_shorter text, prims_shorter kinds x.inside ps x.mid x.read, skipped_shorter x.inside, ap length x.closes, skipped_shorter rest)
-      | inr x ↦ omega (arith, prims_shorter kinds text ps rest x.read, skipped_shorter text)
+      | inl x ↦ omega (arith, ap length x.opens, skipped_shorter text, run_shorter kinds x.inside ps x.mid x.read, ap length x.closes, skipped_shorter x.mid)
+      | inr x ↦ run_shorter kinds text ps rest x.read
     ]
 
-pub patch_shorter : (kinds : Kinds) (text : List ℕ) (p : Patch) (rest : List ℕ) → PatchTextIn kinds text p rest → length (skipped rest) ≤ length text
+pub patch_shorter : (kinds : Kinds) (text : List ℕ) (p : Patch) (rest : List ℕ) → PatchTextIn kinds text p rest → length rest ≤ length text
 patch_shorter kinds text p rest t = omega (arith, stands_shorter text p.info t.after t.info, depends_shorter t.after p.deps t.body t.deps, body_shorter kinds t.body p.prims rest t.prims)
 
 -- ---- the places of faults

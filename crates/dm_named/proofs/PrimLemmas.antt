@@ -27,6 +27,7 @@ path_among H.RmDir = inr (inr (inr (inl refl)))
 path_among H.Move = inr (inr (inr (inr (inl refl))))
 path_among H.Hunk = inr (inr (inr (inr (inr (inl refl)))))
 path_among H.Binary = inr (inr (inr (inr (inr (inr (inl refl))))))
+path_among H.Replace = inr (inr (inr (inr (inr (inr (inr (inl refl)))))))
 
 pub a_head : (kinds : Kinds) (text rest : List ℕ) (h : PrimWord) → Word text (word_of h) rest → Among (prim_words_of kinds) (word_of h) → WordAmong (prim_words_of kinds) text
 a_head kinds text rest h w a = record { word = word_of h; rest = rest; stands = w; among = a }

@@ -1,5 +1,5 @@
 -- A fault within the six kinds is the one within all kinds, or it says that a wider word is unsupported, which stands no later.
-use Rattle.std.proofs.Common.{◌≡◌, ◌≤◌, ℕ, List, [], ◌∷◌, ◌++◌, length, refl, sym, ap, subst, arith, inl, inr}
+use Rattle.std.proofs.Common.{◌≡◌, ◌≤◌, ℕ, List, [], ◌∷◌, ◌++◌, ◌∙◌, length, refl, sym, ap, subst, arith, inl, inr}
 use Rattle.std.specs.Prelude.{◌≢◌, ◌⊎◌}
 use Rattle.std.proofs.lemmas.List.{length-append}
 use Rattle.dm_info.proofs.SpellingLemmas.{one_info}
@@ -8,17 +8,17 @@ use Rattle.dm_info.specs.Spelling.{Stands}
 use Rattle.dm_prim.specs.Primitives.{Prim}
 use Rattle.dm_named.specs.Words.{skipped, WordAmong, Begins, NextByte}
 use Rattle.dm_named.specs.Many.{Many}
-use Rattle.dm_named.specs.Patches.{NextPrim, Dependencies, Body, Patch, PatchTextIn, wider_words, unsupported_words_of, prim_words_of}
+use Rattle.dm_named.specs.Patches.{NextPrim, Dependencies, Body, Patch, PatchTextIn, RunEnds, wider_words, unsupported_words, unsupported_words_of, prim_words_of}
 use Rattle.dm_named.specs.Faults.{CountFaultWithin, PrimFaultOf, BraceFaultAt, RunFaultAt, AfterPrimsWithin, PrimsFaultWithin, BodyFaultWithin, in_braces, in_run, PatchFaultWithin, info, deps, body}
 use Rattle.dm_named.specs.Laws.{with_kinds, FaultOfSix}
 use Rattle.dm_named.specs.declared.fault.FaultKind.{FaultKind}
 use Rattle.dm_named.specs.declared.fault.FaultKind.TheVariants as K
 use Rattle.dm_named.specs.declared.limits.Limits.{Limits}
 use Rattle.dm_named.specs.declared.limits.Kinds.TheVariants as these
-use Rattle.dm_named.proofs.KindLemmas.{other_words, prim_in_all, six_refused, no_close_word, no_prim_ends}
+use Rattle.dm_named.proofs.KindLemmas.{other_words, prim_in_all, wider_refused, six_refused, no_close_word, no_prim_ends}
 use Rattle.dm_named.proofs.ManyLemmas.{meet, many_follows}
 use Rattle.dm_named.proofs.ChosenKinds.{prims_in_all}
-use Rattle.dm_named.proofs.Lengths.{skipped_shorter, prims_shorter, prim_place}
+use Rattle.dm_named.proofs.Lengths.{prim_shorter, run_shorter, prims_shorter, prim_place}
 use Rattle.dm_named.proofs.OnePatch.{one_next, no_next, one_depends}
 use Rattle.dm_named.proofs.NoPatch.{no_info, no_deps, tail_same}
 use Rattle.dm_named.proofs.OneFault.{Wrongs, NoFurther, Next, next_no_further, brace_no_further, run_no_further, count_kind, brace_kind, run_kind, one_patch_fault}
@@ -204,18 +204,30 @@ inside_prims limits text x ps s w r closed =
     let m = many_follows (NextPrim these.All) (one_next these.All) text w.prims ps w.mid s w.read r (no_next these.All s closed) in
     omega (arith, further text w.prims ps m.0 w.mid s w.read r m.1, ap length w.place)
 
-inside_body : (limits : Limits) (text x : List ℕ) (ps : List Prim) (r : List ℕ) → WiderBody limits text x → Body these.All text ps r → length (skipped r) ≤ length x
+-- a run that ends goes past a wider word
+past_word : (x : List ℕ) (more : List Prim) (mid s : List ℕ) → x ≡ skipped mid → WordAmong wider_words x → Many (NextPrim these.All) mid more s → RunEnds (skipped s) → length s ≤ length x
+past_word x [] mid s e w r ends = absurd (ends.others (other_words wider_words unsupported_words (skipped s) wider_refused (subst (WordAmong wider_words) (e ∙ ap skipped r) w)))
+past_word x (p ∷ more) mid s e w r ends =
+    let first = r.1 in
+    omega (arith, run_shorter these.All r.0 more s r.2, prim_shorter (skipped mid) p r.0 first.read, ap length e)
+
+inside_run : (limits : Limits) (text x : List ℕ) (ps : List Prim) (s : List ℕ) → WiderAfter limits text x → Many (NextPrim these.All) text ps s → RunEnds (skipped s) → length s ≤ length x
+inside_run limits text x ps s w r ends =
+    let m = many_follows (NextPrim these.All) (one_next these.All) text w.prims ps w.mid s w.read r (no_next these.All s (no_prim_ends these.All (skipped s) ends)) in
+    past_word x m.0 w.mid s w.place w.word m.2 ends
+
+inside_body : (limits : Limits) (text x : List ℕ) (ps : List Prim) (r : List ℕ) → WiderBody limits text x → Body these.All text ps r → length r ≤ length x
 inside_body limits text x ps r (braced inside opens w) b =
     elim b [
       | inl y ↦
           let w' = subst (λ (t : List ℕ). WiderAfter limits t x) (tail_same 123 (skipped text) inside y.inside opens y.opens) w in
-          omega (arith, inside_prims limits y.inside x ps y.mid w' y.read (no_close_word these.All (skipped y.mid) r y.closes), ap length y.closes, skipped_shorter r)
+          omega (arith, inside_prims limits y.inside x ps y.mid w' y.read (no_close_word these.All (skipped y.mid) r y.closes), ap length y.closes)
       | inr y ↦ absurd (y.bare (inside, opens))
     ]
 inside_body limits text x ps r (bare none w) b =
-    elim b [ inl y ↦ absurd (none (y.inside, y.opens)) | inr y ↦ inside_prims limits text x ps r w y.read (no_prim_ends these.All (skipped r) y.ends) ]
+    elim b [ inl y ↦ absurd (none (y.inside, y.opens)) | inr y ↦ inside_run limits text x ps r w y.read y.ends ]
 
-pub inside_patch : (limits : Limits) (text x : List ℕ) (p : Patch) (r : List ℕ) → WiderPatch limits text x → PatchTextIn these.All text p r → length (skipped r) ≤ length x
+pub inside_patch : (limits : Limits) (text x : List ℕ) (p : Patch) (r : List ℕ) → WiderPatch limits text x → PatchTextIn these.All text p r → length r ≤ length x
 inside_patch limits text x p r w t =
     let one = one_info text w.info p.info w.after t.after w.stands t.info in
     let two = one_depends t.after w.deps p.deps w.start t.body (subst (λ (u : List ℕ). Dependencies u w.deps w.start) one.1 w.depends) t.deps in

@@ -6,7 +6,7 @@ use Rattle.dm_prim.specs.Primitives.{Prim}
 use Rattle.dm_named.specs.Words.{skipped, WordAmong}
 use Rattle.dm_named.specs.Many.{Many}
 use Rattle.dm_named.specs.Patches.{NextPrim, Dependencies, Body, prim_words_of, Patch, PatchTextIn}
-use Rattle.dm_named.specs.Faults.{PrimFaultAt, path, second, hunk, binary, preference, PrimsFaultWithin, BodyFaultWithin, in_braces, in_run, DepsFaultAt, PatchFaultWithin, info, deps, body}
+use Rattle.dm_named.specs.Faults.{PrimFaultAt, path, second, hunk, binary, replace, preference, PrimsFaultWithin, BodyFaultWithin, in_braces, in_run, DepsFaultAt, PatchFaultWithin, info, deps, body}
 use Rattle.dm_named.specs.declared.fault.FaultKind.{FaultKind}
 use Rattle.dm_named.specs.declared.fault.FaultKind.TheVariants as K
 use Rattle.dm_named.specs.declared.limits.Limits.{Limits}
@@ -21,6 +21,7 @@ not_in_prim text here (path stands f) = f
 not_in_prim text here (second p mid s f) = f
 not_in_prim text here (hunk p mid s f) = f
 not_in_prim text here (binary p mid s f) = f
+not_in_prim text here (replace p mid s f) = f
 not_in_prim text here (preference mid s f) = f
 
 goes_on : (kinds : Kinds) (most : ℕ) (ps more qs : List Prim) (mid rest : List ℕ) → qs ≡ ps ++ more → length ps ≡ most → Many (NextPrim kinds) mid more rest → (mid ≡ rest → ⊥) → most < length qs

@@ -20,6 +20,7 @@ path_word_of at.RmDir = codes "rmdir"
 path_word_of at.Move = codes "move"
 path_word_of at.Hunk = codes "hunk"
 path_word_of at.Binary = codes "binary"
+path_word_of at.Replace = codes "replace"
 
 -- how a primitive's word is spelled
 abbrev pub word_of : PrimWord → List ℕ

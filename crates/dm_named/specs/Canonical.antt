@@ -6,8 +6,9 @@ use Rattle.dm_info.specs.PatchInfo.{PatchInfo}
 use Rattle.dm_info.specs.Spelling.{canonical}
 use Rattle.dm_hex.specs.Digits.{stars_text}
 use Rattle.dm_tree.specs.Paths.{Name, Path}
-use Rattle.dm_prim.specs.Primitives.{Work, Prim, AddFile, RmFile, AddDir, RmDir, Hunk, Binary, At, Move, ChangePref}
+use Rattle.dm_prim.specs.Primitives.{Work, Prim, AddFile, RmFile, AddDir, RmDir, Hunk, Binary, Replace, At, Move, ChangePref}
 use Rattle.dm_named.specs.Words.{is_white}
+use Rattle.dm_named.specs.Replaces.{bracketed}
 use Rattle.dm_named.specs.Patches.{Patch}
 
 -- a byte of a name; white space and the backslash are escaped
@@ -34,12 +35,14 @@ work_word AddDir = codes "adddir "
 work_word RmDir = codes "rmdir "
 work_word (Hunk n old new) = codes "hunk "
 work_word (Binary old new) = codes "binary "
+work_word (Replace set old new) = codes "replace "
 
--- what follows the path: for a hunk its number and its lines, without lines for people; for a binary its contents in hex; for the
--- others a newline
+-- what follows the path: for a hunk its number and its lines, without lines for people; for a binary its contents in hex; for a
+-- replace its set in brackets and its tokens; for the others a newline
 abbrev pub work_text : Work → List ℕ
 work_text (Hunk n old new) = 32 ∷ (decimal n ++ 10 ∷ (lines_text 45 old ++ lines_text 43 new))
 work_text (Binary old new) = 10 ∷ (codes "oldhex\n" ++ (stars_text old ++ (codes "newhex\n" ++ stars_text new)))
+work_text (Replace set old new) = 32 ∷ (bracketed set ++ 32 ∷ (old ++ 32 ∷ (new ++ 10 ∷ [])))
 work_text w = 10 ∷ []
 
 -- a primitive: one space between its words, and a newline; a change of a preference has both values on lines of their own

@@ -2,7 +2,7 @@
 use Rattle.std.specs.Prelude.{ℕ, List, codes}
 use Rattle.dm_named.specs.declared.fault.FaultKind.{FaultKind}
 use Rattle.dm_named.specs.declared.fault.FaultKind.TheVariants.{TooLarge, NoNewPatches, BadInfo, Inverted, BadDepends, BadPatch, Unsupported, BadPath}
-use Rattle.dm_named.specs.declared.fault.FaultKind.TheVariants.{BadNumber, EmptyHunk, Unclosed, NoContext, Doubled, TooMany, NoMemory, BadHex, BadPreference}
+use Rattle.dm_named.specs.declared.fault.FaultKind.TheVariants.{BadNumber, EmptyHunk, Unclosed, NoContext, Doubled, TooMany, NoMemory, BadHex, BadTokens, BadPreference}
 
 -- the printed word of a fault
 abbrev pub fault_word : FaultKind → List ℕ
@@ -22,4 +22,5 @@ fault_word Doubled = codes "doubled"
 fault_word TooMany = codes "too-many"
 fault_word NoMemory = codes "no-memory"
 fault_word BadHex = codes "bad-hex"
+fault_word BadTokens = codes "bad-tokens"
 fault_word BadPreference = codes "bad-preference"

@@ -6,12 +6,14 @@ use Rattle.dm_info.specs.PatchInfo.{PatchInfo}
 use Rattle.dm_info.specs.Spelling.{open_bracket, Stands, NoneStands, StandsInverted}
 use Rattle.dm_tree.specs.Paths.{Path}
 use Rattle.dm_tree.specs.Trees.{Lines}
+use Rattle.dm_tokens.specs.Validity.{TokenWords}
 use Rattle.dm_prim.specs.Primitives.{Prim}
 use Rattle.dm_named.specs.Many.{Many}
 use Rattle.dm_named.specs.Limits.{standard}
 use Rattle.dm_named.specs.Words.{skipped, Begins, NextByte, Word, WordAmong, LineGroup, NumberLine}
 use Rattle.dm_named.specs.Paths.{PathWord, WordAndPath}
 use Rattle.dm_named.specs.Binaries.{WordAndStars}
+use Rattle.dm_named.specs.Replaces.{TokensText}
 use Rattle.dm_named.specs.Preferences.{PreferenceLines}
 use Rattle.dm_named.specs.Patches.{NextPrim, NextInfo, Dependencies, prim_words, prim_words_of, unsupported_words_of, RunEnds}
 use Rattle.dm_info.specs.declared.fault.InfoReadFault.{InfoReadFault}
@@ -22,7 +24,7 @@ use Rattle.dm_named.specs.declared.reading.names.NameFault.{NameFault}
 use Rattle.dm_named.specs.declared.reading.names.NameFault.TheVariants as in_name
 use Rattle.dm_named.specs.declared.fault.FaultKind.{FaultKind}
 use Rattle.dm_named.specs.declared.fault.FaultKind.TheVariants.{BadInfo, Inverted, BadDepends, BadPatch, Unsupported, BadPath}
-use Rattle.dm_named.specs.declared.fault.FaultKind.TheVariants.{BadNumber, EmptyHunk, Unclosed, TooMany, NoMemory, BadHex, BadPreference}
+use Rattle.dm_named.specs.declared.fault.FaultKind.TheVariants.{BadNumber, EmptyHunk, Unclosed, TooMany, NoMemory, BadHex, BadTokens, BadPreference}
 
 -- the kind of a fault in a patch info
 abbrev pub kind_of_info : InfoReadFault → FaultKind
@@ -82,6 +84,12 @@ BinaryFaultAt BadHex text here = HexFaultAt text here
 BinaryFaultAt NoMemory text here = Unit {0}
 BinaryFaultAt _ text here = ⊥
 
+-- after a replace's path: no set in brackets with two tokens of it stands there
+abbrev pub ReplaceFaultAt : FaultKind → List ℕ → List ℕ → Type 0
+ReplaceFaultAt BadTokens text here = (here ≡ skipped text) × ((words : TokenWords) (rest : List ℕ) → TokensText here words rest → ⊥)
+ReplaceFaultAt NoMemory text here = Unit {0}
+ReplaceFaultAt _ text here = ⊥
+
 -- after the word of a change of a preference
 abbrev pub PreferenceFaultAt : FaultKind → List ℕ → List ℕ → Type 0
 PreferenceFaultAt BadPreference text here = (here ≡ skipped text) × ((name old new rest : List ℕ) → PreferenceLines here name old new rest → ⊥)
@@ -90,15 +98,16 @@ PreferenceFaultAt _ text here = ⊥
 
 -- the words of primitives that have a path
 abbrev pub path_words : List (List ℕ)
-path_words = prim_words ++ codes "binary" ∷ []
+path_words = prim_words ++ codes "binary" ∷ codes "replace" ∷ []
 
--- where a primitive's word stands: a fault in its path, in a move's second path, after a hunk's or a binary's path, or after the word
--- of a change of a preference
+-- where a primitive's word stands: a fault in its path, in a move's second path, after the path of a hunk, a binary or a replace, or
+-- after the word of a change of a preference
 pub data PrimFaultAt (kind : FaultKind) (text here : List ℕ) : Type 0 where
   path : (stands : WordAmong path_words text) → PathFaultAt kind stands.rest here → PrimFaultAt kind text here
   second : (p : Path) (mid : List ℕ) → WordAndPath (codes "move") text p mid → PathFaultAt kind mid here → PrimFaultAt kind text here
   hunk : (p : Path) (mid : List ℕ) → WordAndPath (codes "hunk") text p mid → HunkFaultAt kind text mid here → PrimFaultAt kind text here
   binary : (p : Path) (mid : List ℕ) → WordAndPath (codes "binary") text p mid → BinaryFaultAt kind mid here → PrimFaultAt kind text here
+  replace : (p : Path) (mid : List ℕ) → WordAndPath (codes "replace") text p mid → ReplaceFaultAt kind mid here → PrimFaultAt kind text here
   preference : (mid : List ℕ) → Word text (codes "changepref") mid → PreferenceFaultAt kind mid here → PrimFaultAt kind text here
 
 -- the same where the word of a primitive of these kinds stands

@@ -3,11 +3,11 @@ use Rattle.std.specs.Prelude.{List}
 use Rattle.std.specs.List.{AllByRecursion}
 use Rattle.hex.specs.Hex.{IsBytes}
 use Rattle.dm_hex.specs.Contents.{content}
-use Rattle.dm_prim.specs.Primitives.{Work, Prim, AddFile, RmFile, AddDir, RmDir, Hunk, Binary, At, Move, ChangePref}
+use Rattle.dm_prim.specs.Primitives.{Work, Prim, AddFile, RmFile, AddDir, RmDir, Hunk, Binary, Replace, At, Move, ChangePref}
 use Rattle.dm_named.specs.declared.limits.Kinds.{Kinds}
 use Rattle.dm_named.specs.declared.limits.Kinds.TheVariants as these
 
--- all work but a binary
+-- all work but a binary and a replace
 abbrev pub IsWorkOfSix : Work → Type 0
 IsWorkOfSix AddFile = Unit {0}
 IsWorkOfSix RmFile = Unit {0}
@@ -15,8 +15,9 @@ IsWorkOfSix AddDir = Unit {0}
 IsWorkOfSix RmDir = Unit {0}
 IsWorkOfSix (Hunk l old new) = Unit {0}
 IsWorkOfSix (Binary old new) = ⊥
+IsWorkOfSix (Replace set old new) = ⊥
 
--- a primitive of the six kinds: neither a binary nor a change of a preference
+-- a primitive of the six kinds: neither a binary nor a replace nor a change of a preference
 abbrev pub IsOfSix : Prim → Type 0
 IsOfSix (At p w) = IsWorkOfSix w
 IsOfSix (Move a b) = Unit {0}
@@ -39,6 +40,7 @@ HasByteWork AddDir = Unit {0}
 HasByteWork RmDir = Unit {0}
 HasByteWork (Hunk l old new) = Unit {0}
 HasByteWork (Binary old new) = IsBytes (content old) × IsBytes (content new)
+HasByteWork (Replace set old new) = Unit {0}
 
 -- the contents of a primitive have bytes only, so that they can be written in hex
 abbrev pub HasBytes : Prim → Type 0

@@ -2,6 +2,7 @@ pub mod Many
 pub mod Words
 pub mod Paths
 pub mod Binaries
+pub mod Replaces
 pub mod Preferences
 pub mod Patches
 pub mod Canonical

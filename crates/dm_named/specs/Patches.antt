@@ -4,13 +4,14 @@ use Rattle.std.specs.List.{AllByRecursion}
 use Rattle.dm_info.specs.PatchInfo.{PatchInfo, IsInfo}
 use Rattle.dm_info.specs.Spelling.{Stands}
 use Rattle.dm_tree.specs.Paths.{Path}
-use Rattle.dm_prim.specs.Primitives.{Prim, AddFile, RmFile, AddDir, RmDir, Hunk, Binary, At, Move, ChangePref}
+use Rattle.dm_prim.specs.Primitives.{Prim, AddFile, RmFile, AddDir, RmDir, Hunk, Binary, Replace, At, Move, ChangePref}
 use Rattle.dm_prim.specs.Commuting.{IsValidPrim}
 use Rattle.dm_named.specs.Kinds.{IsOf}
 use Rattle.dm_named.specs.Many.{Many}
 use Rattle.dm_named.specs.Words.{skipped, Begins, NextByte, WordAmong, LineGroup, NumberLine}
 use Rattle.dm_named.specs.Paths.{NextPath, WordAndPath}
 use Rattle.dm_named.specs.Binaries.{BinaryText}
+use Rattle.dm_named.specs.Replaces.{ReplaceText}
 use Rattle.dm_named.specs.Preferences.{PreferenceText}
 use Rattle.dm_named.specs.declared.limits.Kinds.{Kinds}
 use Rattle.dm_named.specs.declared.limits.Kinds.TheVariants as these
@@ -66,6 +67,7 @@ PrimText text (At p AddDir) rest = WordAndPath (codes "adddir") text p rest
 PrimText text (At p RmDir) rest = WordAndPath (codes "rmdir") text p rest
 PrimText text (At p (Hunk n old new)) rest = HunkText text p n old new rest
 PrimText text (At p (Binary old new)) rest = BinaryText text p old new rest
+PrimText text (At p (Replace set old new)) rest = ReplaceText text p (record { set = set; old = old; new = new }) rest
 PrimText text (Move p q) rest = WordAndPaths (codes "move") text p q rest
 PrimText text (ChangePref name old new) rest = PreferenceText text name old new rest
 
@@ -75,25 +77,26 @@ prim_words = codes "addfile" ∷ codes "rmfile" ∷ codes "adddir" ∷ codes "rm
 
 -- the words of the further kinds
 abbrev pub wider_words : List (List ℕ)
-wider_words = codes "binary" ∷ codes "changepref" ∷ []
+wider_words = codes "binary" ∷ codes "replace" ∷ codes "changepref" ∷ []
 
 -- the words of primitives of these kinds
 abbrev pub prim_words_of : Kinds → List (List ℕ)
 prim_words_of these.Six = prim_words
 prim_words_of these.All = prim_words ++ wider_words
 
--- the words of Darcs' other patches, which are refused where a primitive may begin
+-- the words of Darcs' other patches, which are refused whichever kinds of primitives are read
+abbrev pub refused_words : List (List ℕ)
+refused_words =
+    codes "merger" ∷ codes "regrem" ∷ codes "conflictor" ∷ codes "rotcilfnoc" ∷ codes "duplicate" ∷ codes "etacilpud" ∷ []
+
+-- the words that are refused where primitives of the six kinds are read
 abbrev pub unsupported_words : List (List ℕ)
-unsupported_words =
-    codes "binary" ∷ codes "replace" ∷ codes "changepref" ∷ codes "merger" ∷ codes "regrem"
-    ∷ codes "conflictor" ∷ codes "rotcilfnoc" ∷ codes "duplicate" ∷ codes "etacilpud" ∷ []
+unsupported_words = wider_words ++ refused_words
 
 -- the words that are refused where primitives of these kinds are read
 abbrev pub unsupported_words_of : Kinds → List (List ℕ)
 unsupported_words_of these.Six = unsupported_words
-unsupported_words_of these.All =
-    codes "replace" ∷ codes "merger" ∷ codes "regrem" ∷ codes "conflictor" ∷ codes "rotcilfnoc" ∷ codes "duplicate"
-    ∷ codes "etacilpud" ∷ []
+unsupported_words_of these.All = refused_words
 
 -- a primitive of these kinds after white space
 pub record NextPrim (kinds : Kinds) (text : List ℕ) (p : Prim) (rest : List ℕ) : Type 0 where

@@ -38,12 +38,14 @@ pub enum FaultKind {
     NoContext,
     /// A patch info is equal to that of an earlier new patch.
     Doubled,
-    /// There are more new patches, or more primitives in a patch, than a bundle may have.
+    /// There are more new patches, more primitives in a patch, or more replaces, than a bundle may have.
     TooMany,
     /// An allocation failed. The place says how far the reader had come.
     NoMemory,
     /// After a binary's path, the old or the new content does not stand in hex.
     BadHex,
+    /// After the path of a replace, there are no three words that are a set in brackets, without the newline, and two tokens of it.
+    BadTokens,
     /// After `changepref`, there is no name alone on its line, or there are no lines for its old and its new value.
     BadPreference,
 }
@@ -70,6 +72,7 @@ impl FaultKind {
             FaultKind::TooMany => "too-many",
             FaultKind::NoMemory => "no-memory",
             FaultKind::BadHex => "bad-hex",
+            FaultKind::BadTokens => "bad-tokens",
             FaultKind::BadPreference => "bad-preference",
         }
     }

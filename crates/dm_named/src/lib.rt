@@ -1,13 +1,13 @@
 //! Named patches: their text, and how two of them commute (Darcs.Patch.Named).
 //!
 //! A named patch is a patch info, the patch infos of the patches that it names as dependencies, and a list of
-//! primitive patches. This crate uses `dm_info` for patch infos, `dm_prim` for primitives, `dm_hex` for contents in hex, and
-//! `dm_tree` for paths and lines.
+//! primitive patches. This crate uses `dm_info` for patch infos, `dm_prim` for primitives, `dm_hex` for contents in hex,
+//! `dm_tokens` for sets and tokens, and `dm_tree` for paths and lines.
 //!
 //! What is proved: [`read_named_within`] returns a named patch only if its text is at that place, and then no other patch
 //! can be read there. It returns a fault only if the text, read within the limits given, has that fault at that place;
 //! [`read_named`] reads within [`Limits::STANDARD`], so primitives of six kinds. [`Limits::with_kinds`] has the reader take
-//! two further kinds, which only adds patches ([`laws::kinds_choose_only`]). [`write_named`] appends the canonical text, which
+//! three further kinds, which only adds patches ([`laws::kinds_choose_only`]). [`write_named`] appends the canonical text, which
 //! is read back as the same patch. [`commute_named`] returns a pair exactly if the two named patches commute.
 #![tactic(auto)]
 

@@ -7,7 +7,7 @@ ghost use Rattle.std.specs.Prelude.{◌≡◌};
 pub enum Kinds {
     /// `addfile`, `rmfile`, `adddir`, `rmdir`, `move` and `hunk`: the reader reports any other as unsupported.
     Six,
-    /// Those six, `binary` and `changepref`.
+    /// Those six, `binary`, `replace` and `changepref`.
     All,
 }
 
@@ -20,26 +20,30 @@ pub struct Limits {
     pub patches: usize,
     /// The most primitives of a named patch.
     pub prims: usize,
+    /// The most replaces of a bundle. They are counted only where all kinds are read.
+    pub replaces: usize,
     /// The kinds of primitives.
     pub kinds: Kinds,
 }
 
 impl Limits {
-    /// For a text that somebody else wrote: 4 MiB, 1,000 new patches, and 10,000 primitives in each, of the six kinds. They bound
-    /// what such a text can ask for.
+    /// For a text that somebody else wrote: 4 MiB, 1,000 new patches, 10,000 primitives in each, of the six kinds; where all kinds are
+    /// read, 500 replaces. They bound what such a text can ask for.
     pub const STANDARD: Limits = Limits {
         bytes: 4_194_304,
         patches: 1000,
         prims: 10_000,
+        replaces: 500,
         kinds: Kinds::Six,
     };
 
     /// For the text of a repository of one's own: 1 GiB, 100,000 patches, as many as a repository can hold, and in each as many
-    /// primitives as in a patch of somebody else, of the same kinds.
+    /// primitives as in a patch of somebody else, of the same kinds. Each may be a replace.
     pub const OWN: Limits = Limits {
         bytes: 1_073_741_824,
         patches: 100_000,
         prims: Limits::STANDARD.prims,
+        replaces: 100_000 * Limits::STANDARD.prims,
         kinds: Kinds::Six,
     };
 
@@ -51,6 +55,7 @@ impl Limits {
             bytes: self.bytes,
             patches: self.patches,
             prims: self.prims,
+            replaces: self.replaces,
             kinds,
         }
     }

@@ -10,6 +10,7 @@ mod numbers;
 mod paths;
 mod preferences;
 mod primitives;
+mod replaces;
 mod words;
 
 ghost use Rattle.std.specs.Prelude.{◌≡◌, ◌≤◌, ◌<◌, ℕ, List, length, drop, MatchResult, IfOk, IfErr};

@@ -5,12 +5,15 @@ ghost use Rattle.std.specs.List.{AllByRecursion, flat_map};
 ghost use Rattle.std.specs.Fmt.{decimal};
 ghost use Rattle.dm_info.specs.PatchInfo.{IsInfo};
 ghost use Rattle.dm_tree.specs.Validity.{IsValidPath};
+ghost use Rattle.dm_tokens.specs.Validity.{AreTokens};
 ghost use Rattle.dm_prim.specs.Commuting.{IsValidPrim};
 ghost use Rattle.dm_prim.specs.Hunks.{hunk_of};
 ghost use Rattle.dm_prim.specs.Binaries.{binary_of};
+ghost use Rattle.dm_prim.specs.Replaces.{replace_of};
 ghost use Rattle.dm_prim.specs.Preferences.{preference_of};
 ghost use Rattle.dm_prim.specs.Prims.{prim_of, prims_of};
 ghost use Rattle.dm_named.specs.Canonical.{byte_text, name_text, path_text, lines_text, prim_text, deps_text, body_text, patch_text};
+ghost use Rattle.dm_named.specs.Replaces.{bracketed};
 ghost use Rattle.dm_named.specs.Kinds.{HasBytes, HaveBytes};
 ghost use Rattle.dm_named.specs.Patches.{IsValidPatch};
 
@@ -18,7 +21,8 @@ use crate::named::Named;
 use crate::text::is_white;
 use dm_hex::push_content;
 use dm_info::{Info, push_info};
-use dm_prim::{Binary, Hunk, Preference, Prim};
+use dm_prim::{Binary, Hunk, Preference, Prim, Replace};
+use dm_tokens::Tokens;
 use dm_tree::{Lines, Path};
 use itoa::Buffer;
 use std::alloc::{AllocError, Allocator};
@@ -159,6 +163,36 @@ fn push_line<B: Allocator + Copy>(line: &[u8], out: &mut Vec<u8, B>) -> Result<(
     Ok(())
 }
 
+fn push_tokens<A: Allocator, B: Allocator + Copy>(
+    tokens: &Tokens<A>,
+    out: &mut Vec<u8, B>,
+) -> Result<(), AllocError>
+    ensures valid { OnOk result (AreTokens tokens.now) }
+    ensures text { OnOk result (out.new.items ≡ out.old.items
+        ++ 32 ∷ (bracketed tokens.now.set ++ 32 ∷ (tokens.now.old ++ 32 ∷ (tokens.now.new ++ 10 ∷ [])))) }
+{
+    out.extend_from_slice(b" [")?;
+    out.extend_from_slice(tokens.set_text())?;
+    out.extend_from_slice(b"] ")?;
+    out.extend_from_slice(tokens.old())?;
+    out.push(b' ')?;
+    push_line(tokens.new_token(), out)?;
+    Ok(())
+}
+
+fn push_replace<A: Allocator, B: Allocator + Copy>(
+    replace: &Replace<A>,
+    out: &mut Vec<u8, B>,
+) -> Result<(), AllocError>
+    ensures valid { OnOk result (IsValidPrim (replace_of replace.now)) }
+    ensures text { OnOk result (out.new.items ≡ out.old.items ++ prim_text (replace_of replace.now)) }
+{
+    out.extend_from_slice(b"replace ")?;
+    push_path(replace.path(), out)?;
+    push_tokens(replace.tokens(), out)?;
+    Ok(())
+}
+
 fn push_preference<A: Allocator, B: Allocator + Copy>(
     change: &Preference<A>,
     out: &mut Vec<u8, B>,
@@ -190,6 +224,7 @@ pub fn push_prim<A: Allocator, B: Allocator + Copy>(
         Prim::Move(from, to) => push_move(from, to, out),
         Prim::Hunk(hunk) => push_hunk(hunk, out),
         Prim::Binary(binary) => push_binary(binary, out),
+        Prim::Replace(replace) => push_replace(replace, out),
         Prim::ChangePref(change) => push_preference(change, out),
     }
 }

@@ -14,6 +14,7 @@ use crate::reading::binaries::binary_at;
 use crate::reading::hunks::hunk_at;
 use crate::reading::paths::path_at;
 use crate::reading::preferences::preference_at;
+use crate::reading::replaces::replace_at;
 use crate::reading::words::{AtPath, PrimWord, prim_word_at};
 use dm_prim::Prim;
 use std::alloc::Allocator;
@@ -52,6 +53,10 @@ fn with_path_at<A: Allocator + Copy>(
         AtPath::Binary => {
             let (binary, next) = binary_at(alloc, path, text, next)?;
             Ok((Prim::Binary(binary), next))
+        }
+        AtPath::Replace => {
+            let (replace, next) = replace_at(alloc, path, text, next)?;
+            Ok((Prim::Replace(replace), next))
         }
     }
 }

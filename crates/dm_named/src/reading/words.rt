@@ -2,7 +2,7 @@
 
 ghost use Rattle.std.specs.Prelude.{◌≡◌, ◌≢◌, ◌≤◌, ◌<◌, length, drop, IfSome, IfNone, MatchBool, MatchOption};
 ghost use Rattle.dm_named.specs.Words.{skipped, Word, Among, WordAmong};
-ghost use Rattle.dm_named.specs.Patches.{prim_words_of, unsupported_words_of};
+ghost use Rattle.dm_named.specs.Patches.{prim_words_of, refused_words};
 ghost use Rattle.dm_named.specs.Faults.{path_words};
 ghost use Rattle.dm_named.specs.BodyWords.{path_word_of, word_of, IsOneWider, IsBodyWord};
 
@@ -19,6 +19,7 @@ pub(crate) enum AtPath {
     Move,
     Hunk,
     Binary,
+    Replace,
 }
 
 /// The word of a primitive.
@@ -48,10 +49,9 @@ pub(crate) fn same(word: &[u8], other: &[u8]) -> bool
 
 /// Whether this is the word of a patch that is refused, whichever kinds of primitives are read.
 fn is_refused(word: &[u8]) -> bool
-    ensures { MatchBool result (Among (unsupported_words_of Kinds.All) word.now) (Among (unsupported_words_of Kinds.All) word.now → ⊥) }
+    ensures { MatchBool result (Among refused_words word.now) (Among refused_words word.now → ⊥) }
 {
-    same(word, b"replace")
-        || same(word, b"merger")
+    same(word, b"merger")
         || same(word, b"regrem")
         || same(word, b"conflictor")
         || same(word, b"rotcilfnoc")
@@ -84,6 +84,9 @@ fn at_path(word: &[u8]) -> Option<AtPath>
     if same(word, b"binary") {
         return Some(AtPath::Binary);
     }
+    if same(word, b"replace") {
+        return Some(AtPath::Replace);
+    }
     None
 }
 
@@ -108,6 +111,7 @@ fn is_of(word: PrimWord, kinds: Kinds) -> bool
         Kinds::All => true,
         Kinds::Six => match word {
             PrimWord::AtPath(AtPath::Binary) => false,
+            PrimWord::AtPath(AtPath::Replace) => false,
             PrimWord::AtPath(_) => true,
             PrimWord::ChangePref => false,
         },

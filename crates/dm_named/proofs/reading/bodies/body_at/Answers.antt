@@ -5,6 +5,9 @@ use Rattle.dm_prim.specs.Prims.{prims_of}
 use Rattle.dm_named.proofs.BodyLemmas.{brace_wrong, run_wrong, a_run}
 use Rattle.dm_named.proofs.reading.bodies.body_at.Goals as goal
 
+pub brace_fault-requires-clause-no_prim : goal.brace_fault-requires-clause-no_prim
+brace_fault-requires-clause-no_prim g c = rw c.skip-close.ensures.rest c.in_ok-prims.ensures.closed
+
 pub returns-in_err-prims-clause-err : goal.returns-in_err-prims-clause-err
 returns-in_err-prims-clause-err g c =
     let text = c.args.text.now in

@@ -1,6 +1,6 @@
 use Rattle.std.proofs.Common.{drop}
 use Rattle.std.proofs.lemmas.Result.{err_from_is_err_and}
-use Rattle.dm_named.specs.Faults.{path, second, hunk, binary}
+use Rattle.dm_named.specs.Faults.{path, second, hunk, binary, replace}
 use Rattle.dm_named.specs.BodyWords.{path_word_of}
 use Rattle.dm_named.specs.declared.reading.words.AtPath.TheVariants as H
 use Rattle.dm_named.proofs.PrimLemmas.{path_among, head_is}
@@ -38,3 +38,12 @@ returns-in_err-binary-in-Binary-clause-err g c =
     (binary c.in_ok-path.path (drop c.in_ok-path.next text)
     (record { after = drop c.args.at text; named = head_is (drop c.args.start text) (drop c.args.at text) c.args.word H.Binary c.in-Binary.is c.requires.word; path = c.in_ok-path.ensures.ok })
     c.in_err-binary-in-Binary.ensures.err)
+
+pub returns-in_err-replace-in-Replace-clause-err : goal.returns-in_err-replace-in-Replace-clause-err
+returns-in_err-replace-in-Replace-clause-err g c =
+    let text = c.args.text.now in
+    let p = err_from_is_err_and c.from_residual-in_err-replace-in-Replace.result c.from_residual-in_err-replace-in-Replace.ensures.1 in
+    rw (p.1, p.2)
+    (replace c.in_ok-path.path (drop c.in_ok-path.next text)
+    (record { after = drop c.args.at text; named = head_is (drop c.args.start text) (drop c.args.at text) c.args.word H.Replace c.in-Replace.is c.requires.word; path = c.in_ok-path.ensures.ok })
+    c.in_err-replace-in-Replace.ensures.err)
