@@ -1,6 +1,7 @@
 pub mod HeadingLemmas
 pub mod KnownLemmas
 pub mod Members
+pub mod ReplaceLemmas
 pub mod PatchesLemmas
 pub mod ContextLemmas
 pub mod OneBundle

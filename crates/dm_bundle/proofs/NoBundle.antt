@@ -18,12 +18,12 @@ use Rattle.dm_named.proofs.NoPatch.{no_info, no_patch}
 use Rattle.dm_bundle.specs.Patches.{infos_of, Distinct, NextPatch}
 use Rattle.dm_bundle.specs.Context.{context_word, ContextWord, AreDisjoint, Context}
 use Rattle.dm_bundle.specs.Bundles.{Contents, Sections, BundleTextIn}
-use Rattle.dm_bundle.specs.Faults.{DueFaultWithin, no_context, too_many, doubled, in_patch, no_memory, NewPatchesFaultWithin, ContextInfoFaultAt, in_info, ContextFaultAt, AfterHeadingFaultWithin, in_new, in_context, FaultWithin, too_large, no_new_patches, after_heading, ExcludesBundle}
+use Rattle.dm_bundle.specs.Faults.{DueFaultWithin, no_context, too_many, doubled, in_patch, too_many_replaces, no_memory, NewPatchesFaultWithin, ContextInfoFaultAt, in_info, ContextFaultAt, AfterHeadingFaultWithin, in_new, in_context, FaultWithin, too_large, no_new_patches, after_heading, ExcludesBundle}
 use Rattle.dm_bundle.proofs.Members.{here, distinct_at}
 use Rattle.dm_bundle.proofs.OneBundle.{one_heading, word_opens, patches_follow, one_patches}
 
 -- what is at fault is neither a further patch nor the word of the context
-no_due : (limits : Limits) (kind : FaultKind) (ps : List Patch) (text here : List ℕ) → ExcludesPatch kind → DueFaultWithin limits kind (infos_of ps) text here
+no_due : (limits : Limits) (kind : FaultKind) (ps : List Patch) (text here : List ℕ) → ExcludesPatch kind → DueFaultWithin limits kind ps text here
     → ((rest : List ℕ) → Word text context_word rest → ⊥) × ((p : Patch) (after : List ℕ) → PatchTextIn limits.kinds text p after → (Contains (infos_of ps) p.info → ⊥) → ⊥)
 no_due limits kind ps text here k (no_context e h info word) = (word, λ p after t none. info (stands_opens text p.info t.after t.info))
 no_due limits kind ps text here k (too_many e h b n) = absurd (k.count e)
@@ -35,9 +35,10 @@ no_due limits kind ps text here k (in_patch b room none f) = (
   λ rest w. word_opens text rest w b,
   λ p after t _. no_patch limits kind text here k f p after t,
 )
+no_due limits kind ps text here k (too_many_replaces e room none r) = absurd (k.count e)
 no_due limits kind ps text here k (no_memory e) = absurd (k.memory e)
 
-no_further : (limits : Limits) (kind : FaultKind) (ps more : List Patch) (mid rest after_word here : List ℕ) → ExcludesPatch kind → DueFaultWithin limits kind (infos_of ps) (skipped mid) here → Many (NextPatch limits.kinds) mid more rest → ContextWord rest after_word → Distinct (infos_of (ps ++ more)) → ⊥
+no_further : (limits : Limits) (kind : FaultKind) (ps more : List Patch) (mid rest after_word here : List ℕ) → ExcludesPatch kind → DueFaultWithin limits kind ps (skipped mid) here → Many (NextPatch limits.kinds) mid more rest → ContextWord rest after_word → Distinct (infos_of (ps ++ more)) → ⊥
 no_further limits kind ps [] mid rest after_word here k f r w d = (no_due limits kind ps (skipped mid) here k f).0 after_word (subst (λ (t : List ℕ). ContextWord t after_word) (sym r) w)
 no_further limits kind ps (p ∷ more) mid rest after_word here k f r w d =
     (no_due limits kind ps (skipped mid) here k f).1 p r.0 r.1 (λ h. distinct_at (infos_of ps) p.info (infos_of more) (subst Distinct (map-append (λ (q : Patch). q.info) ps (p ∷ more)) d) h)

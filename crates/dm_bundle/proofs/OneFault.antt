@@ -1,12 +1,12 @@
 -- A text has at most one fault.
-use Rattle.std.proofs.Common.{◌≡◌, ◌≤◌, ℕ, List, ◌∷◌, ◌++◌, length, drop, sym, ap, subst, ◌∙◌, arith, inl, inr}
+use Rattle.std.proofs.Common.{◌≡◌, ◌≤◌, ℕ, List, [], ◌∷◌, ◌++◌, length, drop, sym, ap, subst, ◌∙◌, arith, inl, inr}
 use Rattle.std.specs.Prelude.{◌≢◌, Contains}
 use Rattle.std.proofs.lemmas.List.{length-append, length-drop, map-append}
 use Rattle.dm_info.specs.PatchInfo.{PatchInfo}
 use Rattle.dm_info.specs.Spelling.{Stands}
 use Rattle.dm_info.proofs.SpellingLemmas.{one_info, stands_opens}
 use Rattle.dm_named.specs.Many.{Many}
-use Rattle.dm_named.specs.Words.{skipped, Word}
+use Rattle.dm_named.specs.Words.{skipped, Word, Begins}
 use Rattle.dm_named.specs.Patches.{Patch, PatchTextIn, NextInfo}
 use Rattle.dm_named.specs.declared.fault.FaultKind.{FaultKind}
 use Rattle.dm_named.specs.declared.fault.FaultKind.TheVariants as K
@@ -14,56 +14,74 @@ use Rattle.dm_named.specs.declared.limits.Limits.{Limits}
 use Rattle.dm_named.proofs.WordLemmas.{one_word}
 use Rattle.dm_named.proofs.ManyLemmas.{GoesOn, meet}
 use Rattle.dm_named.proofs.NoPatch.{no_info}
+use Rattle.dm_named.proofs.OnePatch.{one_patch}
 use Rattle.dm_named.proofs.OneFault.{Same, both, one_info_fault, one_info_next, one_patch_fault}
 use Rattle.dm_named.proofs.WithinCount.{memory_alone}
-use Rattle.dm_bundle.specs.Patches.{infos_of, Distinct, NextPatch, AreFewWithin}
+use Rattle.dm_bundle.specs.Patches.{infos_of, Distinct, NextPatch, HasFewReplaces, AreFewWithin}
 use Rattle.dm_bundle.specs.Context.{context_word, ContextWord, AreDisjoint}
-use Rattle.dm_bundle.specs.Faults.{DueFaultWithin, no_context, too_many, doubled, in_patch, no_memory, NewPatchesFaultWithin, ContextInfoFaultAt, in_info, ContextFaultAt, AfterHeadingFaultWithin, in_new, in_context, FaultWithin, too_large, no_new_patches, after_heading}
+use Rattle.dm_bundle.specs.Faults.{HasTooManyReplaces, DueFaultWithin, no_context, too_many, doubled, in_patch, too_many_replaces, no_memory, NewPatchesFaultWithin, ContextInfoFaultAt, in_info, ContextFaultAt, AfterHeadingFaultWithin, in_new, in_context, FaultWithin, too_large, no_new_patches, after_heading}
 use Rattle.dm_bundle.proofs.Members.{distinct_at}
 use Rattle.dm_bundle.proofs.OneBundle.{one_heading, one_next, word_opens, no_patch_at_context, one_patches}
-use Rattle.dm_bundle.proofs.PatchesLemmas.{count_map}
+use Rattle.dm_bundle.proofs.ReplaceLemmas.{few_up_to}
 use Rattle.dm_bundle.proofs.NoBundle.{apart_at}
 use Rattle.dm_bundle.proofs.WithinLimits.{few_at}
 
 -- ---- the new patches
 
-one_due_fault : (limits : Limits) (k l : FaultKind) (known : List PatchInfo) (text x y : List ℕ) → k ≢ K.NoMemory → l ≢ K.NoMemory → DueFaultWithin limits k known text x → DueFaultWithin limits l known text y → Same k l x y
-one_due_fault limits k l known text x y m n (no_context e h none word) (no_context f i none' word') = both (e, h) (f, i)
-one_due_fault limits k l known text x y m n (no_context e h none word) (too_many f i b c) = absurd (none b)
-one_due_fault limits k l known text x y m n (no_context e h none word) (doubled f i room d) = absurd (none (stands_opens text d.info d.rest d.stands))
-one_due_fault limits k l known text x y m n (no_context e h none word) (in_patch b room new g) = absurd (none b)
-one_due_fault limits k l known text x y m n (too_many e h b c) (no_context f i none word) = absurd (none b)
-one_due_fault limits k l known text x y m n (too_many e h b c) (too_many f i b' c') = both (e, h) (f, i)
-one_due_fault limits k l known text x y m n (too_many e h b c) (doubled f i room d) = absurd (omega (arith, c, room))
-one_due_fault limits k l known text x y m n (too_many e h b c) (in_patch b' room new g) = absurd (omega (arith, c, room))
-one_due_fault limits k l known text x y m n (doubled e h room d) (no_context f i none word) = absurd (none (stands_opens text d.info d.rest d.stands))
-one_due_fault limits k l known text x y m n (doubled e h room d) (too_many f i b c) = absurd (omega (arith, c, room))
-one_due_fault limits k l known text x y m n (doubled e h room d) (doubled f i room' d') = both (e, h) (f, i)
-one_due_fault limits k l known text x y m n (doubled e h room d) (in_patch b room' new g) = absurd (new d)
-one_due_fault limits k l known text x y m n (in_patch b room new g) (no_context f i none word) = absurd (none b)
-one_due_fault limits k l known text x y m n (in_patch b room new g) (too_many f i b' c) = absurd (omega (arith, c, room))
-one_due_fault limits k l known text x y m n (in_patch b room new g) (doubled f i room' d) = absurd (new d)
-one_due_fault limits k l known text x y m n (in_patch b room new g) (in_patch b' room' new' g') = one_patch_fault limits k l text x y m n g g'
-one_due_fault limits k l known text x y m n (no_memory e) g = absurd (m e)
-one_due_fault limits k l known text x y m n f (no_memory e) = absurd (n e)
+-- a patch begins where one stands with which there are too many replaces
+opens : (limits : Limits) (ps : List Patch) (text here : List ℕ) → HasTooManyReplaces limits ps text here → Begins 91 text
+opens limits ps text here r = stands_opens text r.patch.info r.stands.after r.stands.info
+
+one_due_fault : (limits : Limits) (k l : FaultKind) (ps : List Patch) (text x y : List ℕ) → k ≢ K.NoMemory → l ≢ K.NoMemory → DueFaultWithin limits k ps text x → DueFaultWithin limits l ps text y → Same k l x y
+one_due_fault limits k l ps text x y m n (no_context e h none word) (no_context f i none' word') = both (e, h) (f, i)
+one_due_fault limits k l ps text x y m n (no_context e h none word) (too_many f i b c) = absurd (none b)
+one_due_fault limits k l ps text x y m n (no_context e h none word) (doubled f i room d) = absurd (none (stands_opens text d.info d.rest d.stands))
+one_due_fault limits k l ps text x y m n (no_context e h none word) (in_patch b room new g) = absurd (none b)
+one_due_fault limits k l ps text x y m n (no_context e h none word) (too_many_replaces f room new r) = absurd (none (opens limits ps text y r))
+one_due_fault limits k l ps text x y m n (too_many e h b c) (no_context f i none word) = absurd (none b)
+one_due_fault limits k l ps text x y m n (too_many e h b c) (too_many f i b' c') = both (e, h) (f, i)
+one_due_fault limits k l ps text x y m n (too_many e h b c) (doubled f i room d) = absurd (omega (arith, c, room))
+one_due_fault limits k l ps text x y m n (too_many e h b c) (in_patch b' room new g) = absurd (omega (arith, c, room))
+one_due_fault limits k l ps text x y m n (too_many e h b c) (too_many_replaces f room new r) = absurd (omega (arith, c, room))
+one_due_fault limits k l ps text x y m n (doubled e h room d) (no_context f i none word) = absurd (none (stands_opens text d.info d.rest d.stands))
+one_due_fault limits k l ps text x y m n (doubled e h room d) (too_many f i b c) = absurd (omega (arith, c, room))
+one_due_fault limits k l ps text x y m n (doubled e h room d) (doubled f i room' d') = both (e, h) (f, i)
+one_due_fault limits k l ps text x y m n (doubled e h room d) (in_patch b room' new g) = absurd (new d)
+one_due_fault limits k l ps text x y m n (doubled e h room d) (too_many_replaces f room' new r) = absurd (new d)
+one_due_fault limits k l ps text x y m n (in_patch b room new g) (no_context f i none word) = absurd (none b)
+one_due_fault limits k l ps text x y m n (in_patch b room new g) (too_many f i b' c) = absurd (omega (arith, c, room))
+one_due_fault limits k l ps text x y m n (in_patch b room new g) (doubled f i room' d) = absurd (new d)
+one_due_fault limits k l ps text x y m n (in_patch b room new g) (in_patch b' room' new' g') = one_patch_fault limits k l text x y m n g g'
+one_due_fault limits k l ps text x y m n (in_patch b room new g) (too_many_replaces f room' new' r) = absurd (m (memory_alone limits k text x g r.patch y r.stands r.short))
+one_due_fault limits k l ps text x y m n (too_many_replaces e room new r) (no_context f i none word) = absurd (none (opens limits ps text x r))
+one_due_fault limits k l ps text x y m n (too_many_replaces e room new r) (too_many f i b c) = absurd (omega (arith, c, room))
+one_due_fault limits k l ps text x y m n (too_many_replaces e room new r) (doubled f i room' d) = absurd (new d)
+one_due_fault limits k l ps text x y m n (too_many_replaces e room new r) (in_patch b room' new' g) = absurd (n (memory_alone limits l text y g r.patch x r.stands r.short))
+one_due_fault limits k l ps text x y m n (too_many_replaces e room new r) (too_many_replaces f room' new' r') = (e ∙ sym f, (one_patch limits.kinds text r.patch r'.patch x y r.stands r'.stands).1)
+one_due_fault limits k l ps text x y m n (no_memory e) g = absurd (m e)
+one_due_fault limits k l ps text x y m n f (no_memory e) = absurd (n e)
 
 -- a further patch, within the limits and new, is not at fault
-pub no_further_patch : (limits : Limits) (k : FaultKind) (ps more : List Patch) (p : Patch) (text after x : List ℕ) → k ≢ K.NoMemory → DueFaultWithin limits k (infos_of ps) text x → PatchTextIn limits.kinds text p after → Distinct (infos_of (ps ++ p ∷ more)) → AreFewWithin limits (ps ++ p ∷ more) → ⊥
+pub no_further_patch : (limits : Limits) (k : FaultKind) (ps more : List Patch) (p : Patch) (text after x : List ℕ) → k ≢ K.NoMemory → DueFaultWithin limits k ps text x → PatchTextIn limits.kinds text p after → Distinct (infos_of (ps ++ p ∷ more)) → AreFewWithin limits (ps ++ p ∷ more) → ⊥
 no_further_patch limits k ps more p text after x m (no_context e h none word) t d few = none (stands_opens text p.info t.after t.info)
-no_further_patch limits k ps more p text after x m (too_many e h b c) t d few = let count = few.count in omega (arith, c, count, count_map ps, length-append ps (p ∷ more))
+no_further_patch limits k ps more p text after x m (too_many e h b c) t d few = let count = few.count in omega (arith, c, count, length-append ps (p ∷ more))
 no_further_patch limits k ps more p text after x m (doubled e h room dbl) t d few =
     distinct_at (infos_of ps) p.info (infos_of more) (subst Distinct (map-append (λ (q : Patch). q.info) ps (p ∷ more)) d)
     (subst (Contains (infos_of ps)) (one_info text dbl.info p.info dbl.rest t.after dbl.stands t.info).0 dbl.is_known)
 no_further_patch limits k ps more p text after x m (in_patch b room new f) t d few = m (memory_alone limits k text x f p after t (few_at limits ps p more few.prims))
+no_further_patch limits k ps more p text after x m (too_many_replaces e room new r) t d few =
+    let same = (one_patch limits.kinds text p r.patch after x t r.stands).0 in
+    r.many (subst (λ (q : Patch). HasFewReplaces limits (ps ++ q ∷ [])) same (few_up_to limits ps p more few.replaces))
 no_further_patch limits k ps more p text after x m (no_memory e) t d few = m e
 
 -- where the word of the context stands, no patch is due
-no_due_at_context : (limits : Limits) (k : FaultKind) (known : List PatchInfo) (text rest x : List ℕ) → k ≢ K.NoMemory → DueFaultWithin limits k known text x → Word text context_word rest → ⊥
-no_due_at_context limits k known text rest x m (no_context e h none word) w = word rest w
-no_due_at_context limits k known text rest x m (too_many e h b c) w = word_opens text rest w b
-no_due_at_context limits k known text rest x m (doubled e h room d) w = word_opens text rest w (stands_opens text d.info d.rest d.stands)
-no_due_at_context limits k known text rest x m (in_patch b room new f) w = word_opens text rest w b
-no_due_at_context limits k known text rest x m (no_memory e) w = m e
+no_due_at_context : (limits : Limits) (k : FaultKind) (ps : List Patch) (text rest x : List ℕ) → k ≢ K.NoMemory → DueFaultWithin limits k ps text x → Word text context_word rest → ⊥
+no_due_at_context limits k ps text rest x m (no_context e h none word) w = word rest w
+no_due_at_context limits k ps text rest x m (too_many e h b c) w = word_opens text rest w b
+no_due_at_context limits k ps text rest x m (doubled e h room d) w = word_opens text rest w (stands_opens text d.info d.rest d.stands)
+no_due_at_context limits k ps text rest x m (in_patch b room new f) w = word_opens text rest w b
+no_due_at_context limits k ps text rest x m (too_many_replaces e room new r) w = word_opens text rest w (opens limits ps text x r)
+no_due_at_context limits k ps text rest x m (no_memory e) w = m e
 
 -- other patches don't go on past those before a fault
 no_patch_further : (limits : Limits) (k : FaultKind) (text x : List ℕ) (qs : List Patch) → k ≢ K.NoMemory → (f : NewPatchesFaultWithin limits k text x) → Distinct (infos_of qs) → AreFewWithin limits qs → GoesOn (NextPatch limits.kinds) f.patches qs f.mid → ⊥
@@ -74,8 +92,8 @@ one_new_fault : (limits : Limits) (k l : FaultKind) (text x y : List ℕ) → k 
 one_new_fault limits k l text x y m n f g =
     elim (meet (NextPatch limits.kinds) (one_next limits.kinds) text f.patches g.patches f.mid g.mid f.read.read g.read.read) [
       | inl e ↦
-          let here : DueFaultWithin limits k (infos_of g.patches) (skipped g.mid) x = subst (λ (t : List ℕ). DueFaultWithin limits k (infos_of g.patches) (skipped t) x) e.1 (subst (λ (ps : List Patch). DueFaultWithin limits k (infos_of ps) (skipped f.mid) x) e.0 f.wrong) in
-          one_due_fault limits k l (infos_of g.patches) (skipped g.mid) x y m n here g.wrong
+          let here : DueFaultWithin limits k g.patches (skipped g.mid) x = subst (λ (t : List ℕ). DueFaultWithin limits k g.patches (skipped t) x) e.1 (subst (λ (ps : List Patch). DueFaultWithin limits k ps (skipped f.mid) x) e.0 f.wrong) in
+          one_due_fault limits k l g.patches (skipped g.mid) x y m n here g.wrong
       | inr o ↦ elim o [ inl a ↦ absurd (no_patch_further limits k text x g.patches m f g.read.distinct g.few a) | inr a ↦ absurd (no_patch_further limits l text y f.patches n g f.read.distinct f.few a) ]
     ]
 
@@ -83,7 +101,7 @@ one_new_fault limits k l text x y m n f g =
 new_or_context : (limits : Limits) (k : FaultKind) (text x : List ℕ) (qs : List Patch) (between after_word : List ℕ) → k ≢ K.NoMemory → NewPatchesFaultWithin limits k text x → Many (NextPatch limits.kinds) text qs between → Distinct (infos_of qs) → AreFewWithin limits qs → ContextWord between after_word → ⊥
 new_or_context limits k text x qs between after_word m f read d few word =
     elim (meet (NextPatch limits.kinds) (one_next limits.kinds) text f.patches qs f.mid between f.read.read read) [
-      | inl e ↦ no_due_at_context limits k (infos_of f.patches) (skipped f.mid) after_word x m f.wrong (subst (λ (t : List ℕ). ContextWord t after_word) (sym e.1) word)
+      | inl e ↦ no_due_at_context limits k f.patches (skipped f.mid) after_word x m f.wrong (subst (λ (t : List ℕ). ContextWord t after_word) (sym e.1) word)
       | inr o ↦ elim o [ inl a ↦ no_patch_further limits k text x qs m f d few a | inr a ↦ no_patch_at_context limits.kinds between after_word word a.next a.after a.stands ]
     ]
 

@@ -1,5 +1,5 @@
 -- The new patches, one after the other.
-use Rattle.std.proofs.Common.{◌≡◌, ◌<◌, ◌≤◌, ◌↔◌, ◌⊎◌, ℕ, suc, List, [], ◌∷◌, ◌++◌, length, refl, sym, ap, subst, inl, inr, arith}
+use Rattle.std.proofs.Common.{◌≡◌, ◌<◌, ◌≤◌, ◌↔◌, ◌⊎◌, ℕ, List, [], ◌∷◌, ◌++◌, length, refl, sym, subst, inl, inr, arith}
 use Rattle.std.specs.Prelude.{Contains}
 use Rattle.std.specs.List.{AllByRecursion}
 use Rattle.std.proofs.lemmas.List.{length-append}
@@ -15,8 +15,8 @@ use Rattle.dm_named.specs.declared.fault.FaultKind.TheVariants as K
 use Rattle.dm_named.specs.declared.limits.Limits.{Limits}
 use Rattle.dm_named.specs.declared.limits.Kinds.{Kinds}
 use Rattle.dm_named.proofs.ManyLemmas.{many_more}
-use Rattle.dm_bundle.specs.Patches.{infos_of, Distinct, SameMembers, NextPatch, NewPatches, AreFewWithin}
-use Rattle.dm_bundle.specs.Faults.{IsDoubled, DueFaultWithin, in_patch, no_memory, NewPatchesFaultWithin}
+use Rattle.dm_bundle.specs.Patches.{infos_of, Distinct, SameMembers, NextPatch, NewPatches, HasFewReplaces, AreFewWithin}
+use Rattle.dm_bundle.specs.Faults.{IsDoubled, DueFaultWithin, in_patch, too_many_replaces, no_memory, NewPatchesFaultWithin}
 use Rattle.dm_bundle.proofs.Members.{distinct_more, infos_more}
 
 pub same_more : (s n is : List PatchInfo) (k : PatchInfo) → SameMembers s is → ((i : PatchInfo) → Contains n i ↔ (Contains s i ⊎ (i ≡ k))) → SameMembers n (is ++ k ∷ [])
@@ -32,23 +32,19 @@ new_more kinds text ps mid here p after r e s none =
       distinct = subst Distinct (sym (infos_more ps p)) (distinct_more (infos_of ps) p.info r.distinct none);
     }
 
-pub count_map : (ps : List Patch) → length (infos_of ps) ≡ length ps
-count_map [] = refl
-count_map (p ∷ ps) = ap suc (count_map ps)
-
 few_all : (limits : Limits) (ps : List Patch) (p : Patch) → AllByRecursion (λ q. length q.prims ≤ limits.prims) ps → length p.prims ≤ limits.prims → AllByRecursion (λ q. length q.prims ≤ limits.prims) (ps ++ p ∷ [])
 few_all limits [] p a f = (f, tt)
 few_all limits (q ∷ ps) p a f = (a.0, few_all limits ps p a.1 f)
 
-pub few_more : (limits : Limits) (ps : List Patch) (p : Patch) → AreFewWithin limits ps → length ps < limits.patches → length p.prims ≤ limits.prims → AreFewWithin limits (ps ++ p ∷ [])
-few_more limits ps p few room prims = record { count = omega (arith, room, length-append ps (p ∷ [])); prims = few_all limits ps p few.prims prims }
+pub few_more : (limits : Limits) (ps : List Patch) (p : Patch) → AreFewWithin limits ps → length ps < limits.patches → length p.prims ≤ limits.prims → HasFewReplaces limits (ps ++ p ∷ []) → AreFewWithin limits (ps ++ p ∷ [])
+few_more limits ps p few room prims all = record { count = omega (arith, room, length-append ps (p ∷ [])); prims = few_all limits ps p few.prims prims; replaces = all }
 
 -- a fault of the patch info where a patch begins
-pub info_due : (limits : Limits) (kind : FaultKind) (known : List PatchInfo) (text here : List ℕ) → Begins 91 text → length known < limits.patches → InfoFaultAt kind text here → DueFaultWithin limits kind known text here
-info_due limits K.BadInfo known text here b room f = in_patch b room (λ d. f.1.none d.info d.rest d.stands) (info f)
-info_due limits K.Inverted known text here b room f = in_patch b room (λ d. not_both text d.info d.rest d.stands f.1) (info f)
-info_due limits K.NoMemory known text here b room f = no_memory refl
-info_due limits kind known text here b room f = absurd f
+pub info_due : (limits : Limits) (kind : FaultKind) (ps : List Patch) (text here : List ℕ) → Begins 91 text → length ps < limits.patches → InfoFaultAt kind text here → DueFaultWithin limits kind ps text here
+info_due limits K.BadInfo ps text here b room f = in_patch b room (λ d. f.1.none d.info d.rest d.stands) (info f)
+info_due limits K.Inverted ps text here b room f = in_patch b room (λ d. not_both text d.info d.rest d.stands f.1) (info f)
+info_due limits K.NoMemory ps text here b room f = no_memory refl
+info_due limits kind ps text here b room f = absurd f
 
 -- the patch info that stands in front of a named patch is its own
 pub one_front : (kinds : Kinds) (text : List ℕ) (i : PatchInfo) (rest : List ℕ) (p : Patch) (after : List ℕ) → Stands text i rest → PatchTextIn kinds text p after → i ≡ p.info
@@ -58,5 +54,10 @@ one_front kinds text i rest p after s t = (one_info text i p.info rest t.after s
 pub not_doubled : (known : List PatchInfo) (text : List ℕ) (i : PatchInfo) (rest : List ℕ) → Stands text i rest → (Contains known i → ⊥) → IsDoubled known text → ⊥
 not_doubled known text i rest s none d = none (subst (Contains known) (one_info text d.info i d.rest rest d.stands s).0 d.is_known)
 
-pub new_wrong : (limits : Limits) (kind : FaultKind) (text mid next here : List ℕ) (ps : List Patch) → NewPatches limits.kinds text ps mid → AreFewWithin limits ps → next ≡ skipped mid → DueFaultWithin limits kind (infos_of ps) next here → NewPatchesFaultWithin limits kind text here
-new_wrong limits kind text mid next here ps r few e w = record { patches = ps; mid = mid; read = r; few = few; wrong = subst (λ (t : List ℕ). DueFaultWithin limits kind (infos_of ps) t here) e w }
+pub new_wrong : (limits : Limits) (kind : FaultKind) (text mid next here : List ℕ) (ps : List Patch) → NewPatches limits.kinds text ps mid → AreFewWithin limits ps → next ≡ skipped mid → DueFaultWithin limits kind ps next here → NewPatchesFaultWithin limits kind text here
+new_wrong limits kind text mid next here ps r few e w = record { patches = ps; mid = mid; read = r; few = few; wrong = subst (λ (t : List ℕ). DueFaultWithin limits kind ps t here) e w }
+
+-- a patch that is new, and within the limits but for its replaces
+pub replaces_due : (limits : Limits) (ps : List Patch) (text : List ℕ) (p : Patch) (rest : List ℕ) → PatchTextIn limits.kinds text p rest → length ps < limits.patches → length p.prims ≤ limits.prims → (Contains (infos_of ps) p.info → ⊥) → (HasFewReplaces limits (ps ++ p ∷ []) → ⊥) → DueFaultWithin limits K.TooMany ps text rest
+replaces_due limits ps text p rest t room short none many =
+    too_many_replaces refl room (not_doubled (infos_of ps) text p.info t.after t.info none) (record { patch = p; stands = t; short = short; many = many })

@@ -17,19 +17,20 @@ use Rattle.dm_named.proofs.SixFaults.{six, all, WiderPatch, patch_in_all, later_
 use Rattle.dm_bundle.specs.Heading.{Heading}
 use Rattle.dm_bundle.specs.Patches.{infos_of, Distinct, NextPatch, NewPatches, AreFewWithin}
 use Rattle.dm_bundle.specs.Context.{context_word, ContextWord}
-use Rattle.dm_bundle.specs.Faults.{IsDoubled, DueFaultWithin, no_context, too_many, doubled, in_patch, no_memory, ContextInfoFaultAt, in_info, ContextFaultAt, AfterHeadingFaultWithin, in_new, in_context, FaultWithin, too_large, no_new_patches, after_heading}
+use Rattle.dm_bundle.specs.Faults.{IsDoubled, DueFaultWithin, no_context, too_many, doubled, in_patch, too_many_replaces, no_memory, ContextInfoFaultAt, in_info, ContextFaultAt, AfterHeadingFaultWithin, in_new, in_context, FaultWithin, too_large, no_new_patches, after_heading}
 use Rattle.dm_bundle.specs.Laws.{FaultOfSix}
 use Rattle.dm_bundle.proofs.ChosenKinds.{patches_in_all}
 use Rattle.dm_bundle.proofs.OneBundle.{one_heading, one_next, word_opens, no_patch_at_context}
 use Rattle.dm_bundle.proofs.OneFault.{no_further_patch, one_fault}
+use Rattle.dm_bundle.proofs.ReplaceLemmas.{few_of_six}
 
 -- ---- where a wider word stands
 
 -- in a patch
-record WiderDue (limits : Limits) (known : List PatchInfo) (text here : List ℕ) : Type 0 where
+record WiderDue (limits : Limits) (ps : List Patch) (text here : List ℕ) : Type 0 where
   pub begins : Begins 91 text
-  pub room : length known < limits.patches
-  pub fresh : IsDoubled known text → ⊥
+  pub room : length ps < limits.patches
+  pub fresh : IsDoubled (infos_of ps) text → ⊥
   pub wider : WiderPatch limits text here
 
 -- in a new patch, after others
@@ -38,41 +39,43 @@ record WiderNew (limits : Limits) (text here : List ℕ) : Type 0 where
   pub mid : List ℕ
   pub read : NewPatches these.All text patches mid
   pub few : AreFewWithin (all limits) patches
-  pub due : WiderDue limits (infos_of patches) (skipped mid) here
+  pub due : WiderDue limits patches (skipped mid) here
 
 -- ---- a fault within the six kinds is one within all kinds, or a wider word
 
-due_in_all : (limits : Limits) (kind : FaultKind) (known : List PatchInfo) (text here : List ℕ) → DueFaultWithin (six limits) kind known text here → DueFaultWithin (all limits) kind known text here ⊎ ((kind ≡ K.Unsupported) × WiderDue limits known text here)
-due_in_all limits kind known text here (no_context e h none word) = inl (no_context e h none word)
-due_in_all limits kind known text here (too_many e h b n) = inl (too_many e h b n)
-due_in_all limits kind known text here (doubled e h room d) = inl (doubled e h room d)
-due_in_all limits kind known text here (in_patch b room fresh f) = elim (patch_in_all limits kind text here f) [ inl g ↦ inl (in_patch b room fresh g) | inr w ↦ inr (w.0, record { begins = b; room = room; fresh = fresh; wider = w.1 }) ]
-due_in_all limits kind known text here (no_memory e) = inl (no_memory e)
+due_in_all : (limits : Limits) (kind : FaultKind) (ps : List Patch) (text here : List ℕ) → DueFaultWithin (six limits) kind ps text here → DueFaultWithin (all limits) kind ps text here ⊎ ((kind ≡ K.Unsupported) × WiderDue limits ps text here)
+due_in_all limits kind ps text here (no_context e h none word) = inl (no_context e h none word)
+due_in_all limits kind ps text here (too_many e h b n) = inl (too_many e h b n)
+due_in_all limits kind ps text here (doubled e h room d) = inl (doubled e h room d)
+due_in_all limits kind ps text here (in_patch b room fresh f) = elim (patch_in_all limits kind text here f) [ inl g ↦ inl (in_patch b room fresh g) | inr w ↦ inr (w.0, record { begins = b; room = room; fresh = fresh; wider = w.1 }) ]
+due_in_all limits kind ps text here (too_many_replaces e room fresh r) = absurd (r.many tt)
+due_in_all limits kind ps text here (no_memory e) = inl (no_memory e)
 
 read_in_all : (text : List ℕ) (ps : List Patch) (mid : List ℕ) → NewPatches these.Six text ps mid → NewPatches these.All text ps mid
 read_in_all text ps mid r = record { read = (patches_in_all these.Six text ps mid r.read).0; distinct = r.distinct }
 
-few_in_all : (limits : Limits) (ps : List Patch) → AreFewWithin (six limits) ps → AreFewWithin (all limits) ps
-few_in_all limits ps few = record { count = few.count; prims = few.prims }
+few_in_all : (limits : Limits) (text : List ℕ) (ps : List Patch) (mid : List ℕ) → NewPatches these.Six text ps mid → AreFewWithin (six limits) ps → AreFewWithin (all limits) ps
+few_in_all limits text ps mid r few = record { count = few.count; prims = few.prims; replaces = few_of_six (all limits) ps (patches_in_all these.Six text ps mid r.read).1 }
 
 after_in_all : (limits : Limits) (kind : FaultKind) (text here : List ℕ) → AfterHeadingFaultWithin (six limits) kind text here → AfterHeadingFaultWithin (all limits) kind text here ⊎ ((kind ≡ K.Unsupported) × WiderNew limits text here)
 after_in_all limits kind text here (in_new f) =
     let read = read_in_all text f.patches f.mid f.read in
-    let few = few_in_all limits f.patches f.few in
-    elim (due_in_all limits kind (infos_of f.patches) (skipped f.mid) here f.wrong) [
+    let few = few_in_all limits text f.patches f.mid f.read f.few in
+    elim (due_in_all limits kind f.patches (skipped f.mid) here f.wrong) [
       | inl g ↦ inl (in_new (record { patches = f.patches; mid = f.mid; read = read; few = few; wrong = g }))
       | inr w ↦ inr (w.0, record { patches = f.patches; mid = f.mid; read = read; few = few; due = w.1 })
     ]
-after_in_all limits kind text here (in_context ps between after_word read few word f) = inl (in_context ps between after_word (read_in_all text ps between read) (few_in_all limits ps few) word f)
+after_in_all limits kind text here (in_context ps between after_word read few word f) = inl (in_context ps between after_word (read_in_all text ps between read) (few_in_all limits text ps between read few) word f)
 
 -- ---- the places of faults
 
-due_place : (limits : Limits) (kind : FaultKind) (known : List PatchInfo) (text here : List ℕ) → kind ≢ K.NoMemory → DueFaultWithin limits kind known text here → length here ≤ length text
-due_place limits kind known text here k (no_context e h none word) = omega (arith, ap length h)
-due_place limits kind known text here k (too_many e h b n) = omega (arith, ap length h)
-due_place limits kind known text here k (doubled e h room d) = omega (arith, ap length h)
-due_place limits kind known text here k (in_patch b room fresh f) = patch_place limits kind text here k f
-due_place limits kind known text here k (no_memory e) = absurd (k e)
+due_place : (limits : Limits) (kind : FaultKind) (ps : List Patch) (text here : List ℕ) → kind ≢ K.NoMemory → DueFaultWithin limits kind ps text here → length here ≤ length text
+due_place limits kind ps text here k (no_context e h none word) = omega (arith, ap length h)
+due_place limits kind ps text here k (too_many e h b n) = omega (arith, ap length h)
+due_place limits kind ps text here k (doubled e h room d) = omega (arith, ap length h)
+due_place limits kind ps text here k (in_patch b room fresh f) = patch_place limits kind text here k f
+due_place limits kind ps text here k (too_many_replaces e room fresh r) = patch_shorter limits.kinds text r.patch here r.stands
+due_place limits kind ps text here k (no_memory e) = absurd (k e)
 
 context_info_place : (kind : FaultKind) (new : List PatchInfo) (text here : List ℕ) → kind ≢ K.NoMemory → ContextInfoFaultAt kind new text here → length here ≤ length text
 context_info_place kind new text here k (doubled e h d) = omega (arith, ap length h)
@@ -83,7 +86,7 @@ context_place kind new text here k f = omega (arith, infos_shorter text f.infos 
 
 patches_shorter : (text : List ℕ) (ps : List Patch) (rest : List ℕ) → Many (NextPatch these.All) text ps rest → length (skipped rest) ≤ length (skipped text)
 patches_shorter text [] rest r = omega (arith, ap (λ (t : List ℕ). length (skipped t)) r)
-patches_shorter text (p ∷ ps) rest r = omega (arith, patches_shorter r.0 ps rest r.2, patch_shorter these.All (skipped text) p r.0 r.1)
+patches_shorter text (p ∷ ps) rest r = omega (arith, patches_shorter r.0 ps rest r.2, patch_shorter these.All (skipped text) p r.0 r.1, skipped_shorter r.0)
 
 -- of two readings, the one that goes on leaves no more
 further : (text : List ℕ) (vs ws more : List Patch) (r s : List ℕ) → Many (NextPatch these.All) text vs r → Many (NextPatch these.All) text ws s → ws ≡ vs ++ more → length (skipped s) ≤ length (skipped r)
@@ -100,25 +103,26 @@ past_wider : (limits : Limits) (text x : List ℕ) (w : WiderNew limits text x) 
 past_wider limits text x w ps s read g =
     let whole : ps ≡ (w.patches ++ g.next ∷ []) ++ g.more = g.longer ∙ sym (append_assoc w.patches (g.next ∷ []) g.more) in
     let one = many_more (NextPatch these.All) text w.patches w.mid g.next g.after w.read.read g.stands in
-    omega (arith, further text (w.patches ++ g.next ∷ []) ps g.more g.after s one read whole, inside_patch limits (skipped w.mid) x g.next g.after w.due.wider g.stands)
+    omega (arith, further text (w.patches ++ g.next ∷ []) ps g.more g.after s one read whole, inside_patch limits (skipped w.mid) x g.next g.after w.due.wider g.stands, skipped_shorter g.after)
 
 -- ---- no fault within all kinds stands before a wider word
 
-later_due : (limits : Limits) (kind : FaultKind) (known : List PatchInfo) (text x y : List ℕ) → kind ≢ K.NoMemory → WiderDue limits known text x → DueFaultWithin (all limits) kind known text y → length y ≤ length x
-later_due limits kind known text x y k w (no_context e h none word) = absurd (none w.begins)
-later_due limits kind known text x y k w (too_many e h b n) = absurd (omega (arith, n, w.room))
-later_due limits kind known text x y k w (doubled e h room d) = absurd (w.fresh d)
-later_due limits kind known text x y k w (in_patch b room fresh f) = later_patch limits kind text x y k w.wider f
-later_due limits kind known text x y k w (no_memory e) = absurd (k e)
+later_due : (limits : Limits) (kind : FaultKind) (ps : List Patch) (text x y : List ℕ) → kind ≢ K.NoMemory → WiderDue limits ps text x → DueFaultWithin (all limits) kind ps text y → length y ≤ length x
+later_due limits kind ps text x y k w (no_context e h none word) = absurd (none w.begins)
+later_due limits kind ps text x y k w (too_many e h b n) = absurd (omega (arith, n, w.room))
+later_due limits kind ps text x y k w (doubled e h room d) = absurd (w.fresh d)
+later_due limits kind ps text x y k w (in_patch b room fresh f) = later_patch limits kind text x y k w.wider f
+later_due limits kind ps text x y k w (too_many_replaces e room fresh r) = inside_patch limits text x r.patch y w.wider r.stands
+later_due limits kind ps text x y k w (no_memory e) = absurd (k e)
 
 later_after : (limits : Limits) (kind : FaultKind) (text x y : List ℕ) → kind ≢ K.NoMemory → WiderNew limits text x → AfterHeadingFaultWithin (all limits) kind text y → length y ≤ length x
 later_after limits kind text x y k w (in_new f) =
     elim (meet (NextPatch these.All) (one_next these.All) text w.patches f.patches w.mid f.mid w.read.read f.read.read) [
       | inl e ↦
-          let here = subst (λ (ps : List Patch). WiderDue limits (infos_of ps) (skipped w.mid) x) e.0 w.due in
-          later_due limits kind (infos_of f.patches) (skipped f.mid) x y k (subst (λ (t : List ℕ). WiderDue limits (infos_of f.patches) (skipped t) x) e.1 here) f.wrong
+          let here = subst (λ (ps : List Patch). WiderDue limits ps (skipped w.mid) x) e.0 w.due in
+          later_due limits kind f.patches (skipped f.mid) x y k (subst (λ (t : List ℕ). WiderDue limits f.patches (skipped t) x) e.1 here) f.wrong
       | inr o ↦ elim o [
-        | inl g ↦ omega (arith, due_place (all limits) kind (infos_of f.patches) (skipped f.mid) y k f.wrong, past_wider limits text x w f.patches f.mid f.read.read g)
+        | inl g ↦ omega (arith, due_place (all limits) kind f.patches (skipped f.mid) y k f.wrong, past_wider limits text x w f.patches f.mid f.read.read g)
         | inr g ↦ absurd (no_further_patch (all limits) kind f.patches g.more g.next (skipped f.mid) g.after y k f.wrong g.stands (subst (λ (ps : List Patch). Distinct (infos_of ps)) g.longer w.read.distinct) (subst (AreFewWithin (all limits)) g.longer w.few))
       ]
     ]

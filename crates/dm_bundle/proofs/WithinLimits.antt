@@ -3,19 +3,21 @@ use Rattle.std.proofs.Common.{◌≡◌, ◌≢◌, ◌≤◌, ℕ, List, [], �
 use Rattle.std.specs.List.{AllByRecursion}
 use Rattle.std.proofs.lemmas.List.{length-append}
 use Rattle.dm_info.specs.PatchInfo.{PatchInfo}
+use Rattle.dm_info.proofs.SpellingLemmas.{stands_opens}
 use Rattle.dm_named.specs.Many.{Many}
 use Rattle.dm_named.specs.Words.{skipped}
 use Rattle.dm_named.specs.Patches.{Patch}
 use Rattle.dm_named.specs.declared.fault.FaultKind.{FaultKind}
 use Rattle.dm_named.specs.declared.fault.FaultKind.TheVariants as K
 use Rattle.dm_named.specs.declared.limits.Limits.{Limits}
+use Rattle.dm_named.proofs.OnePatch.{one_patch}
 use Rattle.dm_named.proofs.WithinCount.{past_patch}
-use Rattle.dm_bundle.specs.Patches.{infos_of, NextPatch, AreFewWithin}
+use Rattle.dm_bundle.specs.Patches.{infos_of, NextPatch, HasFewReplaces, AreFewWithin}
 use Rattle.dm_bundle.specs.Context.{ContextWord}
 use Rattle.dm_bundle.specs.Bundles.{Contents, Sections, BundleTextIn}
-use Rattle.dm_bundle.specs.Faults.{IsWithinSizeOf, DueFaultWithin, no_context, too_many, doubled, in_patch, no_memory, ContextInfoFaultAt, in_info, AfterHeadingFaultWithin, in_new, in_context, FaultWithin, too_large, no_new_patches, after_heading}
+use Rattle.dm_bundle.specs.Faults.{IsWithinSizeOf, DueFaultWithin, no_context, too_many, doubled, in_patch, too_many_replaces, no_memory, ContextInfoFaultAt, in_info, AfterHeadingFaultWithin, in_new, in_context, FaultWithin, too_large, no_new_patches, after_heading}
 use Rattle.dm_bundle.proofs.OneBundle.{one_heading, word_opens, patches_follow}
-use Rattle.dm_bundle.proofs.PatchesLemmas.{count_map}
+use Rattle.dm_bundle.proofs.ReplaceLemmas.{few_up_to}
 use Rattle.dm_bundle.proofs.NoBundle.{no_sections, fault_excludes_bundle}
 
 pub few_at : (limits : Limits) (ps : List Patch) (p : Patch) (more : List Patch) → AllByRecursion (λ q. length q.prims ≤ limits.prims) (ps ++ p ∷ more) → length p.prims ≤ limits.prims
@@ -23,16 +25,21 @@ few_at limits [] p more a = a.0
 few_at limits (q ∷ ps) p more a = few_at limits ps p more a.1
 
 -- what is one too many goes past what may be there
-not_due : (limits : Limits) (ps more : List Patch) (mid rest after_word here : List ℕ) → DueFaultWithin limits K.TooMany (infos_of ps) (skipped mid) here → Many (NextPatch limits.kinds) mid more rest → ContextWord rest after_word → AreFewWithin limits (ps ++ more) → ⊥
+not_due : (limits : Limits) (ps more : List Patch) (mid rest after_word here : List ℕ) → DueFaultWithin limits K.TooMany ps (skipped mid) here → Many (NextPatch limits.kinds) mid more rest → ContextWord rest after_word → AreFewWithin limits (ps ++ more) → ⊥
 not_due limits ps more mid rest after_word here (no_context e h i w) r c few = cc e
 not_due limits ps [] mid rest after_word here (too_many e h b n) r c few = word_opens (skipped mid) after_word (subst (λ (t : List ℕ). ContextWord t after_word) (sym r) c) b
-not_due limits ps (p ∷ more) mid rest after_word here (too_many e h b n) r c few = let count = few.count in omega (arith, n, count, count_map ps, length-append ps (p ∷ more))
+not_due limits ps (p ∷ more) mid rest after_word here (too_many e h b n) r c few = let count = few.count in omega (arith, n, count, length-append ps (p ∷ more))
 not_due limits ps more mid rest after_word here (doubled e h room d) r c few = cc e
 not_due limits ps [] mid rest after_word here (in_patch b room none f) r c few = word_opens (skipped mid) after_word (subst (λ (t : List ℕ). ContextWord t after_word) (sym r) c) b
 not_due limits ps (p ∷ more) mid rest after_word here (in_patch b room none f) r c few =
     let past = past_patch limits (skipped mid) here f p r.0 r.1 in
     let least = few_at limits ps p more few.prims in
     omega (arith, past, least)
+not_due limits ps [] mid rest after_word here (too_many_replaces e room none f) r c few =
+    word_opens (skipped mid) after_word (subst (λ (t : List ℕ). ContextWord t after_word) (sym r) c) (stands_opens (skipped mid) f.patch.info f.stands.after f.stands.info)
+not_due limits ps (p ∷ more) mid rest after_word here (too_many_replaces e room none f) r c few =
+    let same = (one_patch limits.kinds (skipped mid) p f.patch r.0 here r.1 f.stands).0 in
+    f.many (subst (λ (q : Patch). HasFewReplaces limits (ps ++ q ∷ [])) same (few_up_to limits ps p more few.replaces))
 not_due limits ps more mid rest after_word here (no_memory e) r c few = cc e
 
 not_known : (known : List PatchInfo) (text here : List ℕ) → ContextInfoFaultAt K.TooMany known text here → ⊥

@@ -1,18 +1,18 @@
 -- What can be wrong with a bundle's text, and where. The text before the place is as it must be, and the part that is due there is
 -- missing.
-use Rattle.std.specs.Prelude.{◌≡◌, ◌≢◌, ◌≤◌, ◌<◌, ℕ, List, length, drop, Contains}
+use Rattle.std.specs.Prelude.{◌≡◌, ◌≢◌, ◌≤◌, ◌<◌, ℕ, List, [], ◌∷◌, ◌++◌, length, drop, Contains}
 use Rattle.dm_info.specs.PatchInfo.{PatchInfo}
 use Rattle.dm_info.specs.Spelling.{Stands, open_bracket}
 use Rattle.dm_named.specs.Limits.{standard}
 use Rattle.dm_named.specs.Many.{Many}
 use Rattle.dm_named.specs.Words.{skipped, Begins, Word}
-use Rattle.dm_named.specs.Patches.{Patch, NextInfo}
+use Rattle.dm_named.specs.Patches.{Patch, PatchTextIn, NextInfo}
 use Rattle.dm_named.specs.Faults.{InfoFaultAt, PatchFaultWithin}
 use Rattle.dm_named.specs.declared.fault.FaultKind.{FaultKind}
 use Rattle.dm_named.specs.declared.fault.FaultKind.TheVariants.{TooLarge, NoNewPatches, NoContext, Doubled, TooMany, NoMemory}
 use Rattle.dm_named.specs.declared.limits.Limits.{Limits}
 use Rattle.dm_bundle.specs.Heading.{Heading}
-use Rattle.dm_bundle.specs.Patches.{infos_of, NewPatches, AreFewWithin}
+use Rattle.dm_bundle.specs.Patches.{infos_of, NewPatches, HasFewReplaces, AreFewWithin}
 use Rattle.dm_bundle.specs.Context.{context_word, ContextWord, AreDisjoint}
 
 -- the text is not too large for these limits
@@ -38,16 +38,26 @@ pub record IsDoubled (known : List PatchInfo) (here : List ℕ) : Type 0 where
   pub stands : Stands here info rest
   pub is_known : Contains known info
 
--- where a named patch or the word `Context:` is due, after patches of these patch infos: something else; one patch too many; a
--- doubled patch; or a fault in the patch itself
-pub data DueFaultWithin (limits : Limits) (kind : FaultKind) (known : List PatchInfo) (text here : List ℕ) : Type 0 where
+-- after these patches stands one that ends here; it has no more primitives than the limits allow, but with it there are more replaces than
+-- they allow
+pub record HasTooManyReplaces (limits : Limits) (patches : List Patch) (text here : List ℕ) : Type 0 where
+  pub patch : Patch
+  pub stands : PatchTextIn limits.kinds text patch here
+  pub short : length patch.prims ≤ limits.prims
+  pub many : HasFewReplaces limits (patches ++ patch ∷ []) → ⊥
+
+-- where a named patch or the word `Context:` is due, after these patches: something else; one patch too many; a doubled patch; a fault
+-- in the patch itself; or, told where it ends, a patch in which nothing is wrong, but with which there are too many replaces
+pub data DueFaultWithin (limits : Limits) (kind : FaultKind) (patches : List Patch) (text here : List ℕ) : Type 0 where
   no_context : kind ≡ NoContext → here ≡ text → (Begins open_bracket text → ⊥) → ((rest : List ℕ) → Word text context_word rest → ⊥)
-      → DueFaultWithin limits kind known text here
-  too_many : kind ≡ TooMany → here ≡ text → Begins open_bracket text → length known ≡ limits.patches → DueFaultWithin limits kind known text here
-  doubled : kind ≡ Doubled → here ≡ text → length known < limits.patches → IsDoubled known text → DueFaultWithin limits kind known text here
-  in_patch : Begins open_bracket text → length known < limits.patches → (IsDoubled known text → ⊥) → PatchFaultWithin limits kind text here
-      → DueFaultWithin limits kind known text here
-  no_memory : kind ≡ NoMemory → DueFaultWithin limits kind known text here
+      → DueFaultWithin limits kind patches text here
+  too_many : kind ≡ TooMany → here ≡ text → Begins open_bracket text → length patches ≡ limits.patches → DueFaultWithin limits kind patches text here
+  doubled : kind ≡ Doubled → here ≡ text → length patches < limits.patches → IsDoubled (infos_of patches) text → DueFaultWithin limits kind patches text here
+  in_patch : Begins open_bracket text → length patches < limits.patches → (IsDoubled (infos_of patches) text → ⊥) → PatchFaultWithin limits kind text here
+      → DueFaultWithin limits kind patches text here
+  too_many_replaces : kind ≡ TooMany → length patches < limits.patches → (IsDoubled (infos_of patches) text → ⊥) → HasTooManyReplaces limits patches text here
+      → DueFaultWithin limits kind patches text here
+  no_memory : kind ≡ NoMemory → DueFaultWithin limits kind patches text here
 
 -- after new patches, of the kinds that the limits allow and no more, there is a fault in the next one, or in what is there instead
 pub record NewPatchesFaultWithin (limits : Limits) (kind : FaultKind) (text here : List ℕ) : Type 0 where
@@ -55,7 +65,7 @@ pub record NewPatchesFaultWithin (limits : Limits) (kind : FaultKind) (text here
   pub mid : List ℕ
   pub read : NewPatches limits.kinds text patches mid
   pub few : AreFewWithin limits patches
-  pub wrong : DueFaultWithin limits kind (infos_of patches) (skipped mid) here
+  pub wrong : DueFaultWithin limits kind patches (skipped mid) here
 
 -- where a patch info of the context begins: it is that of a new patch, or no patch info
 pub data ContextInfoFaultAt (kind : FaultKind) (known : List PatchInfo) (text here : List ℕ) : Type 0 where

@@ -1,5 +1,6 @@
 pub mod Heading
 pub mod Patches
+pub mod Room
 pub mod Context
 pub mod Bundles
 pub mod Canonical

@@ -1,7 +1,8 @@
 -- The new patches of a bundle, oldest first.
-use Rattle.std.specs.Prelude.{◌≤◌, ◌↔◌, ℕ, List, [], ◌∷◌, length, map, Contains}
+use Rattle.std.specs.Prelude.{◌≤◌, ◌↔◌, ◌+◌, ℕ, List, [], ◌∷◌, length, map, Contains}
 use Rattle.std.specs.List.{AllByRecursion}
 use Rattle.dm_info.specs.PatchInfo.{PatchInfo}
+use Rattle.dm_prim.specs.Primitives.{Prim, At, Replace}
 use Rattle.dm_named.specs.Limits.{standard}
 use Rattle.dm_named.specs.Many.{Many}
 use Rattle.dm_named.specs.Words.{skipped}
@@ -9,6 +10,7 @@ use Rattle.dm_named.specs.Kinds.{AreOf, AreWritable}
 use Rattle.dm_named.specs.Patches.{Patch, PatchTextIn}
 use Rattle.dm_named.specs.declared.limits.Limits.{Limits}
 use Rattle.dm_named.specs.declared.limits.Kinds.{Kinds}
+use Rattle.dm_named.specs.declared.limits.Kinds.TheVariants as these
 
 -- the patch infos of patches
 abbrev pub infos_of : List Patch → List PatchInfo
@@ -32,10 +34,35 @@ pub record NewPatches (kinds : Kinds) (text : List ℕ) (patches : List Patch) (
   pub read : Many (NextPatch kinds) text patches rest
   pub distinct : Distinct (infos_of patches)
 
--- no more new patches than these limits allow, each of no more primitives
+-- one for a replace, none for any other primitive
+abbrev pub replaces_in : Prim → ℕ
+replaces_in (At p (Replace set old new)) = 1
+replaces_in _ = 0
+
+-- how many of these primitives are replaces
+abbrev pub replaces_among : List Prim → ℕ
+replaces_among [] = 0
+replaces_among (p ∷ ps) = replaces_in p + replaces_among ps
+
+-- how many of the primitives of these patches are replaces
+abbrev pub replaces_of : List Patch → ℕ
+replaces_of [] = 0
+replaces_of (p ∷ ps) = replaces_among p.prims + replaces_of ps
+
+-- so many replaces are no more than the most, where all kinds are read; the six kinds have none to count
+abbrev pub IsFewReplaces : Kinds → ℕ → ℕ → Type 0
+IsFewReplaces these.Six most count = Unit {0}
+IsFewReplaces these.All most count = count ≤ most
+
+-- the patches have no more replaces than these limits allow
+abbrev pub HasFewReplaces : Limits → List Patch → Type 0
+HasFewReplaces limits patches = IsFewReplaces limits.kinds limits.replaces (replaces_of patches)
+
+-- no more new patches than these limits allow, each of no more primitives, and no more replaces in all
 pub record AreFewWithin (limits : Limits) (patches : List Patch) : Type 0 where
   pub count : length patches ≤ limits.patches
   pub prims : AllByRecursion (λ p. length p.prims ≤ limits.prims) patches
+  pub replaces : HasFewReplaces limits patches
 
 -- no more than the standard limits allow
 abbrev pub AreFew : List Patch → Type 0

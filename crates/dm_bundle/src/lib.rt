@@ -17,6 +17,7 @@ pub mod laws;
 mod limits;
 mod patches;
 mod reading;
+mod replaces;
 mod writing;
 
 pub use bundle::{Bundle, Doubled};

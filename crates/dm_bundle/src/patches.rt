@@ -8,6 +8,7 @@ ghost use Rattle.dm_bundle.specs.Patches.{infos_of, SameMembers, NewPatches, Are
 ghost use Rattle.dm_bundle.specs.Faults.{DueFaultWithin, NewPatchesFaultWithin};
 
 use crate::known::Known;
+use crate::replaces::room_after;
 use dm_named::text::{begins_at, info_at, skip};
 use dm_named::{FaultKind, Limits, Named, ReadFault, read_named_within};
 use std::alloc::Allocator;
@@ -39,7 +40,7 @@ fn patch_at<A: Allocator + Copy>(
     ensures few { IfOk result (λ x. length x.0.prims ≤ limits.prims) }
     ensures is_new { IfOk result (λ x. Contains (infos_of patches.now) x.0.info → ⊥) }
     ensures noted { IfOk result (λ x. SameMembers known.new (infos_of patches.now ++ x.0.info ∷ [])) }
-    ensures err { IfErr result (λ e. DueFaultWithin limits e.kind (infos_of patches.now) (drop here text.now) (drop e.at text.now)) }
+    ensures err { IfErr result (λ e. DueFaultWithin limits e.kind patches.now (drop here text.now) (drop e.at text.now)) }
     ensures place { IfErr result (λ e. here ≤ length text.now → e.at ≤ length text.now) }
 {
     if patches.len() >= limits.patches {
@@ -82,10 +83,18 @@ pub(crate) fn patches_at<A: Allocator + Copy>(
 {
     let mut patches = Vec::new(alloc);
     let mut known = Known::new(alloc);
+    let mut room = limits.replaces;
     let mut end = start;
     let mut here = skip(text, end);
     while begins_at(text, here, b'[') {
         let (patch, next) = patch_at(alloc, text, here, &patches, &mut known, limits)?;
+        let Some(left) = room_after(limits, room, &patch) else {
+            return Err(ReadFault {
+                kind: FaultKind::TooMany,
+                at: next,
+            });
+        };
+        room = left;
         if let Err(e) = patches.push(patch) {
             return Err(ReadFault::no_memory(e.into(), here));
         }

@@ -78,8 +78,9 @@ fn bundle_of<A: Allocator + Copy>(
 /// The bundle that a text stands for, and the place where what is behind its context begins, past white space. That rest is
 /// not read.
 ///
-/// The fault is the first from left to right, with its place. `NoMemory` is returned if an allocation
-/// failed, and never for a text that is too large or has no heading.
+/// The fault is the first from left to right, with its place. Replaces are counted after a patch without any other fault, and one too
+/// many is told where that patch ends. `NoMemory` is returned if an allocation failed, and never for a text that is too large or has
+/// no heading.
 pub fn read_bundle_to<A: Allocator + Copy>(
     alloc: A,
     text: &[u8],
@@ -91,7 +92,7 @@ pub fn read_bundle_to<A: Allocator + Copy>(
     // Past the white space behind the context stands what begins at the place.
     ensures end { IfOk result (λ x. EndsAtIn limits.kinds text.now x.0 (drop x.1 text.now)) }
     ensures within { IfOk result (λ x. x.1 ≤ length text.now) }
-    // It has no more new patches than the limits allow, each of no more primitives.
+    // It has no more new patches than the limits allow, each of no more primitives, and no more replaces in all.
     ensures few { IfOk result (λ x. AreFewWithin limits x.0.patches) }
     // A bundle is read if it and its text are within the limits, unless memory runs out.
     ensures within_limits { (b : Contents) → BundleTextIn limits.kinds text.now b → IsWithinSizeOf limits text.now → AreFewWithin limits b.patches
@@ -116,8 +117,9 @@ pub fn read_bundle_to<A: Allocator + Copy>(
 
 /// The bundle that a text stands for. What follows the context is not read.
 ///
-/// The fault is the first from left to right, with its place. `NoMemory` is returned if an allocation
-/// failed, and never for a text that is too large or has no heading.
+/// The fault is the first from left to right, with its place. Replaces are counted after a patch without any other fault, and one too
+/// many is told where that patch ends. `NoMemory` is returned if an allocation failed, and never for a text that is too large or has
+/// no heading.
 pub fn read_bundle_within<A: Allocator + Copy>(
     alloc: A,
     text: &[u8],
@@ -126,7 +128,7 @@ pub fn read_bundle_within<A: Allocator + Copy>(
     // The text stands for the bundle that is returned, and for no other.
     ensures ok { IfOk result (λ b. BundleTextIn limits.kinds text.now b) }
     ensures only { IfOk result (λ b. (c : Contents) → BundleTextIn limits.kinds text.now c → b ≡ c) }
-    // It has no more new patches than the limits allow, each of no more primitives.
+    // It has no more new patches than the limits allow, each of no more primitives, and no more replaces in all.
     ensures few { IfOk result (λ b. AreFewWithin limits b.patches) }
     // A bundle is read if it and its text are within the limits, unless memory runs out.
     ensures within_limits { (b : Contents) → BundleTextIn limits.kinds text.now b → IsWithinSizeOf limits text.now → AreFewWithin limits b.patches

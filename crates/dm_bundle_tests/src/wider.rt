@@ -1,8 +1,8 @@
-//! Texts of binaries and of changes of preferences, worked out by hand.
+//! Texts of binaries, of replaces and of changes of preferences, worked out by hand.
 use dm_named::{Kinds, Limits, Named, ReadFault, read_named, read_named_within, write_named};
 use std::alloc::Global;
 
-/// Pairs with a binary or a change of a preference, as the other rows are.
+/// Pairs with a binary, a replace or a change of a preference, as the other rows are.
 pub(crate) const PAIRS: &str = "\
 [a binary passes work elsewhere
 p**d] {
@@ -56,6 +56,62 @@ oldhex
 *
 newhex
 *61
+}
+
+[a replace passes work elsewhere
+p**d] {
+replace ./f [a-z] x y
+addfile ./g
+addfile ./g
+replace ./f [a-z] x y
+}
+
+[a replace passes no hunk of its file
+p**d] {
+replace ./f [a-z] x y
+hunk ./f 1
+-a
++b
+}
+
+[no hunk passes a replace of its file
+p**d] {
+hunk ./f 1
+-a
++b
+replace ./f [a-z] x y
+}
+
+[a replace passes no replace of its file
+p**d] {
+replace ./f [a-z] x y
+replace ./f [a-z] v w
+}
+
+[no work that adds its file passes a replace
+p**d] {
+addfile ./f
+replace ./f [a-z] x y
+}
+
+[a replace goes with its file
+p**d] {
+replace ./d/f [a-z] x y
+move ./d ./e
+move ./d ./e
+replace ./e/f [a-z] x y
+}
+
+[a replace passes a value of a preference
+p**d] {
+replace ./f [a-z] x y
+changepref test
+a
+b
+changepref test
+a
+b
+replace ./f [a-z] x y
 }
 
 [values of one preference pass each other
@@ -115,6 +171,29 @@ oldhex
 newhex
 *616161616161616161616161616161616161616161616161616161616161616161616161616161
 *61
+=
+[a token on a line of its own
+p**d] replace  ./a [A-Za-z_0-9] old
+new
+-
+[a token on a line of its own
+p**d] replace ./a [A-Za-z_0-9] old new
+=
+[a set with a hyphen and a dot, and one that is turned round
+p**d] {
+replace ./a [A-Za-z_0-9\\-\\.] a.b-c x replace ./a [^\\n:] x x }
+-
+[a set with a hyphen and a dot, and one that is turned round
+p**d] {
+replace ./a [A-Za-z_0-9\\-\\.] a.b-c x
+replace ./a [^\\n:] x x
+}
+=
+[a set of brackets
+p**d] replace ./a [[]] [ ]]
+-
+[a set of brackets
+p**d] replace ./a [[]] [ ]]
 =
 [values that are empty
 p**d] changepref  test
@@ -183,6 +262,68 @@ p**d] binary ./../a
 oldhex
 newhex
 =
+bad-path at byte 19
+[a
+p**d] replace 
+
+Context:
+=
+bad-path at byte 17
+[a
+p**d] replace ./../a [a-z] x y
+=
+bad-tokens at byte 22
+[a
+p**d] replace ./a  [a-z] x
+=
+bad-tokens at byte 21
+[a
+p**d] replace ./a a-z x y
+=
+bad-tokens at byte 21
+[a
+p**d] replace ./a [a-z x y
+=
+bad-tokens at byte 21
+[a
+p**d] replace ./a [a-z] x Y
+=
+bad-tokens at byte 21
+[a
+p**d] replace ./a [a-z] X y
+=
+bad-tokens at byte 21
+[a
+p**d] replace ./a [^:] x y
+=
+bad-tokens at byte 21
+[a
+p**d] replace ./a [a\\z] a z
+=
+bad-tokens at byte 21
+[a
+p**d] replace ./a [a-z\\n] x y
+=
+bad-tokens at byte 21
+[a
+p**d] replace ./a [a-zé] x y
+=
+bad-tokens at byte 21
+[a
+p**d] replace ./a [] x y
+=
+bad-tokens at byte 21
+[a
+p**d] replace ./a [ x y
+=
+bad-tokens at byte 21
+[a
+p**d] replace ./a [x
+=
+bad-tokens at byte 20
+[a
+p**d] replace ./a
+=
 bad-preference at byte 20
 [a
 p**d] changepref test x
@@ -204,7 +345,7 @@ p**d] changepref
 =
 unsupported at byte 9
 [a
-p**d] replace ./a [A-Za-z_0-9] old new";
+p**d] merger 0.0";
 
 fn read(alloc: Global, text: &str) -> Result<(Named<Global>, usize), ReadFault> {
     let limits = Limits::STANDARD.with_kinds(Kinds::All);

@@ -1,6 +1,7 @@
 use Rattle.std.proofs.Common.{length, ◌+◌, ◌-◌, ◌≤◌, ◌≡◌, drop}
 use Rattle.dm_named.specs.Words.{skipped}
 use Rattle.dm_bundle.specs.Patches.{infos_of, SameMembers, NewPatches, AreFewWithin}
+use Rattle.dm_bundle.specs.Room.{LeavesRoom}
 use Rattle.dm_bundle.proofs.patches.patches_at.Given as goal
 
 abbrev pub invariant-loop-alloc : goal.invariant-loop-alloc
@@ -11,6 +12,7 @@ invariant-loop-alloc g l = record {
   read : NewPatches l.limits.kinds (drop l.start l.text) l.patches.items (drop l.end l.text);
   known : SameMembers l.known (infos_of l.patches.items);
   few : AreFewWithin l.limits l.patches.items;
+  room : LeavesRoom l.limits l.patches.items l.room;
 }
 
 abbrev pub decreases-loop-alloc : goal.decreases-loop-alloc
