@@ -5,10 +5,11 @@ ghost use Rattle.dm_prim.specs.Prims.{prim_of, prims_of};
 ghost use Rattle.dm_prim.specs.Hunks.{hunk_of};
 ghost use Rattle.dm_prim.specs.Binaries.{binary_of};
 ghost use Rattle.dm_prim.specs.Preferences.{preference_of};
+ghost use Rattle.dm_prim.specs.Replaces.{replace_of};
 
 use dm_info::Info;
 use dm_named::Named;
-use dm_prim::{Binary, Hunk, Preference, Prim};
+use dm_prim::{Binary, Hunk, Preference, Prim, Replace};
 use dm_tree::{Lines, Path};
 use std::alloc::Allocator;
 
@@ -57,6 +58,21 @@ fn same_binary<A: Allocator, B: Allocator>(x: &Binary<A>, y: &Binary<B>) -> bool
         return false;
     }
     same_lines(x.new_lines(), y.new_lines())
+}
+
+fn same_replace<A: Allocator, B: Allocator>(x: &Replace<A>, y: &Replace<B>) -> bool
+    ensures { IsTrue result ↔ (x.now ≡ y.now) }
+{
+    if !x.path().same(y.path()) {
+        return false;
+    }
+    if !same_bytes(x.tokens().set_text(), y.tokens().set_text()) {
+        return false;
+    }
+    if !same_bytes(x.tokens().old(), y.tokens().old()) {
+        return false;
+    }
+    same_bytes(x.tokens().new_token(), y.tokens().new_token())
 }
 
 fn same_preference<A: Allocator, B: Allocator>(x: &Preference<A>, y: &Preference<B>) -> bool
@@ -134,6 +150,15 @@ fn is_binary<A: Allocator, B: Allocator>(prim: &Prim<A>, binary: &Binary<B>) -> 
     }
 }
 
+fn is_replace<A: Allocator, B: Allocator>(prim: &Prim<A>, replace: &Replace<B>) -> bool
+    ensures { IsTrue result ↔ (prim_of prim.now ≡ replace_of replace.now) }
+{
+    match prim {
+        Prim::Replace(r) => same_replace(r, replace),
+        _ => false,
+    }
+}
+
 fn is_preference<A: Allocator, B: Allocator>(prim: &Prim<A>, change: &Preference<B>) -> bool
     ensures { IsTrue result ↔ (prim_of prim.now ≡ preference_of change.now) }
 {
@@ -154,6 +179,7 @@ fn same_prim<A: Allocator, B: Allocator>(x: &Prim<A>, y: &Prim<B>) -> bool
         Prim::Move(from, to) => is_move(x, from, to),
         Prim::Hunk(hunk) => is_hunk(x, hunk),
         Prim::Binary(binary) => is_binary(x, binary),
+        Prim::Replace(replace) => is_replace(x, replace),
         Prim::ChangePref(change) => is_preference(x, change),
     }
 }

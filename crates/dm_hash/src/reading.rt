@@ -62,8 +62,9 @@ fn trailer_of<A: Allocator, B: Allocator + Copy>(
 
 /// The bundle that a text stands for, and what its trailer says of it. What follows the trailer is not read.
 ///
-/// The fault is the first from left to right, with its place. `NoMemory` is returned if an allocation
-/// failed, and never for a text that is too large or has no heading.
+/// The fault is the first from left to right, with its place. Replaces are counted after a patch without any other fault, and one too
+/// many is told where that patch ends. `NoMemory` is returned if an allocation failed, and never for a text that is too large or has
+/// no heading.
 pub fn read_hashed<A: Allocator + Copy>(
     alloc: A,
     text: &[u8],
@@ -75,7 +76,7 @@ pub fn read_hashed<A: Allocator + Copy>(
     ensures place { IfOk result (λ h. h.at ≤ length text.now) }
     // What stands at the place says this of the new patches.
     ensures trailer { IfOk result (λ h. TrailerSays h.bundle.patches (drop h.at text.now) h.trailer) }
-    // It has no more new patches than the limits allow, each of no more primitives.
+    // It has no more new patches than the limits allow, each of no more primitives, and no more replaces in all.
     ensures few { IfOk result (λ h. AreFewWithin limits h.bundle.patches) }
     // A bundle is read if it and its text are within the limits, whatever its trailer says, unless memory runs out.
     ensures within_limits { (b : Contents) → BundleTextIn limits.kinds text.now b → IsWithinSizeOf limits text.now → AreFewWithin limits b.patches

@@ -75,6 +75,7 @@ impl<A: Allocator + Copy> PathLines<A> {
             Prim::Move(from, to) => self.add_move(from, to),
             Prim::Hunk(hunk) => self.add_path(hunk.path()),
             Prim::Binary(binary) => self.add_path(binary.path()),
+            Prim::Replace(replace) => self.add_path(replace.path()),
             Prim::ChangePref(_) => Ok(()),
         }
     }

@@ -37,6 +37,7 @@ fn push_shown_prim<A: Allocator, B: Allocator + Copy>(
         | Prim::RmDir(_)
         | Prim::Move(_, _)
         | Prim::Hunk(_)
+        | Prim::Replace(_)
         | Prim::ChangePref(_) => push_prim(prim, out),
     }
 }

@@ -6,7 +6,7 @@ use Rattle.std.proofs.lemmas.Option.{slice_get-map, slice_get_read, slice_get_wi
 use Rattle.std.specs.FinMap as finmap
 use Rattle.dm_tree.specs.Trees.{Tree}
 use Rattle.dm_tree.specs.declared.fault.TreeFault.{TreeFault}
-use Rattle.dm_tree.specs.declared.fault.TreeFault.TheVariants.{NoParent, Occupied, Missing, NotFile, NotDir, NotEmpty, IntoItself, LineRange, OldDiffers, NoLines, TooDeep, NoMemory}
+use Rattle.dm_tree.specs.declared.fault.TreeFault.TheVariants.{NoParent, Occupied, Missing, NotFile, NotDir, NotEmpty, IntoItself, LineRange, OldDiffers, NoLines, TokenThere, TooLarge, TooDeep, NoMemory}
 use Rattle.dm_prim.specs.Primitives.{Prim, LawfulMap}
 use Rattle.dm_prim.specs.Applying.{AdmitsFault, Applied, FaultsAs}
 use Rattle.dm_prim.specs.InTurn.{InTurn, done, step}
@@ -35,6 +35,8 @@ stopped p s IntoItself n r = inl r
 stopped p s LineRange n r = inl r
 stopped p s OldDiffers n r = inl r
 stopped p s NoLines n r = inl r
+stopped p s TokenThere n r = inl r
+stopped p s TooLarge n r = inl r
 
 -- the primitives up to the one with a fault lead shallowly, and the fault may come there
 pub fault_there : {x : Patch} {s : LawfulMap} {k : ℕ} {t : Tree} {e : TreeFault} → FaultsAt x s k t e → PatchStops (λ p m. AdmitsFault p m.map e) x s

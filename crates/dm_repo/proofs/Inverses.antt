@@ -1,6 +1,6 @@
 -- A list undone twice is that list.
 use Rattle.std.proofs.Common.{◌≡◌, List, [], ◌∷◌, ◌++◌, refl, sym, ap, ap₂, ◌∙◌, append-nil, append_assoc}
-use Rattle.dm_prim.specs.Primitives.{Work, AddFile, RmFile, AddDir, RmDir, Hunk, Binary, Prim, At, Move, ChangePref, inv_work, inv, inv_all}
+use Rattle.dm_prim.specs.Primitives.{Work, AddFile, RmFile, AddDir, RmDir, Hunk, Binary, Replace, Prim, At, Move, ChangePref, inv_work, inv, inv_all}
 
 inv_work-inv_work : (w : Work) → inv_work (inv_work w) ≡ w
 inv_work-inv_work AddFile = refl
@@ -9,6 +9,7 @@ inv_work-inv_work AddDir = refl
 inv_work-inv_work RmDir = refl
 inv_work-inv_work (Hunk l old new) = refl
 inv_work-inv_work (Binary old new) = refl
+inv_work-inv_work (Replace set old new) = refl
 
 inv-inv : (p : Prim) → inv (inv p) ≡ p
 inv-inv (At p w) = ap (λ v. At p v) (inv_work-inv_work w)

@@ -5,7 +5,7 @@ use Rattle.std.specs.Prelude.{MatchOption}
 use Rattle.std.proofs.lemmas.List.{map-append}
 use Rattle.dm_tree.specs.Trees.{Map, Tree}
 use Rattle.dm_tree.specs.declared.fault.TreeFault.{TreeFault}
-use Rattle.dm_tree.specs.declared.fault.TreeFault.TheVariants.{NoParent, Occupied, Missing, NotFile, NotDir, NotEmpty, IntoItself, LineRange, OldDiffers, NoLines, TooDeep, NoMemory}
+use Rattle.dm_tree.specs.declared.fault.TreeFault.TheVariants.{NoParent, Occupied, Missing, NotFile, NotDir, NotEmpty, IntoItself, LineRange, OldDiffers, NoLines, TokenThere, TooLarge, TooDeep, NoMemory}
 use Rattle.dm_prim.specs.Applying.{AdmitsFault}
 use Rattle.dm_prim.specs.InTurn.{InTurn, step}
 use Rattle.dm_prim.specs.Primitives.{Prim, Applies, LawfulMap, Leads}
@@ -46,6 +46,8 @@ only_deep p m t IntoItself n r a = absurd (r t a)
 only_deep p m t LineRange n r a = absurd (r t a)
 only_deep p m t OldDiffers n r a = absurd (r t a)
 only_deep p m t NoLines n r a = absurd (r t a)
+only_deep p m t TokenThere n r a = absurd (r t a)
+only_deep p m t TooLarge n r a = absurd (r t a)
 
 -- nor does one of a patch that leads on
 patch_deep : {x : Patch} {s t : LawfulMap} {k : ℕ} {tree : Tree} {e : TreeFault} → e ≢ NoMemory → FaultsAt x s k tree e → PatchLeads x s t → e ≡ TooDeep

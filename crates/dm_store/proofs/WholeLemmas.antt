@@ -13,6 +13,7 @@ use Rattle.dm_named.specs.Patches.{Patch}
 use Rattle.dm_bundle.specs.Bundles.{BundleTextIn}
 use Rattle.dm_bundle.specs.Faults.{IsWithinSizeOf}
 use Rattle.dm_bundle.specs.Patches.{infos_of, AreFewWithin}
+use Rattle.dm_bundle.proofs.ReplaceLemmas.{few_for_own}
 use Rattle.dm_repo.specs.CommonSets.{HasAll, HasDependencies}
 use Rattle.dm_repo.specs.Repositories.{IsRepo, NamesEarlier}
 use Rattle.dm_repo.specs.Squares.{Placed, placed, placed_from, PlacedCommutes}
@@ -93,7 +94,7 @@ entry_takes kinds repo text entry is r some stands small few = inr (record {
   is = is;
   empty = refl;
   taken = tt;
-  takes = taken_again kinds repo text r some (record { stands = stands; small = small; few = record { count = few.count; prims = few.prims } });
+  takes = taken_again kinds repo text r some (record { stands = stands; small = small; few = few_for_own kinds repo few });
 })
 
 -- a text that was taken where nothing was before it

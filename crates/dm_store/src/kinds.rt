@@ -73,6 +73,7 @@ fn is_of_six(prim: &Prim<Global>) -> bool
         Prim::Move(_, _) => true,
         Prim::Hunk(_) => true,
         Prim::Binary(_) => false,
+        Prim::Replace(_) => false,
         Prim::ChangePref(_) => false,
     }
 }
