@@ -7,7 +7,7 @@ use Rattle.std.proofs.lemmas.Option.{slice_get-map, slice_get_read}
 use Rattle.dm_tree.specs.declared.fault.TreeFault.TheVariants.{TooDeep}
 use Rattle.dm_tree.specs.Paths.{Path}
 use Rattle.dm_prim.specs.Applying.{FaultsAs}
-use Rattle.dm_prim.specs.Primitives.{LawfulMap, Prim, At, Move, ChangePref, AddFile, RmFile, AddDir, RmDir, Hunk, Binary}
+use Rattle.dm_prim.specs.Primitives.{LawfulMap, Prim, At, Move, ChangePref, AddFile, RmFile, AddDir, RmDir, Hunk, Binary, Replace}
 use Rattle.dm_prim.specs.Prims.{prim_of, prims_of}
 use Rattle.dm_prim.specs.declared.primitive.Primitive.{Primitive}
 use Rattle.dm_prim.specs.declared.primitive.Primitive.TheVariants as code
@@ -42,6 +42,7 @@ move_faults m (At p AddDir) e r = absurd r
 move_faults m (At p RmDir) e r = absurd r
 move_faults m (At p (Hunk n old new)) e r = absurd r
 move_faults m (At p (Binary old new)) e r = absurd r
+move_faults m (At p (Replace set old new)) e r = absurd r
 move_faults m (ChangePref name old new) e r = absurd r
 
 moves : {Z : Type 0} {s : LawfulMap} {xs : List Placed} (m : Misfit Z) → OverflowsWith s xs m → IsMoveTooDeep m

@@ -1,7 +1,7 @@
 //! How a primitive and a path are shown.
 use crate::shown::Shown;
 use bstr::ByteSlice;
-use dm_prim::{Binary, Preference, Prim};
+use dm_prim::{Binary, Preference, Prim, Replace};
 use dm_tree::{Lines, Path};
 use std::alloc::Global;
 use std::fmt::{self, Display, Formatter, Write};
@@ -147,6 +147,31 @@ fn write_binary<W: Write>(f: &mut Formatter<W>, binary: &Binary<Global>) -> fmt:
     )
 }
 
+/// Writes a word of plain ASCII, with an escape for each byte that doesn't print.
+fn write_word<W: Write>(f: &mut Formatter<W>, word: &[u8]) -> fmt::Result {
+    for byte in word {
+        match byte {
+            b'!'..=b'~' => f.write_char(char::from(*byte))?,
+            _ => write!(f, "{}", byte.escape_ascii())?,
+        }
+    }
+    Ok(())
+}
+
+/// Writes the path of a replace, its set and its tokens.
+fn write_replace<W: Write>(f: &mut Formatter<W>, replace: &Replace<Global>) -> fmt::Result {
+    let path = ShownPath {
+        path: replace.path(),
+    };
+    let tokens = replace.tokens();
+    write!(f, "replace {path} [")?;
+    write_word(f, tokens.set_text())?;
+    f.write_str("] ")?;
+    write_word(f, tokens.old())?;
+    f.write_str(" ")?;
+    write_word(f, tokens.new_token())
+}
+
 /// Writes the name of a preference, and its value before and after.
 fn write_preference<W: Write>(
     f: &mut Formatter<W>,
@@ -187,6 +212,7 @@ impl Display for Head<'_> {
                 write!(f, "hunk {path} {}", hunk.line())
             }
             Prim::Binary(binary) => write_binary(f, binary),
+            Prim::Replace(replace) => write_replace(f, replace),
             Prim::ChangePref(preference) => write_preference(f, preference),
         }
     }

@@ -64,7 +64,7 @@ fn due(kind: FaultKind, remedy: Remedy) -> &'static str {
         FaultKind::BadDepends => "a patch info was due, or the `>` that ends the dependencies",
         FaultKind::BadPatch => "a primitive was due, or the `}` that ends the patch",
         FaultKind::Unsupported if remedy == Remedy::Known =>
-            "dm knows addfile, rmfile, adddir, rmdir, move, hunk, binary and changepref; this is something else",
+            "dm knows addfile, rmfile, adddir, rmdir, move, hunk, binary, replace and changepref; this is something else",
         FaultKind::Unsupported =>
             "dm knows addfile, rmfile, adddir, rmdir, move and hunk; this is something else",
         FaultKind::BadPath => "a path was due, such as ./docs/notes.txt",
@@ -75,6 +75,8 @@ fn due(kind: FaultKind, remedy: Remedy) -> &'static str {
         FaultKind::Doubled => "this patch stands in the bundle before",
         FaultKind::BadHex =>
             "the bytes of a file were due: `oldhex` or `newhex`, and lines of a `*` and two hex digits for each byte",
+        FaultKind::BadTokens =>
+            "a set of bytes was due, such as [A-Za-z_0-9], and two words of its bytes: the old token and the new one",
         FaultKind::BadPreference =>
             "a preference was due: its name, and on the next two lines its old and its new value",
         FaultKind::TooLarge | FaultKind::TooMany => "this is more than a bundle has",
@@ -88,12 +90,17 @@ fn write_due<W: Write>(f: &mut Formatter<W>, kind: FaultKind, remedy: Remedy) ->
         bytes,
         patches,
         prims,
+        replaces,
         ..
     } = Limits::STANDARD;
     match kind {
         FaultKind::TooLarge => writeln!(
             f,
             "a bundle has at most {bytes} bytes; --repository reads a larger one of your own"
+        ),
+        FaultKind::TooMany if remedy == Remedy::Known => writeln!(
+            f,
+            "a bundle has at most {patches} new patches and {replaces} replaces, and a patch at most {prims} primitives; --repository reads a larger one of your own"
         ),
         FaultKind::TooMany => writeln!(
             f,
@@ -138,18 +145,20 @@ fn write_place<W: Write>(f: &mut Formatter<W>, text: &[u8], place: Place, at: us
     writeln!(f, "^")
 }
 
-/// Whether a binary or a change of a preference begins a text.
+/// Whether a binary, a replace or a change of a preference begins a text.
 fn begins_wider(text: &[u8]) -> bool {
-    text.starts_with(b"binary".as_slice()) || text.starts_with(b"changepref".as_slice())
+    text.starts_with(b"binary".as_slice())
+        || text.starts_with(b"replace".as_slice())
+        || text.starts_with(b"changepref".as_slice())
 }
 
 /// Writes what helps.
 fn write_remedy<W: Write>(f: &mut Formatter<W>, remedy: Remedy) -> fmt::Result {
     f.write_str(match remedy {
         Remedy::Known | Remedy::Nothing => "",
-        Remedy::Word => "--all-kinds reads binaries and changes of preferences, too.\n",
+        Remedy::Word => "--all-kinds reads binaries, replaces and changes of preferences, too.\n",
         Remedy::Mirror => {
-            "This mirror reads neither binaries nor changes of preferences. Make one that does, of a bundle of all patches:\n  dm init --mirror NEW --all-kinds --repository BUNDLE\n"
+            "This mirror reads no binaries, replaces or changes of preferences. Make one that does, of a bundle of all patches:\n  dm init --mirror NEW --all-kinds --repository BUNDLE\n"
         }
     })
 }

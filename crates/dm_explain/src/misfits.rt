@@ -1,8 +1,9 @@
 //! What a new patch wants where it doesn't apply, and what stands there.
 use crate::head::{Bytes, Head};
 use crate::shown::Shown;
-use dm_prim::{Binary, Hunk, Prim};
+use dm_prim::{Binary, Hunk, Prim, Replace};
 use dm_repo::Misfit;
+use dm_tokens::has_piece;
 use dm_tree::{Entry, FileRef, Lines};
 use std::alloc::Global;
 use std::fmt::{self, Formatter, Write};
@@ -77,6 +78,29 @@ fn write_binary<W: Write>(
     )
 }
 
+/// Writes the first line in which the new token of a replace stands already.
+fn write_replace<W: Write>(
+    f: &mut Formatter<W>,
+    replace: &Replace<Global>,
+    misfit: &Misfit<Global>,
+) -> fmt::Result {
+    let Some(Entry::File(file)) = misfit.tree.entry(replace.path()) else {
+        return Ok(());
+    };
+    let tokens = replace.tokens();
+    let set = tokens.token_set();
+    let mut lines = file.lines();
+    let mut number = 1u64;
+    while let Some(text) = lines.next() {
+        if has_piece(&set, text, tokens.new_token()) {
+            let line = Shown { text };
+            return writeln!(f, "It stands in line {number}:\n  {line}");
+        }
+        number = number.saturating_add(1);
+    }
+    Ok(())
+}
+
 /// Writes which primitive of a new patch doesn't apply, and why.
 pub(crate) fn write_misfit<W: Write>(f: &mut Formatter<W>, misfit: &Misfit<Global>) -> fmt::Result {
     let Some(prim) = misfit.patch.prims().get(misfit.prim) else {
@@ -86,6 +110,7 @@ pub(crate) fn write_misfit<W: Write>(f: &mut Formatter<W>, misfit: &Misfit<Globa
     match prim {
         Prim::Hunk(hunk) => write_hunk(f, hunk, misfit),
         Prim::Binary(binary) => write_binary(f, binary, misfit),
+        Prim::Replace(replace) => write_replace(f, replace, misfit),
         _ => Ok(()),
     }
 }

@@ -10,7 +10,7 @@ use Rattle.dm_bundle.specs.Bundles.{Contents}
 use Rattle.dm_bundle.specs.Canonical.{bundle_text}
 use Rattle.dm_hash.specs.Trailers.{trailer_text}
 use Rattle.dm_bundle.specs.Faults.{IsWithinSize}
-use Rattle.dm_bundle.specs.Patches.{AreAllOf, AreFew}
+use Rattle.dm_bundle.specs.Patches.{AreAllOf, AreFewWithin}
 use Rattle.dm_repo.specs.declared.refusal.Refusal.{Refusal}
 use Rattle.dm_repo.specs.declared.refusal.Refusal.TheVariants as refusals
 use Rattle.dm_repo.specs.Repositories.{Holds}
@@ -45,7 +45,7 @@ hashed_text b = bundle_text b ++ trailer_text b.patches
 
 -- the bundle, of primitives of these kinds, and its text are within the limits of what is read
 pub record IsWithinLimits (kinds : Kinds) (b : Contents) : Type 0 where
-  pub few : AreFew b.patches
+  pub few : AreFewWithin (with_kinds standard kinds) b.patches
   pub of_kinds : AreAllOf kinds b.patches
   pub small : IsWithinSize (hashed_text b)
 

@@ -35,8 +35,8 @@ pub enum ToolFault {
     /// The text of what somebody holds tells no names. Nothing was written.
     #[error("theirs malformed {} {}", .0.kind.word(), .0.at)]
     BadNames(ReadFault),
-    /// A bundle would have more new patches than `Limits::STANDARD` allows, or more primitives in one, or its text more bytes.
-    /// Nothing was written.
+    /// A bundle would have more new patches than `Limits::STANDARD` allows, or more primitives in one, or more replaces, or its text
+    /// more bytes. Nothing was written.
     #[error("too many patches to send; --first N sends the first N")]
     TooManyToSend,
 }

@@ -87,7 +87,8 @@ pub fn text_of(alloc: Global, kinds: Kinds, bundle: &Bundle<Global>) -> Result<V
     ensures reads { IfOk result (λ text. ReadsWithin (with_kinds standard kinds) text.items bundle.now) }
     ensures err { IfErr result (λ e. (e ≡ ToolFault.NoMemory) ⊎ ((e ≡ ToolFault.TooManyToSend) × (IsWithinLimits kinds bundle.now → ⊥))) }
 {
-    if !are_within(Limits::STANDARD, bundle.new_patches()) {
+    let limits = Limits::STANDARD.with_kinds(kinds);
+    if !are_within(limits, bundle.new_patches()) {
         return Err(ToolFault::TooManyToSend);
     }
     if !are_of(kinds, bundle.new_patches()) {

@@ -66,12 +66,13 @@ Exit status: 0 if a bundle was made, 1 if it was refused, 2 if there is no answe
 Example: dm send --mirror shelf.dm --to ann.context > for-ann.dpatch";
 
 /// What is said of the kinds that one call reads, and of those of a mirror.
-const READ_ALL: &str = "Read binaries and changes of preferences, too";
+const READ_ALL: &str = "Read binaries, replaces and changes of preferences, too";
 
 const READ_ALL_HERE: &str =
-    "Read binaries and changes of preferences, too; a mirror remembers whether it does";
+    "Read binaries, replaces and changes of preferences, too; a mirror remembers whether it does";
 
-const REMEMBER_ALL: &str = "Have the mirror read binaries and changes of preferences, too";
+const REMEMBER_ALL: &str =
+    "Have the mirror read binaries, replaces and changes of preferences, too";
 
 /// What the exit status says.
 const HELP: &str = "\
