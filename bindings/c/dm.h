@@ -34,18 +34,19 @@ typedef uint32_t dm_status;
 
 /* How much of a text is read. */
 typedef struct dm_limits {
-  size_t bytes;   /* the most bytes of a text */
-  size_t patches; /* the most new patches of a bundle */
-  size_t prims;   /* the most primitives of a patch */
-  uint32_t kinds; /* DM_KINDS_SIX or DM_KINDS_ALL */
+  size_t bytes;    /* the most bytes of a text */
+  size_t patches;  /* the most new patches of a bundle */
+  size_t prims;    /* the most primitives of a patch */
+  size_t replaces; /* the most replaces of a bundle; a replace walks over a whole file */
+  uint32_t kinds;  /* DM_KINDS_SIX or DM_KINDS_ALL */
 } dm_limits;
 
 #define DM_KINDS_SIX 0u /* addfile, rmfile, adddir, rmdir, move, hunk */
-#define DM_KINDS_ALL 1u /* those six, binary and changepref */
+#define DM_KINDS_ALL 1u /* those six, binary, replace and changepref */
 
 /* Initializers: dm_limits limits = DM_LIMITS_STANDARD; */
-#define DM_LIMITS_STANDARD {4194304, 1000, 10000, DM_KINDS_SIX} /* for a text of somebody else */
-#define DM_LIMITS_OWN {1073741824, 100000, 10000, DM_KINDS_SIX} /* for a repository of one's own */
+#define DM_LIMITS_STANDARD {4194304, 1000, 10000, 500, DM_KINDS_SIX}        /* for a text of somebody else */
+#define DM_LIMITS_OWN {1073741824, 100000, 10000, 1000000000, DM_KINDS_SIX} /* for a repository of one's own */
 
 /* Policies. */
 #define DM_REFUSE 0u /* a conflict refuses the bundle */
@@ -83,10 +84,11 @@ typedef struct dm_verdict {
 #define DM_FAULT_UNCLOSED 10u       /* the text ends in braces */
 #define DM_FAULT_NO_CONTEXT 11u     /* neither a patch nor the context where one was due */
 #define DM_FAULT_DOUBLED 12u        /* a new patch that was there before */
-#define DM_FAULT_TOO_MANY 13u       /* more patches or primitives than the limits have */
+#define DM_FAULT_TOO_MANY 13u       /* more patches, primitives or replaces than the limits have */
 #define DM_FAULT_NO_MEMORY 14u      /* in no verdict of a call: the status is DM_NO_MEMORY */
 #define DM_FAULT_BAD_HEX 15u        /* no hex where a binary's content was due */
 #define DM_FAULT_BAD_PREFERENCE 16u /* no name, or no values, behind changepref */
+#define DM_FAULT_BAD_TOKENS 17u     /* no set in brackets, or no two tokens of it, behind a replace's path */
 
 /* Why a bundle isn't taken. In brackets what `place` and `other` are. */
 #define DM_REFUSAL_MISSING_CONTEXT 0u    /* the context names what isn't held (in the context) */

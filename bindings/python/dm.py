@@ -21,7 +21,7 @@ import mmap
 import os
 import threading
 from collections.abc import Callable, Iterator
-from dataclasses import dataclass
+from dataclasses import dataclass, replace
 from typing import Any, ClassVar, Union
 
 __all__ = [
@@ -44,7 +44,7 @@ class Status(enum.IntEnum):
 
 
 class Kinds(enum.IntEnum):
-    """The kinds of primitives that are read."""
+    """The kinds of primitives that are read: six, or all with binary, replace and changepref."""
 
     SIX = 0
     ALL = 1
@@ -87,6 +87,7 @@ class Fault(enum.IntEnum):
     NO_MEMORY = 14
     BAD_HEX = 15
     BAD_PREFERENCE = 16
+    BAD_TOKENS = 17
 
 
 class Refusal(enum.IntEnum):
@@ -103,7 +104,10 @@ class Refusal(enum.IntEnum):
 
 
 class _Limits(ctypes.Structure):
-    _fields_ = [("bytes", ctypes.c_size_t), ("patches", ctypes.c_size_t), ("prims", ctypes.c_size_t), ("kinds", ctypes.c_uint32)]
+    _fields_ = [
+        ("bytes", ctypes.c_size_t), ("patches", ctypes.c_size_t), ("prims", ctypes.c_size_t), ("replaces", ctypes.c_size_t),
+        ("kinds", ctypes.c_uint32),
+    ]
 
 
 class _Verdict(ctypes.Structure):
@@ -119,31 +123,34 @@ class _Repo(ctypes.Structure):
 
 @dataclass(frozen=True)
 class Limits:
-    """How much of a text is read: the most bytes, new patches, and primitives of a patch; and which kinds of primitives."""
+    """How much of a text is read: the most bytes, new patches, primitives of a patch, and replaces; and which kinds of primitives."""
 
     bytes: int
     patches: int
     prims: int
+    replaces: int
+    """The most replaces of a bundle. A replace walks over a whole file."""
     kinds: Kinds = Kinds.SIX
 
     STANDARD: ClassVar[Limits]
-    """For a text of somebody else: 4 MiB, 1,000 patches."""
+    """For a text of somebody else: 4 MiB, 1,000 patches, 500 replaces."""
     OWN: ClassVar[Limits]
-    """For a repository of one's own: 1 GiB, 100,000 patches."""
+    """For a repository of one's own: 1 GiB, 100,000 patches, each of whose primitives may be a replace."""
 
     def with_kinds(self, kinds: Kinds) -> Limits:
         """These limits, but with other kinds."""
-        return Limits(self.bytes, self.patches, self.prims, kinds)
+        return replace(self, kinds=kinds)
 
     def _plain(self) -> _Limits:
-        if not all(0 <= it <= _MOST for it in (self.bytes, self.patches, self.prims)):
+        numbers = (self.bytes, self.patches, self.prims, self.replaces)
+        if not all(0 <= it <= _MOST for it in numbers):
             raise ValueError("a limit is a number that fits a size_t")
-        return _Limits(self.bytes, self.patches, self.prims, Kinds(self.kinds))
+        return _Limits(*numbers, Kinds(self.kinds))
 
 
 _MOST = ctypes.c_size_t(-1).value
-Limits.STANDARD = Limits(4_194_304, 1000, 10_000)
-Limits.OWN = Limits(1_073_741_824, 100_000, 10_000)
+Limits.STANDARD = Limits(4_194_304, 1000, 10_000, 500)
+Limits.OWN = Limits(1_073_741_824, 100_000, 10_000, 1_000_000_000)
 
 
 @dataclass(frozen=True)

@@ -5,11 +5,13 @@ import io
 import mmap
 import os
 import pathlib
+import re
 import subprocess
 import sys
 import tempfile
 import threading
 import unittest
+from dataclasses import replace
 from unittest import mock
 
 import dm
@@ -20,6 +22,14 @@ FIRST = (EXAMPLES / "first.bundle").read_bytes()
 BASE = (EXAMPLES / "walk-through" / "base.bundle").read_bytes()
 CONFLICTS = (EXAMPLES / "walk-through" / "conflicts.bundle").read_bytes()
 ALL_KINDS = (EXAMPLES / "all-kinds.dpatch").read_bytes()
+WIDER = re.search(rb"(?m)^(binary|replace|changepref) ", ALL_KINDS).start()
+ALL = dm.Limits.STANDARD.with_kinds(dm.Kinds.ALL)
+
+
+def replacing(*words):
+    """A bundle of a file with the line `x y`, and of these replaces in it."""
+    lines = b"".join(b"replace ./a %s\n" % it for it in words)
+    return b"New patches:\n\n[a\np**20240101000000] {\naddfile ./a\nhunk ./a 1\n+x y\n%s}\n\nContext:\n\n" % lines
 
 
 class Checks(unittest.TestCase):
@@ -53,19 +63,31 @@ class Checks(unittest.TestCase):
             self.assertRaises(TypeError, dm.check, text)
 
     def test_limits(self):
-        few = dm.Limits(len(FIRST) - 1, 1, 2)
+        few = dm.Limits(len(FIRST) - 1, 1, 2, 0)
         with self.assertRaises(dm.Rejected) as told:
             dm.check(FIRST, few)
         self.assertEqual(told.exception.verdict.why, dm.Fault.TOO_LARGE)
-        self.assertRaises(ValueError, dm.check, FIRST, dm.Limits(-1, 1, 1))
-        self.assertRaises(ValueError, dm.check, FIRST, dm.Limits(1 << 64, 1, 1))
-        self.assertRaises(ValueError, dm.check, FIRST, dm.Limits(1, 1, 1, 2))
+        for numbers in ((-1, 1, 1, 1), (1 << 64, 1, 1, 1), (1, 1, 1, -1), (1, 1, 1, 1, 2)):
+            self.assertRaises(ValueError, dm.check, FIRST, dm.Limits(*numbers))
 
     def test_kinds(self):
         with self.assertRaises(dm.Rejected) as told:
             dm.check(ALL_KINDS)
-        self.assertEqual(told.exception.verdict.why, dm.Fault.UNSUPPORTED)
-        self.assertIn(b"\nbinary ./logo.png\n", dm.check(ALL_KINDS, dm.Limits.STANDARD.with_kinds(dm.Kinds.ALL)))
+        self.assertEqual(told.exception.verdict, dm.Verdict(dm.Kind.MALFORMED, dm.Fault.UNSUPPORTED, at=WIDER))
+        self.assertIn(b"\nbinary ./logo.png\n", dm.check(ALL_KINDS, ALL))
+
+    def test_replaces(self):
+        two = replacing(b"[a-z] x z", b"[a-z] y x")
+        self.assertEqual(dm.check(two, ALL), two)
+        for text, limits, why in (
+            (two, dm.Limits.STANDARD, dm.Fault.UNSUPPORTED),
+            (two, replace(ALL, replaces=1), dm.Fault.TOO_MANY),
+            (replacing(b"[a-z] x Z"), ALL, dm.Fault.BAD_TOKENS),
+        ):
+            with self.assertRaises(dm.Rejected) as told:
+                dm.check(text, limits)
+            self.assertEqual(told.exception.verdict.why, why)
+        self.assertEqual(dm.check(two, replace(ALL, replaces=2)), two)
 
     def test_a_text_past_the_first_room(self):
         text = b"New patches:\n\n[a\np**20240101000000] hunk ./a 1\n%s\nContext:\n\n" % (b"+x\n" * 100000)
@@ -97,6 +119,10 @@ class Repositories(unittest.TestCase):
         self.assertEqual(self.repo.bundle(), FIRST)
         verdict = self.repo.take(FIRST)
         self.assertEqual((verdict.kind, verdict.accepted, verdict.status), (dm.Kind.NOTHING_NEW, True, 0))
+
+    def test_a_replace(self):
+        self.assertEqual(self.repo.take(replacing(b"[a-z] x z", b"[a-z] y x"), ALL).taken, 1)
+        self.assertEqual(self.repo.file("./a"), b"z x\n")
 
     def test_no_file(self):
         self.repo.take(FIRST)
@@ -183,7 +209,7 @@ class Hooks(unittest.TestCase):
                 (first, "taken 1\n", 0, "Taken:"),
                 (base, "nothing new\n", 0, ""),
                 (str(EXAMPLES / "walk-through" / "conflicts.bundle"), "refused conflicts 1 1\n", 1, "conflicts with"),
-                (str(EXAMPLES / "all-kinds.dpatch"), "malformed unsupported 501\n", 1, "--all-kinds"),
+                (str(EXAMPLES / "all-kinds.dpatch"), f"malformed unsupported {WIDER}\n", 1, "--all-kinds"),
             ):
                 out, errors = io.StringIO(), io.StringIO()
                 with contextlib.redirect_stdout(out), contextlib.redirect_stderr(errors):

@@ -4,6 +4,7 @@
     cases.py python            the cases of tests/cli for check and apply, by dm.py
     cases.py c PROGRAM         the same by the example in C
 """
+import math
 import os
 import re
 import shutil
@@ -43,9 +44,11 @@ def source(path):
 
 
 def variants(path, enum):
-    """The variants of an enum of the sources, in their order, as C writes them."""
+    """The variants of an enum of the sources, by the numbers that dm_c has for them or else in their order, as C writes them."""
     body = re.search(r"pub enum %s \{\n(.*?)\n\}" % enum, source(path), re.S)[1]
     names = re.findall(r"^    ([A-Z]\w*)", body, re.M)
+    told = {name: int(number) for name, number in re.findall(r"\b%s::(\w+) => (\d+)," % enum, source("crates/dm_c/src/numbers.rt"))}
+    names.sort(key=lambda name: told.get(name, 0))
     return ["_".join(re.findall("[A-Z][a-z]*", name)).upper() for name in names]
 
 
@@ -53,8 +56,14 @@ def limits(name):
     """The numbers of a constant of the limits."""
     text = source("crates/dm_named/src/limits.rt")
     body = re.search(r"pub const %s: Limits = Limits \{(.*?)\};" % name, text, re.S)[1]
-    found = dict(re.findall(r"(\w+): ([\w:.]+),", body))
-    return [limits("STANDARD")[2] if "STANDARD" in found[it] else int(found[it].replace("_", "")) for it in ("bytes", "patches", "prims")]
+    found = dict(re.findall(r"(\w+): ([^,]+),", body))
+    return [number_of(found[it]) for it in ("bytes", "patches", "prims", "replaces")]
+
+
+def number_of(text):
+    """The number of a product of numbers and of the standard limit of primitives."""
+    parts = (limits("STANDARD")[2] if "STANDARD.prims" in it else int(it.strip().replace("_", "")) for it in text.split("*"))
+    return math.prod(parts)
 
 
 def numbers():
@@ -79,9 +88,11 @@ def numbers():
     statuses = re.findall(r"^#define DM_([A-Z_]+) \d+u +/\* ", header.partition("typedef uint32_t dm_status;")[2].partition("dm_limits")[0], re.M)
     holds("dm.py: statuses", [it.name for it in dm.Status], statuses)
     for name, in_python in (("STANDARD", dm.Limits.STANDARD), ("OWN", dm.Limits.OWN)):
-        told = re.search(r"#define DM_LIMITS_%s \{(\d+), (\d+), (\d+), DM_KINDS_SIX\}" % name, header)
+        told = re.search(r"#define DM_LIMITS_%s \{(\d+), (\d+), (\d+), (\d+), DM_KINDS_SIX\}" % name, header)
         holds(f"dm.h: the limits {name}", [int(it) for it in told.groups()], limits(name))
-        holds(f"dm.py: the limits {name}", [in_python.bytes, in_python.patches, in_python.prims], limits(name))
+        holds(f"dm.py: the limits {name}", [in_python.bytes, in_python.patches, in_python.prims, in_python.replaces], limits(name))
+        told = re.search(r"const %s: Limits =\s+Limits \{([^}]*), kinds: Kinds::Six \}" % name, source("bindings/rust/src/lib.rs"))[1]
+        holds(f"lib.rs: the limits {name}", [number_of(it) for it in re.findall(r": ([\d_]+)", told)], limits(name))
 
 
 # The cases of tests/cli.

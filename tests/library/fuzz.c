@@ -90,6 +90,8 @@ static dm_limits random_limits(void) {
     limits.patches = below(3);
   if (below(8) == 0)
     limits.prims = below(3);
+  if (below(8) == 0)
+    limits.replaces = below(3);
   limits.kinds = below(16) ? (uint32_t)below(2) : (uint32_t)next();
   return limits;
 }

@@ -35,6 +35,8 @@ typedef struct text {
 } text;
 
 static text base, bundle, conflict, theirs, none = {(uint8_t *)"hello", 5}, path = {(uint8_t *)"./recipes/pancakes.txt", 22};
+static const char replacing[] =
+    "New patches:\n\n[a\np**20240101000000] {\naddfile ./a\nhunk ./a 1\n+x y\nreplace ./a [a-z] x z\n}\n\nContext:\n\n";
 static const dm_limits standard = DM_LIMITS_STANDARD;
 
 static void stop(const char *name, const char *why) {
@@ -91,6 +93,11 @@ static void refuse(dm_repo *repo, answer *to) {
 }
 static void skip(dm_repo *repo, answer *to) { to->status = dm_repo_take(repo, conflict.at, conflict.len, &standard, DM_SKIP, &to->verdict); }
 static void take_none(dm_repo *repo, answer *to) { to->status = dm_repo_take(repo, none.at, none.len, &standard, DM_SKIP, &to->verdict); }
+static void take_replace(dm_repo *repo, answer *to) {
+  dm_limits all = DM_LIMITS_STANDARD;
+  all.kinds = DM_KINDS_ALL;
+  to->status = dm_repo_take(repo, (const uint8_t *)replacing, sizeof replacing - 1, &all, DM_REFUSE, &to->verdict);
+}
 static void len(dm_repo *repo, answer *to) { to->status = dm_repo_len(repo, &to->needed); }
 static void name(dm_repo *repo, answer *to) { to->status = dm_repo_name(repo, 1, to->out, ROOM, &to->needed); }
 static void context(dm_repo *repo, answer *to) { to->status = dm_repo_context(repo, to->out, ROOM, &to->needed); }
@@ -135,6 +142,7 @@ static const row rows[] = {
     {"dm_repo_take, a conflict", refuse, false, DM_NO},
     {"dm_repo_take, skipping", skip, true, DM_OK},
     {"dm_repo_take, no bundle", take_none, false, DM_NO},
+    {"dm_repo_take, a replace", take_replace, true, DM_OK},
     {"dm_repo_len", len, false, DM_OK},
     {"dm_repo_name", name, false, DM_OK},
     {"dm_repo_context", context, false, DM_OK},

@@ -9,6 +9,7 @@ pub struct dm_limits {
     pub bytes: usize,
     pub patches: usize,
     pub prims: usize,
+    pub replaces: usize,
     pub kinds: u32,
 }
 

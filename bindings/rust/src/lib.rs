@@ -35,15 +35,18 @@ pub struct Limits {
     pub patches: usize,
     /// The most primitives of a patch.
     pub prims: usize,
+    /// The most replaces of a bundle. A replace walks over a whole file.
+    pub replaces: usize,
     /// The kinds of primitives.
     pub kinds: Kinds,
 }
 
 impl Limits {
     /// For a text of somebody else.
-    pub const STANDARD: Limits = Limits { bytes: 4_194_304, patches: 1000, prims: 10_000, kinds: Kinds::Six };
-    /// For a repository of one's own.
-    pub const OWN: Limits = Limits { bytes: 1_073_741_824, patches: 100_000, prims: 10_000, kinds: Kinds::Six };
+    pub const STANDARD: Limits = Limits { bytes: 4_194_304, patches: 1000, prims: 10_000, replaces: 500, kinds: Kinds::Six };
+    /// For a repository of one's own: each primitive may be a replace.
+    pub const OWN: Limits =
+        Limits { bytes: 1_073_741_824, patches: 100_000, prims: 10_000, replaces: 1_000_000_000, kinds: Kinds::Six };
 
     /// These limits, but with other kinds.
     pub const fn with_kinds(self, kinds: Kinds) -> Limits {
@@ -51,7 +54,8 @@ impl Limits {
     }
 
     fn plain(self) -> dm_limits {
-        dm_limits { bytes: self.bytes, patches: self.patches, prims: self.prims, kinds: self.kinds as u32 }
+        let Limits { bytes, patches, prims, replaces, kinds } = self;
+        dm_limits { bytes, patches, prims, replaces, kinds: kinds as u32 }
     }
 }
 

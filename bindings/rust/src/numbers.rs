@@ -24,7 +24,7 @@ numbers! {
 pub enum Kinds {
     /// `addfile`, `rmfile`, `adddir`, `rmdir`, `move` and `hunk`.
     Six = 0,
-    /// Those six, `binary` and `changepref`.
+    /// Those six, `binary`, `replace` and `changepref`.
     All = 1,
 }
 }
@@ -76,6 +76,7 @@ pub enum Fault {
     NoMemory = 14,
     BadHex = 15,
     BadPreference = 16,
+    BadTokens = 17,
 }
 }
 

@@ -20,9 +20,27 @@ fn a_bundle_is_checked() {
     assert_eq!(check(b"", Limits::STANDARD), fault(Fault::NoNewPatches, 0));
     assert_eq!(check(b"hello", Limits::STANDARD), fault(Fault::NoNewPatches, 5));
     assert_eq!(check(FIRST, Limits { bytes: 9, ..Limits::STANDARD }), fault(Fault::TooLarge, 9));
-    assert_eq!(check(ALL_KINDS, Limits::STANDARD), fault(Fault::Unsupported, 501));
+    let six = check(ALL_KINDS, Limits::STANDARD);
+    assert!(matches!(six, Err(Error::Rejected(Verdict::Malformed { fault: Fault::Unsupported, .. }))));
     assert!(check(ALL_KINDS, Limits::STANDARD.with_kinds(Kinds::All)).is_ok());
     assert_eq!(check(b"hello", Limits::STANDARD).unwrap_err().to_string(), "malformed no-new-patches 5");
+}
+
+#[test]
+fn replaces_are_counted() {
+    let text = b"New patches:\n\n[a\np**20240101000000] {\naddfile ./a\nhunk ./a 1\n+x\nreplace ./a [a-z] x y\n}\n\nContext:\n\n";
+    let all = Limits::STANDARD.with_kinds(Kinds::All);
+    assert_eq!(check(text, all).unwrap(), text);
+    let why = |limits| match check(text, limits) {
+        Err(Error::Rejected(Verdict::Malformed { fault, .. })) => Some(fault),
+        _ => None,
+    };
+    assert_eq!(why(Limits::STANDARD), Some(Fault::Unsupported));
+    assert_eq!(why(Limits { replaces: 0, ..all }), Some(Fault::TooMany));
+    assert_eq!(why(Limits { replaces: 1, ..all }), None);
+    let mut repo = Repo::new().unwrap();
+    assert_eq!(repo.take(text, all, Policy::Refuse), Ok(Verdict::Taken(1)));
+    assert_eq!(repo.file(b"./a").unwrap().unwrap(), b"y\n");
 }
 
 #[test]

@@ -20,4 +20,4 @@ kinds_apart Six All e = absurd (let no : ⊥ = omega (arith, e) in no)
 kinds_apart All Six e = absurd (let no : ⊥ = omega (arith, e) in no)
 
 pub limits_apart : (l m : Limits) → limit_numbers l ≡ limit_numbers m → l ≡ m
-limits_apart l m e = λ i. record { bytes = (e i).bytes; patches = (e i).patches; prims = (e i).prims; kinds = kinds_apart l.kinds m.kinds (λ j. (e j).kinds) i }
+limits_apart l m e = λ i. record { bytes = (e i).bytes; patches = (e i).patches; prims = (e i).prims; replaces = (e i).replaces; kinds = kinds_apart l.kinds m.kinds (λ j. (e j).kinds) i }

@@ -33,7 +33,7 @@ kinds_number All = 1
 
 -- limits
 abbrev pub limit_numbers : Limits → LimitNumbers
-limit_numbers l = record { bytes = l.bytes; patches = l.patches; prims = l.prims; kinds = kinds_number l.kinds }
+limit_numbers l = record { bytes = l.bytes; patches = l.patches; prims = l.prims; replaces = l.replaces; kinds = kinds_number l.kinds }
 
 -- a policy
 abbrev pub policy_number : Policy → ℕ
@@ -59,6 +59,7 @@ fault_number faults.TooMany = 13
 fault_number faults.NoMemory = 14
 fault_number faults.BadHex = 15
 fault_number faults.BadPreference = 16
+fault_number faults.BadTokens = 17
 
 -- numbers of a verdict that says no more than its kind
 abbrev pub bare : ℕ → VerdictNumbers

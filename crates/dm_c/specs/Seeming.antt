@@ -22,7 +22,7 @@ abbrev pub told_faults : List (Option FaultKind)
 told_faults =
     Some faults.TooLarge ∷ Some faults.NoNewPatches ∷ Some faults.BadInfo ∷ Some faults.Inverted ∷ Some faults.BadDepends ∷ Some faults.BadPatch ∷
     Some faults.Unsupported ∷ Some faults.BadPath ∷ Some faults.BadNumber ∷ Some faults.EmptyHunk ∷ Some faults.Unclosed ∷ Some faults.NoContext ∷
-    Some faults.Doubled ∷ Some faults.TooMany ∷ None ∷ Some faults.BadHex ∷ Some faults.BadPreference ∷ []
+    Some faults.Doubled ∷ Some faults.TooMany ∷ None ∷ Some faults.BadHex ∷ Some faults.BadPreference ∷ Some faults.BadTokens ∷ []
 
 -- the fault of a number
 abbrev pub told_fault : ℕ → Option FaultKind

@@ -29,6 +29,8 @@ pub struct LimitNumbers {
     pub patches: usize,
     /// The most primitives of a patch.
     pub prims: usize,
+    /// The most replaces of a bundle.
+    pub replaces: usize,
     /// The number of the kinds of primitives.
     pub kinds: u32,
 }
@@ -85,6 +87,7 @@ impl LimitNumbers {
             bytes: self.bytes,
             patches: self.patches,
             prims: self.prims,
+            replaces: self.replaces,
             kinds,
         })
     }
@@ -112,6 +115,7 @@ fn number_of_fault(kind: FaultKind) -> u32
         FaultKind::NoMemory => 14,
         FaultKind::BadHex => 15,
         FaultKind::BadPreference => 16,
+        FaultKind::BadTokens => 17,
     }
 }
 
@@ -137,6 +141,7 @@ fn fault_of(number: u32) -> Option<FaultKind>
         14 => None,
         15 => Some(FaultKind::BadHex),
         16 => Some(FaultKind::BadPreference),
+        17 => Some(FaultKind::BadTokens),
         _ => None,
     }
 }
