@@ -83,7 +83,7 @@ module _ (t : Tree) (lawful : IsLawful (get t)) (shallow : Deep (get t) → ⊥)
         };
         makes = spread_prims [] names ps fit;
         packed = spread_packed [] names ps fit;
-        few = record { count = rw (spread_length [] names ps) few; prims = spread_few [] names ps fit };
+        few = record { count = rw (spread_length [] names ps) few; prims = spread_few [] names ps fit; replaces = tt };
         of_six = spread_six [] names ps (six_all (rows t));
       }
 

@@ -6,3 +6,7 @@ pub mod WholeLemmas
 pub mod BeginningLemmas
 pub mod FrontLemmas
 pub mod AlikeLemmas
+pub mod MadeLemmas
+pub mod DealLemmas
+pub mod TwiceLemmas
+pub mod LineLemmas

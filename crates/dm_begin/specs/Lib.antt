@@ -3,3 +3,4 @@ pub mod Beginnings
 pub mod Sharing
 pub mod Alike
 pub mod Spreading
+pub mod Refusals

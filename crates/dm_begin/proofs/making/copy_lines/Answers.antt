@@ -1,0 +1,17 @@
+use Rattle.std.proofs.Common.{◌∙◌, ◌++◌, ap, sym, append-nil}
+use Rattle.dm_tree.specs.Trees.{Lines}
+use Rattle.dm_begin.proofs.LineLemmas.{next_plain, one_copied}
+use Rattle.dm_begin.proofs.making.copy_lines.Goals as goal
+
+pub loop-line-init : goal.loop-line-init
+loop-line-init g c = rw c.new-copy.ensures c.lines-lines.ensures.value
+
+pub push_plain-requires : goal.push_plain-requires
+push_plain-requires g c = next_plain c.args.file.now c.loop-line.copy c.next.new.self c.loop-line.lines c.in-Some.line.now c.loop-line.invariant c.in-Some.ensures.line c.lines-lines.ensures.plain
+
+pub loop-line-preserved : goal.loop-line-preserved
+loop-line-preserved g c =
+    ap (λ (z : Lines). z ++ c.next.new.self) c.in_ok-push_plain.ensures.ok ∙ one_copied c.args.file.now c.loop-line.copy c.next.new.self c.loop-line.lines c.in-Some.line.now c.loop-line.invariant c.in-Some.ensures.line
+
+pub returns : goal.returns
+returns g c = sym (append-nil c.loop-line.copy) ∙ ap (λ (z : Lines). c.loop-line.copy ++ z) (sym c.in_default.ensures.line) ∙ c.loop-line.invariant
