@@ -4,6 +4,3 @@ pub mod Sharing
 pub mod Alike
 pub mod Spreading
 pub mod Refusals
-pub mod Chains
-pub mod Bases
-pub mod BaseLaws

@@ -5,4 +5,3 @@ pub mod FrameLemmas
 pub mod LineLemmas
 pub mod LawLemmas
 pub mod HashLemmas
-pub mod BaseLemmas

@@ -1,6 +1,5 @@
 //! The words of `dm log`, and what they start.
 use crate::base::repo_of;
-use crate::base_tag::say_base;
 use crate::fault::ToolFault;
 use crate::files::{base_of, read_base, read_file};
 use crate::mirror::read_repo;
@@ -88,7 +87,6 @@ pub fn log<'a>(
     let text = if words.contains_id("mirror") {
         refuse_kinds(words)?;
         let (repo, _) = read_repo(rt, words, is_terminal)?;
-        say_base(rt, &repo);
         text_of(rt, words, &repo)?
     } else if let Some(name) = words.get_str("bundle") {
         log_of_bundle(rt, words, name)?

@@ -1,35 +1,32 @@
 //! `dm obliterate`: patches are taken out of a mirror, and kept as a bundle.
-ghost use Rattle.std.specs.Prelude.{◌≡◌, ◌≢◌, ◌⊎◌, [], Err, IfErr, IfNone, IfOk, IfSome, IsTrue, OnOk};
+ghost use Rattle.std.specs.Prelude.{◌≡◌, ◌≢◌, ◌⊎◌, [], Err, IfOk, IsTrue, OnOk};
 ghost use Rattle.dm_disk.specs.States.{seen, may_leave, file_may_leave};
 ghost use Rattle.dm_journal.specs.declared.fault.WriteError.{WriteError};
 ghost use Rattle.dm_journal.specs.Device.{IsDurable, LeavesOnly};
-ghost use Rattle.dm_send.specs.Obliterating.{Obliterates, RefusesToObliterate};
+ghost use Rattle.dm_send.specs.Obliterating.{Obliterates};
 ghost use Rattle.dm_named.specs.Laws.{with_kinds};
 ghost use Rattle.dm_named.specs.Limits.{standard};
 ghost use Rattle.dm_scratch.specs.Taking.{ReadsWithin};
 ghost use Rattle.dm_store.specs.Keeping.{FitsOneEntry, IsStored};
 ghost use Rattle.dm_store.specs.Kinds.{kinds_in};
 ghost use Rattle.dm_store.specs.LettingGo.{LosesNothing};
-ghost use Rattle.dm_tool.specs.Obliterating.{KeepsBase, NamesBase, TakesOut};
+ghost use Rattle.dm_tool.specs.Obliterating.{TakesOut};
 ghost use Rattle.dm_tool.specs.declared.obliterating.Unkept.TheVariants as unkept;
 
-use crate::base_tag::{base_tag, has_first, refuse_before_base};
 use crate::choosing::{chosen_names, label_of};
 use crate::colour::{Colour, say};
 use crate::fault::ToolFault;
 use crate::mirror::{blame, open_file, open_store, unopened};
-use crate::naming::rest_on_tag;
 use crate::send::{refusal_line, text_of};
 use crate::streams::write_text;
 use crate::word_fault::WordFault;
 use clap::ArgMatches;
-use dm_begin::base_len;
 use dm_bundle::Bundle;
 use dm_disk::{Access, DiskFile, Lock};
 use dm_info::Info;
 use dm_journal::{Device, WriteError, replace_file};
 use dm_named::Kinds;
-use dm_repo::{Refusal, Repo};
+use dm_repo::Refusal;
 use dm_send::{Obliterated, obliterate};
 use dm_store::Store;
 use std::alloc::Global;
@@ -102,13 +99,6 @@ fn finish<'a>(done: bool, path: &'a str) -> Result<(), WordFault<'a>> {
     }
 }
 
-/// Prints how many patches went.
-fn print_count<'a>(rt: &HostRuntime, count: usize) -> Result<(), WordFault<'a>> {
-    let line = format!(in rt.alloc(); "obliterated {count}\n")?;
-    write_text(line.as_bytes(), &mut io::writer(rt))?;
-    Ok(())
-}
-
 /// Keeps the bundle in the file of this name, and has the mirror let go of it.
 fn keep_in_file<'a>(
     rt: &HostRuntime,
@@ -130,29 +120,16 @@ fn keep_in_file<'a>(
             return Err(blame(WordFault::Unwritten(path, fault), &store.into_device()));
         }
     }
-    print_count(rt, count)
-}
-
-/// Has the mirror let go of what was kept elsewhere.
-fn let_go<'a>(
-    rt: &HostRuntime,
-    path: &'a str,
-    mut store: Store<DiskFile>,
-    stays: Repo<Global>,
-) -> Result<(), WordFault<'a>>
-    requires { IsStored seen may_leave file_may_leave store }
-{
-    match store.replace(rt.alloc(), stays) {
-        Ok(done) => finish(done, path),
-        Err(fault) => Err(blame(WordFault::Unwritten(path, fault), &store.into_device())),
-    }
+    let line = format!(in rt.alloc(); "obliterated {count}\n")?;
+    write_text(line.as_bytes(), &mut io::writer(rt))?;
+    Ok(())
 }
 
 /// Prints the bundle, and has the mirror let go of what it has.
 fn print_and_let_go<'a>(
     rt: &HostRuntime,
     path: &'a str,
-    store: Store<DiskFile>,
+    mut store: Store<DiskFile>,
     text: &[u8],
     out: Obliterated<Global>,
 ) -> Result<(), WordFault<'a>>
@@ -160,7 +137,10 @@ fn print_and_let_go<'a>(
 {
     let count = out.bundle.new_patches().len();
     write_text(text, &mut io::writer(rt))?;
-    let_go(rt, path, store, out.repo)?;
+    match store.replace(rt.alloc(), out.repo) {
+        Ok(done) => finish(done, path)?,
+        Err(fault) => return Err(blame(WordFault::Unwritten(path, fault), &store.into_device())),
+    }
     let _ = match count {
         1 => eprintln!(rt; "dm: obliterated 1 patch"),
         _ => eprintln!(rt; "dm: obliterated {count} patches"),
@@ -234,65 +214,6 @@ fn kept_text<'a>(
     }
 }
 
-/// Puts the bundle into the file of this name, and once it is on the disk has the mirror let go of what it has.
-fn keep_later<'a>(
-    rt: &HostRuntime,
-    path: &'a str,
-    store: Store<DiskFile>,
-    name: &'a str,
-    text: &[u8],
-    stays: Repo<Global>,
-) -> Result<(), WordFault<'a>>
-    requires { IsStored seen may_leave file_may_leave store }
-{
-    let mut file = open_kept(rt, name)?;
-    if let Err(fault) = replace_file(&mut file, text) {
-        return Err(blame(WordFault::Unwritten(name, fault), &file));
-    }
-    let_go(rt, path, store, stays)
-}
-
-/// The same as [`take_out`] of a mirror that begins at a tag. The bundle names the tag, so that the mirror takes it again.
-fn take_out_later<'a>(
-    rt: &HostRuntime,
-    words: &ArgMatches<'a>,
-    path: &'a str,
-    store: Store<DiskFile>,
-    out: Obliterated<Global>,
-) -> Result<u8, WordFault<'a>>
-    requires { IsStored seen may_leave file_may_leave store }
-{
-    let Obliterated {
-        repo,
-        bundle,
-        bound,
-    } = out;
-    let bundle = rest_on_tag(rt.alloc(), store.repo(), bundle)?;
-    let count = bundle.new_patches().len();
-    let text = kept_text(rt, store.kinds(), &bundle)?;
-    if words.get_flag("dry-run") {
-        write_text(&text, &mut io::writer(rt))?;
-        return Ok(0);
-    }
-    let Some(name) = words.get_str("output") else {
-        print_and_let_go(
-            rt,
-            path,
-            store,
-            &text,
-            Obliterated {
-                repo,
-                bundle,
-                bound,
-            },
-        )?;
-        return Ok(0);
-    };
-    keep_later(rt, path, store, name, &text, repo)?;
-    print_count(rt, count)?;
-    Ok(0)
-}
-
 /// What goes from a mirror is kept where the words say, and the mirror lets go of it.
 fn take_out<'a>(
     rt: &HostRuntime,
@@ -308,9 +229,6 @@ fn take_out<'a>(
     if out.bundle.new_patches().is_empty() {
         return Err(WordFault::NothingToUndo);
     }
-    if base_tag(store.repo()).is_some() {
-        return take_out_later(rt, words, path, store, out);
-    }
     let text = kept_text(rt, store.kinds(), &out.bundle)?;
     if words.get_flag("dry-run") {
         write_text(&text, &mut io::writer(rt))?;
@@ -321,26 +239,6 @@ fn take_out<'a>(
         None => print_and_let_go(rt, path, store, &text, out)?,
     }
     Ok(0)
-}
-
-/// Takes the patches of these names out of a repository, and what is bound to them; `None` where one of the names is of the base with
-/// which it begins.
-fn obliterate_later(
-    alloc: Global,
-    repo: &Repo<Global>,
-    chosen: &[Info<Global>],
-) -> Result<Option<Obliterated<Global>>, Refusal>
-    ensures base { IfOk result (λ out. IfNone out (NamesBase repo.now.patches chosen.now)) }
-    ensures keeps { IfOk result (λ out. IfSome out (λ o. KeepsBase repo.now.patches o.repo.patches)) }
-    ensures obliterates { IfOk result (λ out. IfSome out (λ o. Obliterates repo.now.patches chosen.now o.repo.patches o.bundle o.bound.items)) }
-    ensures refusal { IfErr result (RefusesToObliterate repo.now.patches chosen.now) }
-{
-    let base = base_len(repo.patches());
-    if has_first(repo, base, chosen) {
-        return Ok(None);
-    }
-    let out = obliterate(alloc, repo, chosen)?;
-    Ok(Some(out))
 }
 
 /// `dm obliterate`.
@@ -359,9 +257,8 @@ pub fn obliterate_chosen<'a>(
     let file = open_file(rt, words, path, access, is_terminal)?;
     let store = open_store(rt, path, file)?;
     let chosen = chosen_names(rt, words, store.repo())?;
-    let out = match obliterate_later(rt.alloc(), store.repo(), &chosen) {
-        Ok(Some(out)) => out,
-        Ok(None) => return refuse_before_base(rt, store.repo(), "nothing was taken out"),
+    let out = match obliterate(rt.alloc(), store.repo(), &chosen) {
+        Ok(out) => out,
         Err(why) => return refuse(rt, why),
     };
     if !out.bound.is_empty() && !words.get_flag("with-dependents") {

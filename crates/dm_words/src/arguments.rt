@@ -146,7 +146,7 @@ pub fn bundles<'a>(alloc: Global) -> Arg<'a> {
 
 /// The word that names one bundle.
 pub fn one_bundle<'a>(alloc: Global, help: &'a str) -> Arg<'a> {
-    place(alloc, "bundle", "BUNDLE", help)
+    Arg::new(alloc, "bundle").value_name("BUNDLE").help(help)
 }
 
 /// A word that is there or not.
@@ -209,80 +209,6 @@ pub fn output<'a>(alloc: Global) -> Arg<'a>
         "Keep the bundle in a new file, which is on the disk before the mirror changes",
     )
     .short('o')
-}
-
-/// The word that names the patches that a tag covers.
-pub fn names<'a>(alloc: Global) -> Result<Arg<'a>, AllocError>
-    ensures name { IfOk result (λ arg. IsNamed arg (codes "names")) }
-    ensures wants { IfOk result (λ arg. Wants arg (codes "folder")) }
-    ensures excludes_base { IfOk result (λ arg. Excludes arg (codes "base")) }
-    ensures excludes_repository { IfOk result (λ arg. Excludes arg (codes "repository")) }
-{
-    let arg = names_beside_repository(alloc)?;
-    let alone = arg.conflicts_with("repository")?;
-    Ok(alone)
-}
-
-/// The same word, which can stand beside `--repository`.
-fn names_beside_repository<'a>(alloc: Global) -> Result<Arg<'a>, AllocError>
-    ensures name { IfOk result (λ arg. IsNamed arg (codes "names")) }
-    ensures wants { IfOk result (λ arg. Wants arg (codes "folder")) }
-    ensures excludes { IfOk result (λ arg. Excludes arg (codes "base")) }
-{
-    let alone = text(
-        alloc,
-        "names",
-        "NAMES",
-        "Begin at a tag: the context NAMES tells all patches that it covers, the tag first",
-    );
-    let arg = alone.conflicts_with("base")?;
-    let arg = arg.requires_arg("folder")?;
-    Ok(arg)
-}
-
-/// The word that passes over what is neither a directory nor a file.
-pub fn skip_special<'a>(alloc: Global) -> Result<Arg<'a>, AllocError>
-    ensures name { IfOk result (λ arg. IsNamed arg (codes "skip-special")) }
-    ensures wants { IfOk result (λ arg. Wants arg (codes "names")) }
-{
-    flag(
-        alloc,
-        "skip-special",
-        "Pass over links and special files in FOLDER",
-    )
-    .requires_arg("names")
-}
-
-/// A word that stands for itself, by its place.
-pub fn place<'a>(alloc: Global, name: &'a str, value: &'a str, help: &'a str) -> Arg<'a> {
-    Arg::new(alloc, name).value_name(value).help(help)
-}
-
-/// The word that names the folder with which a mirror begins.
-pub fn folder<'a>(alloc: Global) -> Result<Arg<'a>, AllocError>
-    ensures wants { IfOk result (λ arg. Wants arg (codes "names")) }
-    ensures excludes_base { IfOk result (λ arg. Excludes arg (codes "base")) }
-    ensures excludes_repository { IfOk result (λ arg. Excludes arg (codes "repository")) }
-{
-    let arg = folder_beside_repository(alloc)?;
-    let alone = arg.conflicts_with("repository")?;
-    Ok(alone)
-}
-
-/// The same word, which can stand beside `--repository`.
-fn folder_beside_repository<'a>(alloc: Global) -> Result<Arg<'a>, AllocError>
-    ensures wants { IfOk result (λ arg. Wants arg (codes "names")) }
-    ensures excludes { IfOk result (λ arg. Excludes arg (codes "base")) }
-{
-    let alone = place(
-        alloc,
-        "folder",
-        "FOLDER",
-        "With --names: the tree at the tag",
-    );
-    let arg = alone.conflicts_with("base")?;
-    let arg = arg.requires_arg("names")?;
-    Ok(arg)
 }
 
 /// The words that choose patches of a mirror.

@@ -1,10 +1,9 @@
 //! The commands.
 use crate::arguments::{
-    all_kinds, bundle, bundles, explain, file, first, flag, folder, hash, last, minimal, mirror,
-    names, no_wait, number, one_bundle, output, patches, place, posters, repository, skip,
-    skip_special, stream, text,
+    all_kinds, bundle, bundles, explain, file, first, flag, hash, last, minimal, mirror, no_wait,
+    number, one_bundle, output, patches, posters, repository, skip, stream, text,
 };
-use clap::{ArgGroup, Command};
+use clap::{Arg, ArgGroup, Command};
 use std::alloc::{AllocError, Global};
 
 /// What `dm --version` prints after the program's name.
@@ -26,8 +25,7 @@ Example: dm check --hash --explain first.dpatch";
 const INIT_HELP: &str = "\
 Exit status: 0 if the mirror was made, 2 if it wasn't.
 
-Example: dm init --mirror shelf.dm --repository all.dpatch
-Example: dm init --mirror shelf.dm --names tag.context shelf";
+Example: dm init --mirror shelf.dm --repository all.dpatch";
 
 /// What the exit status of `dm log` says, and an example.
 const LOG_HELP: &str = "\
@@ -137,11 +135,8 @@ fn init_words<'a>(alloc: Global) -> Result<Command<'a>, AllocError> {
         .arg(file(alloc, "base", "Begin with the bundle of FILE"))?
         .arg(repository(alloc)?)?
         .arg(all_kinds(alloc, REMEMBER_ALL))?
-        .arg(names(alloc)?)?
-        .arg(skip_special(alloc)?)?
         .arg(no_wait(alloc))?
-        .arg(explain(alloc))?
-        .arg(folder(alloc)?)
+        .arg(explain(alloc))
 }
 
 /// The words of `dm log`.
@@ -204,13 +199,12 @@ fn checkout_words<'a>(alloc: Global) -> Result<Command<'a>, AllocError> {
             "all-names",
             "Write names that other tools obey too, such as .git and .envrc",
         ))?
-        .arg(place(
-            alloc,
-            "folder",
-            "FOLDER",
-            "Where the tree is written; nothing is written outside it",
+        .arg(
+            Arg::new(alloc, "folder")
+                .value_name("FOLDER")
+                .required(true)
+                .help("Where the tree is written; nothing is written outside it"),
         )
-        .required(true))
 }
 
 /// The words of `dm obliterate`.

@@ -1,4 +1,0 @@
-pub mod WalkLemmas
-pub mod BuildLemmas
-pub mod ReadLemmas
-pub mod StampLemmas

@@ -1,5 +1,0 @@
-pub mod Found
-pub mod Walks
-pub mod Builds
-pub mod Faults
-pub mod Reads
