@@ -48,7 +48,7 @@ inv_all (p ∷ ps) = inv_all ps ++ inv p ∷ []
 
 -- the most bytes of a file in which tokens are replaced
 abbrev pub most_turned : ℕ
-most_turned = 4194304
+most_turned = 1048576
 
 -- each line turns, by the set that the text means, of which both are tokens; a line is left; and the file isn't too large, before and after
 pub record TurnsLines (set_text old new : List ℕ) (ls ls' : Lines) : Type 0 where

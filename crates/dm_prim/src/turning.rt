@@ -1,5 +1,5 @@
 //! What the lines of a file turn to.
-ghost use Rattle.std.specs.Prelude.{◌≡◌, ◌++◌, ◌≤◌, ◌<◌, IfErr, IfNone, IfOk, IfSome, MatchBool, false, length};
+ghost use Rattle.std.specs.Prelude.{◌≡◌, ◌++◌, ◌≤◌, ◌<◌, IfErr, IfNone, IfOk, IfSome, MatchOption, false, length};
 ghost use Rattle.dm_tree.specs.Listings.{file_size};
 ghost use Rattle.dm_tree.specs.Trees.{Lines as TreeLines};
 ghost use Rattle.dm_tokens.specs.Pieces.{IsToken};
@@ -12,9 +12,9 @@ use dm_tokens::{TokenSet, Tokens, Turned, room_after, turn_into, turns};
 use dm_tree::{FileRef, Lines, TreeFault};
 use std::alloc::{AllocError, Allocator};
 
-/// A file in which tokens are replaced has at most so many bytes, before and after. So a short text can't ask for any memory: a new
-/// token may be made of old ones of the next replace.
-pub const MOST_TURNED: usize = 4_194_304;
+/// A file in which tokens are replaced has at most so many bytes, before and after. So no replace of a short text makes a large file: a
+/// new token may be made of old ones of the next replace.
+pub const MOST_TURNED: usize = 1_048_576;
 
 /// All lines of a file, and what they turn to.
 #[derive(Drop)]
@@ -41,11 +41,11 @@ pub(crate) fn turn_lines<A: Allocator + Copy, B: Allocator>(
         Turned::Same => Ok(None),
         Turned::Nothing => Err(TreeFault::TokenThere),
         Turned::Other => {
-            if !stays_small(file, &set, tokens.old(), tokens.new_token()) {
+            let Some(room) = turned_room(file, &set, tokens.old(), tokens.new_token()) else {
                 return Err(TreeFault::TooLarge);
-            }
+            };
             let old = copy_lines(file)?;
-            let new = turn_each(file, &set, tokens.old(), tokens.new_token())?;
+            let new = turn_each(file, &set, tokens.old(), tokens.new_token(), room)?;
             Ok(Some(TurnedFile { old, new }))
         }
     }
@@ -68,32 +68,38 @@ fn lines_turn<A: Allocator>(file: &FileRef<'_, A>, set: &TokenSet, old: &[u8], n
     turned
 }
 
-/// Whether the turned lines have no more bytes than a file may have. None is written.
-fn stays_small<A: Allocator>(file: &FileRef<'_, A>, set: &TokenSet, old: &[u8], new: &[u8]) -> bool
-    ensures { MatchBool result
-        ((ls : TreeLines) → TurnAll (in_table set.now) old.now new.now file.now ls → file_size ls ≤ most_turned)
-        ((ls : TreeLines) → TurnAll (in_table set.now) old.now new.now file.now ls → most_turned < file_size ls) }
+/// How many bytes the turned lines have at most; none where they are more than a file may have. No line is written.
+fn turned_room<A: Allocator>(
+    file: &FileRef<'_, A>,
+    set: &TokenSet,
+    old: &[u8],
+    new: &[u8],
+) -> Option<usize>
+    ensures { MatchOption result
+        ((ls : TreeLines) → TurnAll (in_table set.now) old.now new.now file.now ls → most_turned < file_size ls)
+        (λ _. (ls : TreeLines) → TurnAll (in_table set.now) old.now new.now file.now ls → file_size ls ≤ most_turned) }
 {
     // A byte more, since the last line has no newline.
     let mut room = MOST_TURNED + 1;
     let mut lines = file.lines();
     while let Some(line) = lines.next() {
         let Some(left) = room_after(set, old, new, line, room) else {
-            return false;
+            return None;
         };
         if left == 0 {
-            return false;
+            return None;
         }
         room = left - 1;
     }
-    true
+    Some((MOST_TURNED + 1).saturating_sub(room))
 }
 
 /// A copy of the lines.
 fn copy_lines<A: Allocator + Copy>(file: &FileRef<'_, A>) -> Result<Lines<A>, AllocError>
     ensures { IfOk result (λ copy. copy ≡ file.now) }
 {
-    let mut copy = Lines::new(file.allocator());
+    let bytes = usize::try_from(file.bytes()).unwrap_or(0);
+    let mut copy = Lines::with_room(file.allocator(), file.count(), bytes)?;
     let mut lines = file.lines();
     while let Some(line) = lines.next() {
         copy.push_plain(line)?;
@@ -101,19 +107,20 @@ fn copy_lines<A: Allocator + Copy>(file: &FileRef<'_, A>) -> Result<Lines<A>, Al
     Ok(copy)
 }
 
-/// The turned lines, of lines that turn.
+/// The turned lines, of lines that turn. They get room for so many bytes at once, since an arena takes none back.
 fn turn_each<A: Allocator + Copy>(
     file: &FileRef<'_, A>,
     set: &TokenSet,
     old: &[u8],
     new: &[u8],
+    room: usize,
 ) -> Result<Lines<A>, AllocError>
     requires turn { (ls : TreeLines) × TurnAll (in_table set.now) old.now new.now file.now ls }
     requires no_newline { in_table set.now 10 ≡ false }
     requires token { IsToken (in_table set.now) new.now }
     ensures { IfOk result (λ turned. TurnAll (in_table set.now) old.now new.now file.now turned) }
 {
-    let mut turned = Lines::new(file.allocator());
+    let mut turned = Lines::with_room(file.allocator(), file.count(), room)?;
     let mut text = Vec::new(file.allocator());
     let mut lines = file.lines();
     while let Some(line) = lines.next() {

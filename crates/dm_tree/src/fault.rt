@@ -44,8 +44,8 @@ pub enum TreeFault {
     /// The new token of a replace stands in the file already, and is not the old one.
     #[error("the new token stands in the file already")]
     TokenThere,
-    /// A file in which tokens are replaced has more than 4,194,304 bytes, or would have.
-    #[error("the file has more than 4194304 bytes, or would have")]
+    /// A file in which tokens are replaced has more than 1,048,576 bytes, or would have.
+    #[error("the file has more than 1048576 bytes, or would have")]
     TooLarge,
     /// A path of more than 32 names would arise.
     #[error("a path would have more than 32 names")]

@@ -4,7 +4,7 @@ use Rattle.dm_prim.proofs.TurnedLines.{plain_line, one_more}
 use Rattle.dm_prim.proofs.turning.copy_lines.Goals as goal
 
 pub loop-line-init : goal.loop-line-init
-loop-line-init g c = rw c.new-copy.ensures c.lines-lines.ensures.value
+loop-line-init g c = rw c.in_ok-copy.ensures c.lines-lines.ensures.value
 
 pub push_plain-requires : goal.push_plain-requires
 push_plain-requires g c = plain_line c.args.file.now c.loop-line.copy c.next.new.self c.loop-line.lines c.in-Some.line.now c.loop-line.invariant c.in-Some.ensures.line c.lines-lines.ensures.plain

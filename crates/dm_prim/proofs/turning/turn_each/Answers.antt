@@ -7,7 +7,7 @@ use Rattle.dm_prim.proofs.TurnedLines.{line_turns, one_more, turned_plain, zip_m
 use Rattle.dm_prim.proofs.turning.turn_each.Goals as goal
 
 pub loop-line-init : goal.loop-line-init
-loop-line-init g c = ([], c.lines-lines.ensures.value, subst (λ (z : Lines). TurnAll (in_table c.args.set.now) c.args.old.now c.args.new.now [] z) (sym c.new-turned.ensures) tt)
+loop-line-init g c = ([], c.lines-lines.ensures.value, subst (λ (z : Lines). TurnAll (in_table c.args.set.now) c.args.old.now c.args.new.now [] z) (sym c.in_ok-turned.ensures) tt)
 
 pub unreachable-requires : goal.unreachable-requires
 unreachable-requires g c =

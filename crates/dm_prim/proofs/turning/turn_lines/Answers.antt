@@ -11,7 +11,7 @@ returns-in_err-old-in-Other-clause-fault g c =
     let p = err_from_is_err_and c.from_residual.result c.from_residual.ensures.1 in
     let was : file_size c.args.file.now ≤ most_turned = omega (arith, c.if-bytes.false, c.bytes.ensures) in
     let t = rw c.in-Other.is at (rw (c.old.ensures, c.new_token.ensures) at c.lines_turn.ensures.turned) in
-    let small = rw (c.old-in-Other.ensures, c.new_token-in-Other.ensures) at c.if-not-stays_small.ensures in
+    let small = rw (c.old-in-Other.ensures, c.new_token-in-Other.ensures) at c.in-Some.ensures in
     rw (p.1, p.2) (t.2.0, turned_by c.args.tokens.now (in_table c.token_set-set.result) c.token_set-set.ensures.valid c.token_set-set.ensures.set c.args.file.now t.2.0 t.2.1 c.lines_turn.ensures.some was (small t.2.0 t.2.1))
 
 pub turn_each-requires-clause-turn : goal.turn_each-requires-clause-turn
@@ -30,7 +30,7 @@ returns-in_err-new-in-Other-clause-fault g c =
     let p = err_from_is_err_and c.from_residual-in_err-new-in-Other.result c.from_residual-in_err-new-in-Other.ensures.1 in
     let was : file_size c.args.file.now ≤ most_turned = omega (arith, c.if-bytes.false, c.bytes.ensures) in
     let t = rw c.in-Other.is at (rw (c.old.ensures, c.new_token.ensures) at c.lines_turn.ensures.turned) in
-    let small = rw (c.old-in-Other.ensures, c.new_token-in-Other.ensures) at c.if-not-stays_small.ensures in
+    let small = rw (c.old-in-Other.ensures, c.new_token-in-Other.ensures) at c.in-Some.ensures in
     rw (p.1, p.2) (t.2.0, turned_by c.args.tokens.now (in_table c.token_set-set.result) c.token_set-set.ensures.valid c.token_set-set.ensures.set c.args.file.now t.2.0 t.2.1 c.lines_turn.ensures.some was (small t.2.0 t.2.1))
 
 pub returns-in-Same-clause-same : goal.returns-in-Same-clause-same
@@ -48,18 +48,18 @@ returns-in-Nothing-clause-fault g c =
 pub returns-then-bytes-clause-fault : goal.returns-then-bytes-clause-fault
 returns-then-bytes-clause-fault g c = inl (omega (arith, c.if-bytes.true, c.bytes.ensures))
 
-pub returns-then-not-stays_small-clause-fault : goal.returns-then-not-stays_small-clause-fault
-returns-then-not-stays_small-clause-fault g c =
+pub returns-in_default-clause-fault : goal.returns-in_default-clause-fault
+returns-in_default-clause-fault g c =
     let was : file_size c.args.file.now ≤ most_turned = omega (arith, c.if-bytes.false, c.bytes.ensures) in
     let t = rw c.in-Other.is at (rw (c.old.ensures, c.new_token.ensures) at c.lines_turn.ensures.turned) in
-    let large = rw (c.old-in-Other.ensures, c.new_token-in-Other.ensures) at c.if-not-stays_small.ensures in
+    let large = rw (c.old-in-Other.ensures, c.new_token-in-Other.ensures) at c.in_default.ensures in
     inr (was, too_large c.args.tokens.now (in_table c.token_set-set.result) c.token_set-set.ensures.valid c.token_set-set.ensures.set c.args.file.now t.2.0 t.2.1 (large t.2.0 t.2.1))
 
 pub returns-in_ok-new-in-Other-clause-turned : goal.returns-in_ok-new-in-Other-clause-turned
 returns-in_ok-new-in-Other-clause-turned g c =
     let was : file_size c.args.file.now ≤ most_turned = omega (arith, c.if-bytes.false, c.bytes.ensures) in
     let t = rw (c.old-in-Other-2.ensures, c.new_token-in-Other-2.ensures) at c.in_ok-new-in-Other.ensures in
-    let small = rw (c.old-in-Other.ensures, c.new_token-in-Other.ensures) at c.if-not-stays_small.ensures in (
+    let small = rw (c.old-in-Other.ensures, c.new_token-in-Other.ensures) at c.in-Some.ensures in (
       c.in_ok-old-in-Other.ensures,
       turned_by c.args.tokens.now (in_table c.token_set-set.result) c.token_set-set.ensures.valid c.token_set-set.ensures.set c.args.file.now c.in_ok-new-in-Other.new t c.lines_turn.ensures.some was (small c.in_ok-new-in-Other.new t),
     )

@@ -5,7 +5,7 @@ use Rattle.dm_tokens.specs.Sets.{in_table}
 use Rattle.dm_tokens.specs.Turning.{TurnAll}
 use Rattle.dm_prim.specs.Primitives.{most_turned}
 use Rattle.dm_prim.proofs.TurnedLines.{all_fit, grows_past, less_room, none_left, one_more}
-use Rattle.dm_prim.proofs.turning.stays_small.Goals as goal
+use Rattle.dm_prim.proofs.turning.turned_room.Goals as goal
 
 pub loop-line-init : goal.loop-line-init
 loop-line-init g c = ([], c.lines-lines.ensures.value, λ ys h. let none = none_left (in_table c.args.set.now) c.args.old.now c.args.new.now ys h in omega (arith, none.0, none.1))
