@@ -10,3 +10,10 @@ pub mod MadeLemmas
 pub mod DealLemmas
 pub mod TwiceLemmas
 pub mod LineLemmas
+pub mod PrimLemmas
+pub mod BaseLemmas
+pub mod SharedLemmas
+pub mod CutLemmas
+pub mod FormLemmas
+pub mod BroughtLemmas
+pub mod BoundLemmas

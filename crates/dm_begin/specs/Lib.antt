@@ -4,3 +4,6 @@ pub mod Sharing
 pub mod Alike
 pub mod Spreading
 pub mod Refusals
+pub mod Chains
+pub mod Bases
+pub mod BaseLaws

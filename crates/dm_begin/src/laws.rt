@@ -1,5 +1,6 @@
 //! Laws of the definitions alone. A call of them does nothing.
 ghost use Rattle.dm_begin.specs.Alike.{AnswersAlike, CommonAlike, TreesStayAlike, WeighsAlike, WholeIsTaken};
+ghost use Rattle.dm_begin.specs.BaseLaws.{BaseIsBrought, BeginningIsBase, BoundAnswerAlike, CutAnswersAlike};
 ghost use Rattle.dm_begin.specs.Spreading.{BeginningIsTaken, SpreadIsBeginning};
 
 /// The primitives that make a tree, spread over distinct names, are a beginning: patches of just these names in this order, each of
@@ -30,4 +31,19 @@ pub fn same_dependencies_are_common_alike()
 /// A whole repository is merged into an empty one as it is, under either policy.
 pub fn a_whole_repository_is_taken()
     ensures { WholeIsTaken }
+{}
+
+/// A beginning whose last name is a tag and whose tree has an entry has the form of a base, and so has a repository that stands on it:
+/// it begins with a base of no fewer patches; with just these, where there are no others.
+pub fn a_beginning_is_a_base()
+    ensures { BeginningIsBase }
+{}
+
+/// Two bundles of the same new patches are answered alike where both contexts are held, with the same in their closed sets. So it is
+/// with a bundle of which the base was cut, in each repository where the last name of the base brings the others with it, as
+/// it does where the repository begins with that base.
+pub fn cut_contexts_answer_alike()
+    ensures bound { BoundAnswerAlike }
+    ensures brought { BaseIsBrought }
+    ensures cut { CutAnswersAlike }
 {}

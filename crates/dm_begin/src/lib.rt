@@ -5,12 +5,23 @@
 //! on the one before it, and the primitives that make the tree in the last of them. They are a beginning
 //! ([`laws::a_tree_has_a_beginning`]). Its theorem is [`laws::answers_alike`]: a repository that begins so answers a bundle as one
 //! does that has the whole history behind these names and this tree, wherever the bundle has all of the names in common with it.
+//!
+//! A repository that begins so is told by the form of its first patches, its base ([`base_len`], [`laws::a_beginning_is_a_base`]).
+//! A bundle that hasn't the whole base in common is refused ([`is_before_base`]), and nothing is sent to somebody who hasn't the
+//! base ([`knows_base`]). Of what is sent the context names of the base the tag alone ([`cut_base`]), which changes no answer
+//! ([`laws::cut_contexts_answer_alike`]).
 #![tactic(auto)]
 
+mod base;
 mod beginning;
+mod cutting;
 pub mod laws;
 mod making;
 mod names;
+mod sharing;
 mod spreading;
 
+pub use base::base_len;
 pub use beginning::{BeginFault, begin};
+pub use cutting::cut_base;
+pub use sharing::{is_before_base, knows_base};
