@@ -33,5 +33,6 @@ pub use fault::{CheckoutFault, FolderFault, Place};
 pub use item::{Content, Item, item_of};
 pub use names::Names;
 pub use place::place_of;
+pub use reach::Reached;
 pub use system::SystemDisk;
 pub use writing::{Progress, checkout};

@@ -8,7 +8,7 @@ const MOST_BYTES: usize = 4_000;
 
 /// A place, by a path that the system takes.
 #[derive(Drop)]
-pub(crate) struct Reached {
+pub struct Reached {
     // The folder on the way that the path begins at, which stays open for it.
     folder: Option<File>,
     path: String,
@@ -16,7 +16,7 @@ pub(crate) struct Reached {
 
 impl Reached {
     /// Goes down the folders of the path until what is left of it is short enough.
-    pub(crate) fn at(rt: &HostRuntime, place: &str) -> io::Result<Reached> {
+    pub fn at(rt: &HostRuntime, place: &str) -> io::Result<Reached> {
         let mut reached = Reached {
             folder: None,
             path: place.to_string(rt.alloc())?,
@@ -43,6 +43,11 @@ impl Reached {
             folder: Some(folder),
             path,
         })
+    }
+
+    /// The path that the system takes.
+    pub fn path(&self) -> &str {
+        self.path.as_str()
     }
 
     pub(crate) fn make_dir(&self, rt: &HostRuntime) -> io::Result<()> {

@@ -1,0 +1,4 @@
+pub mod WalkLemmas
+pub mod BuildLemmas
+pub mod ReadLemmas
+pub mod StampLemmas

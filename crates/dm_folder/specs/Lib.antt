@@ -1,0 +1,5 @@
+pub mod Found
+pub mod Walks
+pub mod Builds
+pub mod Faults
+pub mod Reads
