@@ -20,7 +20,7 @@ use Rattle.dm_deliver.specs.declared.hash_rule.HashRule.{HashRule}
 use Rattle.dm_deliver.specs.declared.answers.Answer.{Answer}
 use Rattle.dm_deliver.specs.declared.fault.AnswerError.{AnswerError}
 use Rattle.dm_deliver.specs.declared.fault.AnswerError.TheVariants.{Store as OfStore, NoMemory as NoRoom, Write as Unwritten}
-use Rattle.dm_deliver.specs.Answering.{PassesRuleIn, Answers, KeepsEither, KeepsAnswered, LeavesUnanswered}
+use Rattle.dm_deliver.specs.Answering.{PassesRules, Answers, KeepsEither, KeepsAnswered, LeavesUnanswered}
 use Rattle.dm_deliver.specs.Outputs.{Output}
 
 has_memory : (v : Verdict) → HasTaken v → v ≢ Refused NoMemory
@@ -66,8 +66,8 @@ module _ {D : Type 0} (moment : D → ℕ) (left_since : D → ℕ → List ℕ 
       LeavesOnly moment left_since journal.device journal.device (KeepsAnswered kinds repo text policy rule)
   unread kinds journal repo text policy rule keeps = at_rest moment left_since journal.device (KeepsAnswered kinds repo text policy rule) (λ c left. inl (keeps c (only_now journal.device c left)))
 
-  -- the text was taken, since the rule refuses nothing of it
-  pub passed : (kinds : Kinds) (old new : D) (repo : List Patch) (text : List ℕ) (policy : Policy) (rule : HashRule) → PassesRuleIn kinds rule text →
+  -- the text was taken, since no rule refuses it
+  pub passed : (kinds : Kinds) (old new : D) (repo : List Patch) (text : List ℕ) (policy : Policy) (rule : HashRule) → PassesRules kinds repo rule text →
       LeavesOnly moment left_since old new (KeepsWithOrWithout kinds repo text policy) → LeavesOnly moment left_since old new (KeepsAnswered kinds repo text policy rule)
   passed kinds old new repo text policy rule passes run = weakened moment left_since old new (KeepsWithOrWithout kinds repo text policy) (KeepsAnswered kinds repo text policy rule) (λ c k. inr (passes, k)) run
 

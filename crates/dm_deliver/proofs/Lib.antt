@@ -5,3 +5,4 @@ pub mod FrameLemmas
 pub mod LineLemmas
 pub mod LawLemmas
 pub mod HashLemmas
+pub mod BaseLemmas

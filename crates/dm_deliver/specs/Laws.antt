@@ -6,7 +6,7 @@ use Rattle.dm_repo.specs.declared.policy.Policy.{Policy}
 use Rattle.dm_scratch.specs.declared.verdict.Verdict.{Verdict as Judged}
 use Rattle.dm_scratch.specs.Taking.{TakesEachIn}
 use Rattle.dm_deliver.specs.declared.answers.Answer.{Answer}
-use Rattle.dm_deliver.specs.declared.answers.Answer.TheVariants.{Verdict, Hash}
+use Rattle.dm_deliver.specs.declared.answers.Answer.TheVariants.{Verdict, Hash, BeforeBase}
 use Rattle.dm_deliver.specs.declared.hash_rule.HashRule.{HashRule}
 use Rattle.dm_deliver.specs.Answering.{AnswersEach}
 
@@ -16,12 +16,14 @@ judged_texts [] answers = []
 judged_texts (text ∷ texts) [] = []
 judged_texts (text ∷ texts) (Verdict verdict ∷ answers) = text ∷ judged_texts texts answers
 judged_texts (text ∷ texts) (Hash fault ∷ answers) = judged_texts texts answers
+judged_texts (text ∷ texts) (BeforeBase ∷ answers) = judged_texts texts answers
 
 -- the verdicts among the answers
 abbrev pub verdicts_of : List Answer → List Judged
 verdicts_of [] = []
 verdicts_of (Verdict verdict ∷ answers) = verdict ∷ verdicts_of answers
 verdicts_of (Hash fault ∷ answers) = verdicts_of answers
+verdicts_of (BeforeBase ∷ answers) = verdicts_of answers
 
 -- texts that are answered leave what those of them leave, taken in turn, that were answered by a verdict
 abbrev pub AnswersFold : Type 0

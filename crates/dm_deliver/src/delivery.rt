@@ -1,5 +1,5 @@
 //! Texts that come one after the other, each taken and answered.
-ghost use Rattle.std.specs.Prelude.{◌≡◌, ◌≢◌, ◌⊎◌, ◌<◌, ◌^◌, ◌↔◌, All, length, IfOk, IfErr, OnOk, IsTrue};
+ghost use Rattle.std.specs.Prelude.{◌≡◌, ◌≢◌, ◌⊎◌, ◌<◌, ◌^◌, ◌↔◌, All, length, IfOk, IfErr, IfSome, IfNone, OnOk, IsTrue};
 ghost use Rattle.dm_journal.specs.declared.device.DeviceError.TheVariants.{Failed};
 ghost use Rattle.dm_journal.specs.declared.fault.WriteError.TheVariants.{Device as WritingDevice, TooLong, Full};
 ghost use Rattle.dm_journal.specs.Device.{LeavesOnly};
@@ -8,11 +8,12 @@ ghost use Rattle.dm_store.specs.Kinds.{kinds_in};
 ghost use Rattle.dm_store.specs.Keeping.{CrashesKeep, IsStored, KeepsRepo};
 ghost use Rattle.dm_deliver.specs.declared.answers.Answer.{Answer as Reply};
 ghost use Rattle.dm_deliver.specs.declared.fault.AnswerError.TheVariants.{Store as OfStore, NoMemory as NoRoom, Write as Unwritten};
-ghost use Rattle.dm_deliver.specs.Answering.{Answers, answer_line, IsAcceptedAnswer, IsOfStore, LeavesUnanswered, KeepsEither, KeepsAnswered};
+ghost use Rattle.dm_deliver.specs.Answering.{Answers, PassesRules, answer_line, IsAcceptedAnswer, IsOfStore, LeavesUnanswered, KeepsEither, KeepsAnswered};
 ghost use Rattle.dm_deliver.specs.Delivering.{Delivers, DeliversUntil, EndsStore, KeepsSome};
 ghost use Rattle.dm_deliver.specs.Outputs.{output, Puts};
 
 use crate::answers::{Answer, push_answer};
+use crate::base_rule::text_is_before_base;
 use crate::fault::{AnswerError, DeliverError};
 use crate::hash_rule::{HashRule, hash_fault_within};
 use crate::line::write_line;
@@ -20,14 +21,36 @@ use crate::observer::Observer;
 use crate::source::Source;
 use crate::watched::Watched;
 use dm_journal::{Device, WriteError};
-use dm_named::Limits;
-use dm_repo::{Policy, Refusal};
+use dm_named::{Kinds, Limits};
+use dm_repo::{Policy, Refusal, Repo};
 use dm_scratch::Verdict;
 use dm_store::Store;
-use std::alloc::Global;
+use std::alloc::{AllocError, Global};
 use std::io::Write;
 
-// Takes a text into a store, where the rule refuses nothing of it.
+// How a text is answered that a rule refuses, and so isn't taken. `None` where no rule does.
+fn refusal_of_rules(
+    alloc: Global,
+    repo: &Repo<Global>,
+    text: &[u8],
+    kinds: Kinds,
+    rule: HashRule,
+) -> Result<Option<Answer>, AllocError>
+    ensures some { IfOk result (λ found. IfSome found (λ answer. (policy : Policy)
+        → Answers kinds repo.now.patches text.now policy rule answer repo.now.patches)) }
+    ensures none { IfOk result (λ found. IfNone found (PassesRules kinds repo.now.patches rule text.now)) }
+{
+    let limits = Limits::STANDARD.with_kinds(kinds);
+    if let Some(fault) = hash_fault_within(alloc, text, limits, rule)? {
+        return Ok(Some(Answer::Hash(fault)));
+    }
+    if text_is_before_base(alloc, repo, text, kinds)? {
+        return Ok(Some(Answer::BeforeBase));
+    }
+    Ok(None)
+}
+
+// Takes a text into a store, where no rule refuses it.
 fn take_text<D: Device>(
     alloc: Global,
     store: &mut Store<D>,
@@ -54,9 +77,8 @@ fn take_text<D: Device>(
     ensures not_too_long { IfErr result (λ e. e ≡ OfStore TooLong → ⊥) }
     ensures full { IfErr result (λ e. e ≡ OfStore Full → 2 ^ 62 < length (D.seen store.old.journal.device)) }
 {
-    let limits = Limits::STANDARD.with_kinds(store.kinds());
-    if let Some(fault) = hash_fault_within(alloc, text, limits, rule)? {
-        return Ok(Answer::Hash(fault));
+    if let Some(answer) = refusal_of_rules(alloc, store.repo(), text, store.kinds(), rule)? {
+        return Ok(answer);
     }
     let verdict = store.take(alloc, text, policy)?;
     if verdict == Verdict::Refused(Refusal::NoMemory) {
@@ -67,7 +89,8 @@ fn take_text<D: Device>(
 
 /// Takes a text into a store, and then writes the line of its answer and flushes the writer: a byte of the line is written only
 /// once each crash leaves a file that keeps what was taken. A bundle whose hash the rule refuses is answered by that, and not
-/// taken. A refused bundle is answered too, but not one for which there was no memory: that says nothing of the bundle.
+/// taken; nor is one that doesn't rest on the whole base with which the repository begins. A refused bundle is answered too,
+/// but not one for which there was no memory: that says nothing of the bundle.
 ///
 /// After [`AnswerError::Store`] the file has the text or not: open it again. After the other errors the text was taken, whether
 /// or not its line came through, and the store can go on.

@@ -16,7 +16,7 @@ pub enum AnswerError {
     /// There was no memory to take the text, or it was taken and there was none for its line. Nothing of a line was written.
     #[error("out of memory")]
     NoMemory,
-    /// The text was taken, or its hash refused, and a call of the writer returned an error, or took no byte. A part of the line was
+    /// The text was taken, or refused by a rule, and a call of the writer returned an error, or took no byte. A part of the line was
     /// written, perhaps all.
     #[error("cannot write output")]
     Write,

@@ -2,7 +2,7 @@
 ghost use Rattle.dm_deliver.specs.Laws.{AnswersFold};
 
 /// Texts that are answered leave what those of them leave that are taken in turn, with their verdicts: a text whose hash is
-/// refused counts for nothing.
+/// refused, or that comes before the base, counts for nothing.
 pub fn answers_fold()
     ensures { AnswersFold }
 {}

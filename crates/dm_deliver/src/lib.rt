@@ -1,10 +1,12 @@
 //! Bundles that are delivered to a mirror that lasts: each text of a source is taken into a store, and answered by a line once
-//! it stands on the disk: that of its verdict, or, where a rule refuses the hash with which the bundle ends, that of this fault.
+//! it stands on the disk: that of its verdict, or, where a rule refuses the hash with which the bundle ends, that of this fault,
+//! or that the bundle doesn't rest on the whole base with which the repository begins.
 //! A [`Source`] gives the texts. [`Framed`] takes them from a reader, each after a line with its length.
 //! An [`Observer`] sees each text before it is taken and after it is answered.
 #![tactic(auto)]
 
 mod answers;
+mod base_rule;
 mod call_log;
 mod delivery;
 mod fault;
@@ -19,6 +21,7 @@ mod source;
 mod watched;
 
 pub use answers::{Answer, push_answer};
+pub use base_rule::text_is_before_base;
 pub use delivery::{answer, deliver};
 pub use fault::{AnswerError, DeliverError};
 pub use frame_fault::{FrameFault, FrameFaultKind};

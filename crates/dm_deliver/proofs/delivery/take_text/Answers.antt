@@ -1,6 +1,6 @@
 use Rattle.dm_store.proofs.StoredLemmas.{crashes_keep}
 use Rattle.dm_store.specs.Kinds.{kinds_in}
-use Rattle.dm_deliver.specs.Answering.{PassesRuleIn}
+use Rattle.dm_deliver.specs.Answering.{PassesRules}
 use Rattle.dm_deliver.proofs.AnswerLemmas.{leaves_either, untaken, unread, passed}
 use Rattle.dm_deliver.proofs.delivery.take_text.Goals as goal
 
@@ -22,26 +22,26 @@ pub returns-in_err-verdict-clause-any_moment : goal.returns-in_err-verdict-claus
 returns-in_err-verdict-clause-any_moment g c =
     let d = g.D.Device in
     let store = c.args.store.now in
-    let passes : PassesRuleIn (kinds_in c.args.store.now) c.args.rule c.args.text.now = rw c.kinds.ensures at (rw c.with_kinds-limits.ensures at (rw c.in_default.is at c.in_ok-fault.ensures.none)) in
+    let passes : PassesRules (kinds_in c.args.store.now) c.args.store.now.repo.patches c.args.rule c.args.text.now = rw c.kinds.ensures at (rw c.repo.ensures at (rw c.in_default.is at c.in_ok-answer.ensures.none)) in
     passed d.moment d.left_since d.may_leave g.met.D.Device.only_now (kinds_in store) store.journal.device c.take.new.self.journal.device store.repo.patches c.args.text.now c.args.policy c.args.rule passes c.take.ensures.any_moment
 
 pub returns-then-eq-clause-any_moment : goal.returns-then-eq-clause-any_moment
 returns-then-eq-clause-any_moment g c =
     let d = g.D.Device in
     let store = c.args.store.now in
-    let passes : PassesRuleIn (kinds_in c.args.store.now) c.args.rule c.args.text.now = rw c.kinds.ensures at (rw c.with_kinds-limits.ensures at (rw c.in_default.is at c.in_ok-fault.ensures.none)) in
+    let passes : PassesRules (kinds_in c.args.store.now) c.args.store.now.repo.patches c.args.rule c.args.text.now = rw c.kinds.ensures at (rw c.repo.ensures at (rw c.in_default.is at c.in_ok-answer.ensures.none)) in
     passed d.moment d.left_since d.may_leave g.met.D.Device.only_now (kinds_in store) store.journal.device c.take.new.self.journal.device store.repo.patches c.args.text.now c.args.policy c.args.rule passes c.take.ensures.any_moment
 
 pub returns-clause-answers : goal.returns-clause-answers
 returns-clause-answers g c =
-    let passes : PassesRuleIn (kinds_in c.args.store.now) c.args.rule c.args.text.now = rw c.kinds.ensures at (rw c.with_kinds-limits.ensures at (rw c.in_default.is at c.in_ok-fault.ensures.none)) in
+    let passes : PassesRules (kinds_in c.args.store.now) c.args.store.now.repo.patches c.args.rule c.args.text.now = rw c.kinds.ensures at (rw c.repo.ensures at (rw c.in_default.is at c.in_ok-answer.ensures.none)) in
     (passes, c.in_ok-verdict.ensures.takes)
 
 pub returns-clause-any_moment : goal.returns-clause-any_moment
 returns-clause-any_moment g c =
     let d = g.D.Device in
     let store = c.args.store.now in
-    let passes : PassesRuleIn (kinds_in c.args.store.now) c.args.rule c.args.text.now = rw c.kinds.ensures at (rw c.with_kinds-limits.ensures at (rw c.in_default.is at c.in_ok-fault.ensures.none)) in
+    let passes : PassesRules (kinds_in c.args.store.now) c.args.store.now.repo.patches c.args.rule c.args.text.now = rw c.kinds.ensures at (rw c.repo.ensures at (rw c.in_default.is at c.in_ok-answer.ensures.none)) in
     passed d.moment d.left_since d.may_leave g.met.D.Device.only_now (kinds_in store) store.journal.device c.take.new.self.journal.device store.repo.patches c.args.text.now c.args.policy c.args.rule passes c.take.ensures.any_moment
 
 pub returns-clause-either : goal.returns-clause-either

@@ -1,0 +1,13 @@
+use Rattle.std.proofs.Common.{◌∙◌, refl, sym, true≢false}
+use Rattle.dm_deliver.specs.Answering.{PassesRuleIn}
+use Rattle.dm_deliver.proofs.delivery.refusal_of_rules.Goals as goal
+
+pub returns-then-branch-clause-some : goal.returns-then-branch-clause-some
+returns-then-branch-clause-some c =
+    let passes : PassesRuleIn c.args.kinds c.args.rule c.args.text.now = rw c.with_kinds-limits.ensures at (rw c.in_default.is at c.in_ok-fault.ensures.none) in
+    λ policy. (passes, c.in_ok-text_is_before_base.ensures.0 c.if-branch.true, refl)
+
+pub returns-clause-none : goal.returns-clause-none
+returns-clause-none c =
+    let passes : PassesRuleIn c.args.kinds c.args.rule c.args.text.now = rw c.with_kinds-limits.ensures at (rw c.in_default.is at c.in_ok-fault.ensures.none) in
+    (passes, λ before. true≢false (sym (c.in_ok-text_is_before_base.ensures.1 before) ∙ c.if-branch.false))
