@@ -2,6 +2,7 @@
 ghost use Rattle.std.specs.Prelude.{codes, IfOk};
 ghost use Rattle.dm_words.specs.Words.{Excludes, IsNamed, Wants};
 
+use crate::help;
 use clap::{Arg, ArgAction, value_parser};
 use std::alloc::{AllocError, Global};
 
@@ -20,12 +21,7 @@ pub fn repository<'a>(alloc: Global) -> Result<Arg<'a>, AllocError>
     ensures name { IfOk result (λ arg. IsNamed arg (codes "repository")) }
     ensures excludes { IfOk result (λ arg. Excludes arg (codes "base")) }
 {
-    file(
-        alloc,
-        "repository",
-        "The same for a repository of your own: up to 100,000 patches in 1 GiB",
-    )
-    .conflicts_with("base")
+    file(alloc, "repository", help::REPOSITORY).conflicts_with("base")
 }
 
 /// The word that asks for a bundle.
@@ -35,7 +31,7 @@ pub fn bundle<'a>(alloc: Global) -> Arg<'a>
     Arg::new(alloc, "bundle")
         .long("bundle")
         .action(ArgAction::SetTrue)
-        .help("Print the repository as a bundle in place of the listing")
+        .help(help::BUNDLE)
 }
 
 /// The word that has patches skipped.
@@ -45,7 +41,7 @@ pub fn skip<'a>(alloc: Global) -> Arg<'a>
     Arg::new(alloc, "skip")
         .long("skip")
         .action(ArgAction::SetTrue)
-        .help("Skip patches that conflict, and take the others")
+        .help(help::SKIP)
 }
 
 /// The word that asks for an explanation.
@@ -55,9 +51,7 @@ pub fn explain<'a>(alloc: Global) -> Arg<'a>
     Arg::new(alloc, "explain")
         .long("explain")
         .action(ArgAction::SetTrue)
-        .help(
-            "Say on standard error which patches the verdict is about, and what is wrong with a text",
-        )
+        .help(help::EXPLAIN)
 }
 
 /// A word that takes a number, which has to be there.
@@ -77,9 +71,7 @@ pub fn posters<'a>(alloc: Global) -> Arg<'a> {
     Arg::new(alloc, "posters")
         .value_name("POSTER=FILE")
         .action(ArgAction::Append)
-        .help(
-            "A poster, and the next bundle that it sends; POSTER= alone names one that sends none",
-        )
+        .help(help::POSTERS)
 }
 
 /// The word that says how many patches are sent.
@@ -90,7 +82,7 @@ pub fn first<'a>(alloc: Global) -> Arg<'a>
         .long("first")
         .value_name("N")
         .value_parser(value_parser!(u32))
-        .help("Send the first N patches of them alone")
+        .help(help::FIRST)
 }
 
 /// The word that asks for the least context.
@@ -100,7 +92,7 @@ pub fn minimal<'a>(alloc: Global) -> Arg<'a>
     Arg::new(alloc, "minimal")
         .long("minimal")
         .action(ArgAction::SetTrue)
-        .help("Name in the context only what the patches rest on")
+        .help(help::MINIMAL)
 }
 
 /// The word that names a mirror's file.
@@ -117,7 +109,43 @@ pub fn no_wait<'a>(alloc: Global) -> Arg<'a>
     Arg::new(alloc, "no-wait")
         .long("no-wait")
         .action(ArgAction::SetTrue)
-        .help("Where somebody else has the mirror open, say so and end")
+        .help(help::NO_WAIT)
+}
+
+/// The same word, which stands beside `--mirror` alone.
+pub fn no_wait_at_mirror<'a>(alloc: Global) -> Result<Arg<'a>, AllocError> {
+    no_wait(alloc).requires_arg("mirror")
+}
+
+/// The word that leaves a mirror as it is, beside `--mirror` alone.
+pub fn dry_run_at_mirror<'a>(alloc: Global) -> Result<Arg<'a>, AllocError> {
+    flag(alloc, "dry-run", help::APPLY_DRY_RUN).requires_arg("mirror")
+}
+
+/// The word that leaves a mirror as it is.
+pub fn dry_run<'a>(alloc: Global) -> Result<Arg<'a>, AllocError> {
+    flag(alloc, "dry-run", help::OBLITERATE_DRY_RUN).conflicts_with("output")
+}
+
+/// The word that has verdicts printed alone.
+pub fn quiet<'a>(alloc: Global) -> Result<Arg<'a>, AllocError> {
+    flag(alloc, "quiet", help::QUIET).conflicts_with("bundle")
+}
+
+/// The word that has patches counted.
+pub fn count<'a>(alloc: Global) -> Result<Arg<'a>, AllocError> {
+    flag(alloc, "count", help::COUNT)
+        .conflicts_with("verbose")?
+        .conflicts_with("reverse")
+}
+
+/// The word that asks for a context.
+pub fn context<'a>(alloc: Global) -> Result<Arg<'a>, AllocError> {
+    flag(alloc, "context", help::CONTEXT)
+        .conflicts_with("verbose")?
+        .conflicts_with("reverse")?
+        .conflicts_with("count")?
+        .conflicts_with("last")
 }
 
 /// The word that has bundles come one after the other.
@@ -126,11 +154,7 @@ pub fn stream<'a>(alloc: Global) -> Result<Arg<'a>, AllocError>
     ensures wants { IfOk result (λ arg. Wants arg (codes "mirror")) }
     ensures excludes { IfOk result (λ arg. Excludes arg (codes "bundles")) }
 {
-    let alone = flag(
-        alloc,
-        "stream",
-        "Read bundles from standard input, each after a line with its length in bytes, and answer each at once",
-    );
+    let alone = flag(alloc, "stream", help::STREAM);
     let arg = alone.conflicts_with("bundles")?;
     let arg = arg.requires_arg("mirror")?;
     Ok(arg)
@@ -141,12 +165,12 @@ pub fn bundles<'a>(alloc: Global) -> Arg<'a> {
     Arg::new(alloc, "bundles")
         .value_name("BUNDLE")
         .action(ArgAction::Append)
-        .help("Files of bundles, taken in turn; without one, or for -, standard input")
+        .help(help::BUNDLES)
 }
 
 /// The word that names one bundle.
 pub fn one_bundle<'a>(alloc: Global, help: &'a str) -> Arg<'a> {
-    Arg::new(alloc, "bundle").value_name("BUNDLE").help(help)
+    place(alloc, "bundle", "BUNDLE", help)
 }
 
 /// A word that is there or not.
@@ -163,11 +187,7 @@ pub fn flag<'a>(alloc: Global, name: &'a str, help: &'a str) -> Arg<'a>
 pub fn hash<'a>(alloc: Global) -> Arg<'a>
     ensures { IsNamed result (codes "hash") }
 {
-    flag(
-        alloc,
-        "hash",
-        "Refuse a bundle that doesn't end with the right hash of its patches",
-    )
+    flag(alloc, "hash", help::HASH)
 }
 
 /// The word that has binaries and changes of preferences read, too.
@@ -185,7 +205,7 @@ pub fn last<'a>(alloc: Global) -> Arg<'a>
         .long("last")
         .value_name("N")
         .value_parser(value_parser!(u32))
-        .help("Print the newest N patches alone")
+        .help(help::LAST)
 }
 
 /// A word that takes a text.
@@ -202,13 +222,66 @@ pub fn text<'a>(alloc: Global, name: &'a str, value: &'a str, help: &'a str) -> 
 pub fn output<'a>(alloc: Global) -> Arg<'a>
     ensures { IsNamed result (codes "output") }
 {
-    text(
-        alloc,
-        "output",
-        "BUNDLE",
-        "Keep the bundle in a new file, which is on the disk before the mirror changes",
-    )
-    .short('o')
+    text(alloc, "output", "BUNDLE", help::OUTPUT).short('o')
+}
+
+/// The word that names the patches that a tag covers.
+pub fn names<'a>(alloc: Global) -> Result<Arg<'a>, AllocError>
+    ensures name { IfOk result (λ arg. IsNamed arg (codes "names")) }
+    ensures wants { IfOk result (λ arg. Wants arg (codes "folder")) }
+    ensures excludes_base { IfOk result (λ arg. Excludes arg (codes "base")) }
+    ensures excludes_repository { IfOk result (λ arg. Excludes arg (codes "repository")) }
+{
+    let arg = names_beside_repository(alloc)?;
+    let alone = arg.conflicts_with("repository")?;
+    Ok(alone)
+}
+
+/// The same word, which can stand beside `--repository`.
+fn names_beside_repository<'a>(alloc: Global) -> Result<Arg<'a>, AllocError>
+    ensures name { IfOk result (λ arg. IsNamed arg (codes "names")) }
+    ensures wants { IfOk result (λ arg. Wants arg (codes "folder")) }
+    ensures excludes { IfOk result (λ arg. Excludes arg (codes "base")) }
+{
+    let alone = text(alloc, "names", "NAMES", help::NAMES);
+    let arg = alone.conflicts_with("base")?;
+    let arg = arg.requires_arg("folder")?;
+    Ok(arg)
+}
+
+/// The word that passes over what is neither a directory nor a file.
+pub fn skip_special<'a>(alloc: Global) -> Result<Arg<'a>, AllocError>
+    ensures name { IfOk result (λ arg. IsNamed arg (codes "skip-special")) }
+    ensures wants { IfOk result (λ arg. Wants arg (codes "names")) }
+{
+    flag(alloc, "skip-special", help::SKIP_SPECIAL).requires_arg("names")
+}
+
+/// A word that stands for itself, by its place.
+pub fn place<'a>(alloc: Global, name: &'a str, value: &'a str, help: &'a str) -> Arg<'a> {
+    Arg::new(alloc, name).value_name(value).help(help)
+}
+
+/// The word that names the folder with which a mirror begins.
+pub fn folder<'a>(alloc: Global) -> Result<Arg<'a>, AllocError>
+    ensures wants { IfOk result (λ arg. Wants arg (codes "names")) }
+    ensures excludes_base { IfOk result (λ arg. Excludes arg (codes "base")) }
+    ensures excludes_repository { IfOk result (λ arg. Excludes arg (codes "repository")) }
+{
+    let arg = folder_beside_repository(alloc)?;
+    let alone = arg.conflicts_with("repository")?;
+    Ok(alone)
+}
+
+/// The same word, which can stand beside `--repository`.
+fn folder_beside_repository<'a>(alloc: Global) -> Result<Arg<'a>, AllocError>
+    ensures wants { IfOk result (λ arg. Wants arg (codes "names")) }
+    ensures excludes { IfOk result (λ arg. Excludes arg (codes "base")) }
+{
+    let alone = place(alloc, "folder", "FOLDER", help::FOLDER);
+    let arg = alone.conflicts_with("base")?;
+    let arg = arg.requires_arg("names")?;
+    Ok(arg)
 }
 
 /// The words that choose patches of a mirror.
@@ -217,5 +290,5 @@ pub fn patches<'a>(alloc: Global) -> Arg<'a> {
         .value_name("PATCH")
         .action(ArgAction::Append)
         .required(true)
-        .help("A patch's name, or the first digits of its hash")
+        .help(help::PATCHES)
 }

@@ -4,5 +4,6 @@
 
 mod arguments;
 mod commands;
+mod help;
 
 pub use commands::program;
