@@ -14,7 +14,7 @@ _dm()
     apply) options='--base --repository --mirror --no-wait --dry-run --bundle --quiet --hash --all-kinds --explain --skip --stream' ;;
     check) options='--paths --hash --all-kinds --explain' ;;
     checkout) options='--mirror --no-wait --all-names' ;;
-    init) options='--mirror --base --repository --all-kinds --no-wait --explain' ;;
+    init) options='--mirror --base --repository --all-kinds --names --skip-special --no-wait --explain' ;;
     log) options='--mirror --base --repository --last --reverse --verbose --count --context --all-kinds --no-wait' ;;
     obliterate) options='-o --mirror --output --with-dependents --dry-run --no-wait --explain' ;;
     rollback) options='--mirror --author --date --name --log --no-wait' ;;
@@ -23,7 +23,7 @@ _dm()
     *) return ;;
   esac
   case $before in
-    --base | --repository | --mirror | --to | --output | -o)
+    --base | --repository | --mirror | --names | --to | --output | -o)
       _dm_files -f "$word"
       return ;;
     --mirrors | --bound | --first | --last | --author | --date | --name | --log) return ;;
@@ -33,7 +33,7 @@ _dm()
     return
   fi
   case $command in
-    checkout) _dm_files -d "$word" ;;
+    checkout | init) _dm_files -d "$word" ;;
     # Where `=` parts words, POSTER, `=` and FILE are three words; else FILE is what follows it.
     run)
       if [ "$before" = = ]; then

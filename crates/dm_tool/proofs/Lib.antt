@@ -6,3 +6,7 @@ pub mod MirrorLemmas
 pub mod TakenOut
 pub mod ChoosingLemmas
 pub mod AgreeLemmas
+pub mod BeginLemmas
+pub mod KeptLemmas
+pub mod NamingLemmas
+pub mod InBaseLemmas

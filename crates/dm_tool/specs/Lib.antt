@@ -4,8 +4,10 @@ pub mod Checking
 pub mod Choosing
 pub mod Applying
 pub mod Running
+pub mod Naming
 pub mod Sending
 pub mod Obliterating
 pub mod Bundles
+pub mod Beginning
 pub mod Mirrors
 pub mod Agreeing

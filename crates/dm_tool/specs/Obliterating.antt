@@ -1,17 +1,41 @@
 -- What goes from a mirror, and the text that brings it back.
-use Rattle.std.specs.Prelude.{◌≢◌, ℕ, List, []}
+use Rattle.std.specs.Prelude.{◌≡◌, ◌≢◌, ℕ, List, [], take}
+use Rattle.std.specs.List.{Contains}
 use Rattle.dm_info.specs.PatchInfo.{PatchInfo}
 use Rattle.dm_named.specs.Limits.{standard}
 use Rattle.dm_named.specs.Laws.{with_kinds}
 use Rattle.dm_named.specs.declared.limits.Kinds.{Kinds}
 use Rattle.dm_named.specs.Patches.{Patch}
+use Rattle.dm_bundle.specs.Patches.{infos_of}
+use Rattle.dm_begin.specs.Bases.{BeginsWith}
+use Rattle.dm_bundle.specs.Bundles.{Contents}
 use Rattle.dm_scratch.specs.Taking.{ReadsWithin}
-use Rattle.dm_send.specs.declared.obliterating.Obliterated.{Obliterated}
 use Rattle.dm_send.specs.Obliterating.{Obliterates}
+use Rattle.dm_send.specs.Sending.{Accepts}
 
--- patches of some names go, and those that are bound to them, one at least, and the text stands for the bundle of them, of primitives of these kinds
-pub record TakesOut {Z : Type 0} (kinds : Kinds) (repo : List Patch) (out : Obliterated Z) (text : List ℕ) : Type 0 where
+-- Patches of some names go, and those that are bound to them, one at least. The text stands for a bundle of them, of primitives of these kinds, and
+-- what stays takes it.
+pub record TakesOut (kinds : Kinds) (repo stays : List Patch) (text : List ℕ) : Type 0 where
   pub chosen : List PatchInfo
-  pub obliterates : Obliterates repo chosen out.repo.patches out.bundle out.bound.items
-  pub some : out.bundle.patches ≢ []
-  pub reads : ReadsWithin (with_kinds standard kinds) text out.bundle
+  pub gone : Contents
+  pub bound : List (PatchInfo × PatchInfo)
+  pub obliterates : Obliterates repo chosen stays gone bound
+  pub some : gone.patches ≢ []
+  pub kept : Contents
+  pub same : kept.patches ≡ gone.patches
+  pub is_taken : Accepts stays kept
+  pub reads : ReadsWithin (with_kinds standard kinds) text kept
+
+-- one of these names is of the base with which the repository begins
+pub record NamesBase (repo : List Patch) (names : List PatchInfo) : Type 0 where
+  pub base : ℕ
+  pub begins : BeginsWith repo base
+  pub name : PatchInfo
+  pub is_named : Contains names name
+  pub is_of_base : Contains (infos_of (take base repo)) name
+
+-- the base with which the repository begins stays as it is
+pub record KeepsBase (repo stay : List Patch) : Type 0 where
+  pub base : ℕ
+  pub begins : BeginsWith repo base
+  pub keeps : take base stay ≡ take base repo

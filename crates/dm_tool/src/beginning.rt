@@ -6,10 +6,12 @@ ghost use Rattle.dm_store.specs.Keeping.{IsStored, KeepsRepo};
 ghost use Rattle.dm_store.specs.Kinds.{kinds_in};
 
 use crate::base::repo_of;
+use crate::base_tag::say_begun;
 use crate::colour::Colour;
 use crate::explaining::{explain_base, explain_hash_fault};
 use crate::fault::ToolFault;
 use crate::files::{BaseFile, base_of, read_base};
+use crate::from_folder::read_beginning;
 use crate::mirror::{blame, find_file, open_file, open_store};
 use crate::reading::Reading;
 use crate::streams::write_text;
@@ -213,7 +215,21 @@ fn begin_store<'a>(
     Err(refuse_place(rt, path, file))
 }
 
-/// A new mirror of `--mirror`, of what `--base` or `--repository` names. That is read and taken before a file is made.
+/// The repository with which a new mirror begins: at a tag, where the words name what it covers.
+fn read_first<'a>(
+    rt: &HostRuntime,
+    colour: Colour,
+    reading: Reading,
+    words: &ArgMatches<'a>,
+) -> Result<Repo<Global>, WordFault<'a>> {
+    match words.get_str("names") {
+        Some(names) => read_beginning(rt, words, names),
+        None => read_start(rt, colour, reading, words),
+    }
+}
+
+/// A new mirror of `--mirror`, of what `--base` or `--repository` names, or of the names of `--names` and a folder. That is read
+/// and taken before a file is made.
 fn make_mirror<'a>(
     rt: &HostRuntime,
     colour: Colour,
@@ -226,7 +242,7 @@ fn make_mirror<'a>(
         found => found,
     };
     let reading = Reading::of_words(words);
-    let start = read_start(rt, colour, reading, words)?;
+    let start = read_first(rt, colour, reading, words)?;
     let file = match found {
         Some(file) => file,
         None => open_file(rt, words, path, Access::Create, is_terminal)?,
@@ -248,5 +264,6 @@ pub fn init<'a>(
         count => format!(in rt.alloc(); "mirror {path}: {count} patches\n")?,
     };
     write_text(line.as_bytes(), &mut io::writer(rt))?;
+    say_begun(rt, store.repo());
     Ok(0)
 }

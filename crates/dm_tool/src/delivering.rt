@@ -8,6 +8,7 @@ ghost use Rattle.dm_deliver.specs.Delivering.{Delivers};
 ghost use Rattle.dm_deliver.specs.Outputs.{output};
 ghost use Rattle.dm_tool.specs.Mirrors.{AnswersAll, AnyTexts, MayGoOn};
 
+use crate::base_tag::base_tag;
 use crate::beginning::{open_mirror, rehearse_mirror, rehearse_start};
 use crate::bundles::Bundles;
 use crate::colour::Colour;
@@ -257,6 +258,18 @@ pub fn apply_each<'a>(
     status_of_trial(tried, path)
 }
 
+/// Refuses words that ask for a bundle of the whole mirror, where it begins at a tag: a base isn't for others.
+fn refuse_bundle_of_base<'a>(
+    words: &ArgMatches<'_>,
+    path: &'a str,
+    repo: &Repo<Global>,
+) -> Result<(), WordFault<'a>> {
+    if words.get_flag("bundle") && base_tag(repo).is_some() {
+        return Err(WordFault::BeginsAtTag(path));
+    }
+    Ok(())
+}
+
 /// `dm apply --mirror`.
 pub fn apply_to_mirror<'a>(
     rt: &HostRuntime,
@@ -270,10 +283,12 @@ pub fn apply_to_mirror<'a>(
     let rule = rule_of(words, HashRule::NotWrong);
     if words.get_flag("dry-run") {
         let mut store = rehearse_mirror(rt, colour, words, path, is_terminal)?;
+        refuse_bundle_of_base(words, path, store.repo())?;
         let tried = take_and_show(rt, colour, words, &mut store, policy, rule);
         return status_of_trial(tried, path);
     }
     let mut store = open_mirror(rt, colour, words, path, is_terminal)?;
+    refuse_bundle_of_base(words, path, store.repo())?;
     match take_and_show(rt, colour, words, &mut store, policy, rule) {
         Ok(status) => {
             settle(rt, path, store);

@@ -5,6 +5,7 @@ ghost use Rattle.dm_mirror.specs.Runs.{mirror_count};
 
 use crate::apply::Applied;
 use crate::base::{Base, repo_of};
+use crate::base_tag::base_tag;
 use crate::check::Unread;
 use crate::colour::{Colour, say};
 use crate::reading::Reading;
@@ -83,6 +84,19 @@ pub fn explain_hash_fault<R: Runtime + AllocGlobal>(rt: &R, colour: Colour, faul
             colour,
             &format_args!("No hash of the patches stands behind the context, at byte {at}.\n"),
         ),
+    }
+}
+
+/// Says what to do where a bundle doesn't rest on the tag with which a repository begins.
+pub fn explain_before_base<R: Runtime + AllocGlobal>(rt: &R, colour: Colour, repo: &Repo<Global>) {
+    if let Some(tag) = base_tag(repo) {
+        say(
+            rt,
+            colour,
+            &format_args!(
+                "The bundle doesn't rest on {tag}, with which the mirror begins. Its sender has to pull that tag, or run darcs optimize reorder, and send it again.\n"
+            ),
+        );
     }
 }
 

@@ -1,17 +1,70 @@
 //! The words of `dm log`, and what they start.
+ghost use Rattle.std.specs.Prelude.{IfOk};
+ghost use Rattle.dm_tool.specs.Naming.{NamesFromTag};
+
 use crate::base::repo_of;
+use crate::base_tag::say_base;
 use crate::fault::ToolFault;
 use crate::files::{base_of, read_base, read_file};
 use crate::mirror::read_repo;
 use crate::reading::{Reading, refuse_kinds};
 use crate::word_fault::WordFault;
 use clap::ArgMatches;
+use dm_begin::base_len;
 use dm_bundle::read_bundle_within;
 use dm_log::{LogOptions, Patches, write_context, write_entries};
+use dm_named::Named;
+use dm_repo::Repo;
 use dm_scratch::Verdict;
+use std::alloc::{AllocError, Global};
 use std::io::{self, ErrorKind, Write};
 
-/// The text that the words ask for.
+/// Patches that stand in memory one behind the other.
+#[derive(Clone, Copy)]
+struct Later<'a> {
+    patches: &'a [Named<Global>],
+}
+
+impl<'a> Patches for Later<'a> {
+    type Memory = Global;
+
+    ghost patches = { λ later. later.patches.now };
+
+    fn count(&self) -> usize {
+        self.patches.len()
+    }
+
+    fn at(&self, i: usize) -> &Named<Global> {
+        &self.patches[i]
+    }
+}
+
+/// The context of a repository. If it begins at a tag, that is the first name, as with `darcs log --context`: `darcs send` makes
+/// what rests on the tag of that alone.
+fn context_of(alloc: Global, repo: &Repo<Global>) -> Result<Vec<u8>, AllocError>
+    ensures { IfOk result (λ text. NamesFromTag repo.now.patches text.items) }
+{
+    let patches = repo.patches();
+    let first = base_len(patches).saturating_sub(1);
+    let later = Later {
+        patches: &patches[first..],
+    };
+    write_context(alloc, &later)
+}
+
+/// The text that the words ask for, of a repository.
+fn text_of_repo(
+    rt: &HostRuntime,
+    words: &ArgMatches<'_>,
+    repo: &Repo<Global>,
+) -> Result<Vec<u8>, ToolFault> {
+    if words.get_flag("context") {
+        return Ok(context_of(rt.alloc(), repo)?);
+    }
+    text_of(rt, words, repo)
+}
+
+/// The text that the words ask for, but for a context.
 fn text_of<P: Patches>(
     rt: &HostRuntime,
     words: &ArgMatches<'_>,
@@ -28,9 +81,6 @@ fn text_of<P: Patches>(
         };
         let line = format!(in rt.alloc(); "{count}\n")?;
         return Ok(line.into_bytes());
-    }
-    if words.get_flag("context") {
-        return Ok(write_context(rt.alloc(), patches)?);
     }
     let options = LogOptions {
         last,
@@ -63,6 +113,7 @@ fn log_of_bundle<'a>(
     let limits = Reading::of_words(words).limits();
     let text = read_file(rt, name, limits)?;
     match read_bundle_within(rt.alloc(), &text, limits) {
+        Ok(bundle) if words.get_flag("context") => Ok(write_context(rt.alloc(), &bundle)?),
         Ok(bundle) => Ok(text_of(rt, words, &bundle)?),
         Err(fault) => Err(WordFault::of_base(name, ToolFault::of_base(Verdict::unread(fault)))),
     }
@@ -72,7 +123,7 @@ fn log_of_bundle<'a>(
 fn log_of_base<'a>(rt: &HostRuntime, words: &ArgMatches<'a>) -> Result<Vec<u8>, WordFault<'a>> {
     let file = read_base(rt, words)?;
     match (repo_of(rt.alloc(), base_of(&file)), &file) {
-        (Ok(repo), _) => Ok(text_of(rt, words, &repo)?),
+        (Ok(repo), _) => Ok(text_of_repo(rt, words, &repo)?),
         (Err(fault), Some(file)) => Err(WordFault::of_base(file.name, fault)),
         (Err(fault), None) => Err(WordFault::Tool(fault)),
     }
@@ -87,7 +138,8 @@ pub fn log<'a>(
     let text = if words.contains_id("mirror") {
         refuse_kinds(words)?;
         let (repo, _) = read_repo(rt, words, is_terminal)?;
-        text_of(rt, words, &repo)?
+        say_base(rt, &repo);
+        text_of_repo(rt, words, &repo)?
     } else if let Some(name) = words.get_str("bundle") {
         log_of_bundle(rt, words, name)?
     } else {

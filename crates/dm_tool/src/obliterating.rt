@@ -1,32 +1,36 @@
 //! `dm obliterate`: patches are taken out of a mirror, and kept as a bundle.
-ghost use Rattle.std.specs.Prelude.{◌≡◌, ◌≢◌, ◌⊎◌, [], Err, IfOk, IsTrue, OnOk};
+ghost use Rattle.std.specs.Prelude.{◌≡◌, ◌≢◌, ◌⊎◌, [], Err, IfErr, IfNone, IfOk, IfSome, IsTrue, OnOk};
 ghost use Rattle.dm_disk.specs.States.{seen, may_leave, file_may_leave};
 ghost use Rattle.dm_journal.specs.declared.fault.WriteError.{WriteError};
 ghost use Rattle.dm_journal.specs.Device.{IsDurable, LeavesOnly};
-ghost use Rattle.dm_send.specs.Obliterating.{Obliterates};
+ghost use Rattle.dm_send.specs.Obliterating.{Obliterates, RefusesToObliterate};
+ghost use Rattle.dm_send.specs.Sending.{Accepts};
 ghost use Rattle.dm_named.specs.Laws.{with_kinds};
 ghost use Rattle.dm_named.specs.Limits.{standard};
 ghost use Rattle.dm_scratch.specs.Taking.{ReadsWithin};
 ghost use Rattle.dm_store.specs.Keeping.{FitsOneEntry, IsStored};
 ghost use Rattle.dm_store.specs.Kinds.{kinds_in};
 ghost use Rattle.dm_store.specs.LettingGo.{LosesNothing};
-ghost use Rattle.dm_tool.specs.Obliterating.{TakesOut};
+ghost use Rattle.dm_tool.specs.Obliterating.{KeepsBase, NamesBase, TakesOut};
 ghost use Rattle.dm_tool.specs.declared.obliterating.Unkept.TheVariants as unkept;
 
+use crate::base_tag::{base_tag, has_first, refuse_before_base};
 use crate::choosing::{chosen_names, label_of};
 use crate::colour::{Colour, say};
 use crate::fault::ToolFault;
 use crate::mirror::{blame, open_file, open_store, unopened};
+use crate::naming::rest_on_tag;
 use crate::send::{refusal_line, text_of};
 use crate::streams::write_text;
 use crate::word_fault::WordFault;
 use clap::ArgMatches;
+use dm_begin::base_len;
 use dm_bundle::Bundle;
 use dm_disk::{Access, DiskFile, Lock};
 use dm_info::Info;
 use dm_journal::{Device, WriteError, replace_file};
 use dm_named::Kinds;
-use dm_repo::Refusal;
+use dm_repo::{Policy, Refusal, Repo, weigh};
 use dm_send::{Obliterated, obliterate};
 use dm_store::Store;
 use std::alloc::Global;
@@ -48,14 +52,14 @@ fn keep_and_let_go<D: Device, F: Device>(
     store: &mut Store<D>,
     file: &mut F,
     text: &[u8],
-    out: Obliterated<Global>,
+    stays: Repo<Global>,
 ) -> Result<bool, Unkept>
     requires stored { IsStored D.seen D.may_leave D.file_may_leave store.old }
     requires durable { IsDurable F.seen F.may_leave F.file_may_leave file.old }
-    requires takes_out { TakesOut (kinds_in store.old) store.old.repo.patches out text.now }
+    requires takes_out { TakesOut (kinds_in store.old) store.old.repo.patches stays.patches text.now }
 
-    ensures done { IfOk result (λ done. IsTrue done → store.new.repo ≡ out.repo) }
-    ensures too_large { IfOk result (λ done. ¬ IsTrue done → (out.repo.patches ≢ []) × (FitsOneEntry out.repo.patches → ⊥)) }
+    ensures done { IfOk result (λ done. IsTrue done → store.new.repo ≡ stays) }
+    ensures too_large { IfOk result (λ done. ¬ IsTrue done → (stays.patches ≢ []) × (FitsOneEntry stays.patches → ⊥)) }
     ensures unless_done { IfOk result (λ done. ¬ IsTrue done → store.new ≡ store.old) }
     ensures unless_kept { (fault : WriteError) → result ≡ Err (unkept.Bundle fault) → store.new ≡ store.old }
     ensures stored { OnOk result (IsStored D.seen D.may_leave D.file_may_leave store.new) }
@@ -67,13 +71,13 @@ fn keep_and_let_go<D: Device, F: Device>(
     // A crash at any moment loses no patch, once the mirror is touched: the one file or the other has it. It leaves the file of
     // the bundle as it was, or whole.
     ensures any_moment { (store.new ≡ store.old) ⊎ LeavesOnly D.moment D.left_since store.old.journal.device store.new.journal.device
-        (LosesNothing (kinds_in store.old) store.old.repo.patches out.repo.patches (F.may_leave file.new)) }
+        (LosesNothing (kinds_in store.old) store.old.repo.patches stays.patches (F.may_leave file.new)) }
     ensures file { LeavesOnly F.moment F.left_since file.old file.new (λ c. (c ≡ F.seen file.old) ⊎ (c ≡ text.now)) }
 {
     if let Err(fault) = replace_file(file, text) {
         return Err(Unkept::Bundle(fault));
     }
-    match store.let_go(alloc, out.repo, file) {
+    match store.let_go(alloc, stays, file) {
         Ok(done) => Ok(done),
         Err(fault) => Err(Unkept::Mirror(fault)),
     }
@@ -99,53 +103,70 @@ fn finish<'a>(done: bool, path: &'a str) -> Result<(), WordFault<'a>> {
     }
 }
 
-/// Keeps the bundle in the file of this name, and has the mirror let go of it.
+/// Prints how many patches went.
+fn print_count<'a>(rt: &HostRuntime, count: usize) -> Result<(), WordFault<'a>> {
+    let line = format!(in rt.alloc(); "obliterated {count}\n")?;
+    write_text(line.as_bytes(), &mut io::writer(rt))?;
+    Ok(())
+}
+
+/// Says on standard error how many patches went.
+fn say_count(rt: &HostRuntime, count: usize) {
+    let _ = match count {
+        1 => eprintln!(rt; "dm: obliterated 1 patch"),
+        _ => eprintln!(rt; "dm: obliterated {count} patches"),
+    };
+}
+
+/// Keeps the bundle in the file of this name, and has the mirror let go of what it has.
 fn keep_in_file<'a>(
     rt: &HostRuntime,
     path: &'a str,
     mut store: Store<DiskFile>,
     name: &'a str,
     text: &[u8],
-    out: Obliterated<Global>,
+    stays: Repo<Global>,
 ) -> Result<(), WordFault<'a>>
     requires stored { IsStored seen may_leave file_may_leave store }
-    requires takes_out { TakesOut (kinds_in store) store.repo.patches out text.now }
+    requires takes_out { TakesOut (kinds_in store) store.repo.patches stays.patches text.now }
 {
     let mut file = open_kept(rt, name)?;
-    let count = out.bundle.new_patches().len();
-    match keep_and_let_go(rt.alloc(), &mut store, &mut file, text, out) {
-        Ok(done) => finish(done, path)?,
-        Err(Unkept::Bundle(fault)) => return Err(blame(WordFault::Unwritten(name, fault), &file)),
+    match keep_and_let_go(rt.alloc(), &mut store, &mut file, text, stays) {
+        Ok(done) => finish(done, path),
+        Err(Unkept::Bundle(fault)) => Err(blame(WordFault::Unwritten(name, fault), &file)),
         Err(Unkept::Mirror(fault)) => {
-            return Err(blame(WordFault::Unwritten(path, fault), &store.into_device()));
+            Err(blame(WordFault::Unwritten(path, fault), &store.into_device()))
         }
     }
-    let line = format!(in rt.alloc(); "obliterated {count}\n")?;
-    write_text(line.as_bytes(), &mut io::writer(rt))?;
-    Ok(())
+}
+
+/// Has the mirror let go of what was kept elsewhere.
+fn let_go<'a>(
+    rt: &HostRuntime,
+    path: &'a str,
+    mut store: Store<DiskFile>,
+    stays: Repo<Global>,
+) -> Result<(), WordFault<'a>>
+    requires { IsStored seen may_leave file_may_leave store }
+{
+    match store.replace(rt.alloc(), stays) {
+        Ok(done) => finish(done, path),
+        Err(fault) => Err(blame(WordFault::Unwritten(path, fault), &store.into_device())),
+    }
 }
 
 /// Prints the bundle, and has the mirror let go of what it has.
 fn print_and_let_go<'a>(
     rt: &HostRuntime,
     path: &'a str,
-    mut store: Store<DiskFile>,
+    store: Store<DiskFile>,
     text: &[u8],
-    out: Obliterated<Global>,
+    stays: Repo<Global>,
 ) -> Result<(), WordFault<'a>>
     requires { IsStored seen may_leave file_may_leave store }
 {
-    let count = out.bundle.new_patches().len();
     write_text(text, &mut io::writer(rt))?;
-    match store.replace(rt.alloc(), out.repo) {
-        Ok(done) => finish(done, path)?,
-        Err(fault) => return Err(blame(WordFault::Unwritten(path, fault), &store.into_device())),
-    }
-    let _ = match count {
-        1 => eprintln!(rt; "dm: obliterated 1 patch"),
-        _ => eprintln!(rt; "dm: obliterated {count} patches"),
-    };
-    Ok(())
+    let_go(rt, path, store, stays)
 }
 
 /// Says on standard error which patches can't do without one that goes.
@@ -214,6 +235,28 @@ fn kept_text<'a>(
     }
 }
 
+/// The bundle of what goes, as it is kept: where the repository begins at a tag, it names that one. What stays takes it.
+fn kept_bundle(
+    alloc: Global,
+    repo: &Repo<Global>,
+    stays: &Repo<Global>,
+    bundle: Bundle<Global>,
+) -> Result<Bundle<Global>, Refusal>
+    requires { Accepts stays.now.patches bundle }
+    ensures patches { IfOk result (λ kept. kept.patches ≡ bundle.patches) }
+    ensures is_taken { IfOk result (Accepts stays.now.patches) }
+{
+    if base_tag(repo).is_none() {
+        return Ok(bundle);
+    }
+    let kept = rest_on_tag(alloc, repo, bundle)?;
+    match weigh(alloc, stays, &kept, Policy::Refuse) {
+        Ok(_) => Ok(kept),
+        Err(Refusal::NoMemory) => Err(Refusal::NoMemory),
+        Err(_) => Err(Refusal::Full),
+    }
+}
+
 /// What goes from a mirror is kept where the words say, and the mirror lets go of it.
 fn take_out<'a>(
     rt: &HostRuntime,
@@ -226,19 +269,51 @@ fn take_out<'a>(
     requires stored { IsStored seen may_leave file_may_leave store }
     requires obliterates { Obliterates store.repo.patches chosen.now out.repo.patches out.bundle out.bound.items }
 {
-    if out.bundle.new_patches().is_empty() {
+    let Obliterated { repo, bundle, .. } = out;
+    if bundle.new_patches().is_empty() {
         return Err(WordFault::NothingToUndo);
     }
-    let text = kept_text(rt, store.kinds(), &out.bundle)?;
+    let kept = match kept_bundle(rt.alloc(), store.repo(), &repo, bundle) {
+        Ok(kept) => kept,
+        Err(why) => return refuse(rt, why),
+    };
+    let count = kept.new_patches().len();
+    let text = kept_text(rt, store.kinds(), &kept)?;
     if words.get_flag("dry-run") {
         write_text(&text, &mut io::writer(rt))?;
         return Ok(0);
     }
     match words.get_str("output") {
-        Some(name) => keep_in_file(rt, path, store, name, &text, out)?,
-        None => print_and_let_go(rt, path, store, &text, out)?,
+        Some(name) => {
+            keep_in_file(rt, path, store, name, &text, repo)?;
+            print_count(rt, count)?;
+        }
+        None => {
+            print_and_let_go(rt, path, store, &text, repo)?;
+            say_count(rt, count);
+        }
     }
     Ok(0)
+}
+
+/// Takes the patches of these names out of a repository, and what is bound to them; `None` where one of the names is of the base with
+/// which it begins.
+fn obliterate_unless_base(
+    alloc: Global,
+    repo: &Repo<Global>,
+    chosen: &[Info<Global>],
+) -> Result<Option<Obliterated<Global>>, Refusal>
+    ensures base { IfOk result (λ out. IfNone out (NamesBase repo.now.patches chosen.now)) }
+    ensures keeps { IfOk result (λ out. IfSome out (λ o. KeepsBase repo.now.patches o.repo.patches)) }
+    ensures obliterates { IfOk result (λ out. IfSome out (λ o. Obliterates repo.now.patches chosen.now o.repo.patches o.bundle o.bound.items)) }
+    ensures refusal { IfErr result (RefusesToObliterate repo.now.patches chosen.now) }
+{
+    let base = base_len(repo.patches());
+    if has_first(repo, base, chosen) {
+        return Ok(None);
+    }
+    let out = obliterate(alloc, repo, chosen)?;
+    Ok(Some(out))
 }
 
 /// `dm obliterate`.
@@ -257,8 +332,9 @@ pub fn obliterate_chosen<'a>(
     let file = open_file(rt, words, path, access, is_terminal)?;
     let store = open_store(rt, path, file)?;
     let chosen = chosen_names(rt, words, store.repo())?;
-    let out = match obliterate(rt.alloc(), store.repo(), &chosen) {
-        Ok(out) => out,
+    let out = match obliterate_unless_base(rt.alloc(), store.repo(), &chosen) {
+        Ok(Some(out)) => out,
+        Ok(None) => return refuse_before_base(rt, store.repo(), "nothing was taken out"),
         Err(why) => return refuse(rt, why),
     };
     if !out.bound.is_empty() && !words.get_flag("with-dependents") {

@@ -7,15 +7,19 @@ ghost use Rattle.dm_scratch.specs.declared.verdict.Verdict.TheVariants.{Refused}
 ghost use Rattle.dm_scratch.specs.Printing.{line_of};
 ghost use Rattle.dm_scratch.specs.Taking.{ReadsWithin};
 ghost use Rattle.dm_scratch.specs.Words.{verdict_text};
+ghost use Rattle.dm_begin.specs.Bases.{KnowsBase};
 ghost use Rattle.dm_send.specs.Telling.{TellsNames};
 ghost use Rattle.dm_tool.specs.Streams.{Writes, WritesPrefix};
 ghost use Rattle.dm_tool.specs.Sending.{AnswersNames, AnswersTexts, CountsUnheld, hashed_text, IsPastLimits, IsWithinLimits, RefusesNames, RefusesTexts, RefusesTheirs, TheirNames};
 ghost use Rattle.dm_tool.specs.Sending.{RefusesToSendFor, SendsFor, TellsNumbers, TellsTexts};
 
 use crate::base::Base;
+use crate::base_tag::before_base_line;
 use crate::fault::ToolFault;
+use crate::naming::rest_on_tag;
 use crate::status::status_of;
 use crate::streams::write_text;
+use dm_begin::knows_base;
 use dm_bundle::{Bundle, are_within};
 use dm_hash::write_hashed;
 use dm_info::Info;
@@ -115,6 +119,47 @@ pub fn refusal_line(alloc: Global, why: Refusal) -> Result<Vec<u8>, ToolFault>
     Ok(line)
 }
 
+/// What is printed for somebody who holds patches of these names, and has the whole base with which the repository begins, and
+/// what is told of it, where so many of the names aren't held.
+fn answer_knower(
+    alloc: Global,
+    kinds: Kinds,
+    repo: &Repo<Global>,
+    names: &[Info<Global>],
+    most: usize,
+    is_minimal: bool,
+    unheld: usize,
+) -> Result<(Vec<u8>, Sent), ToolFault>
+    requires knows { KnowsBase repo.now.patches names.now }
+    requires unheld { CountsUnheld repo.now.patches names.now unheld }
+    ensures ok { IfOk result (λ x. AnswersNames kinds is_minimal repo.now.patches names.now most x.0.items x.1.status) }
+    ensures told { IfOk result (λ x. TellsNumbers is_minimal repo.now.patches names.now most x.1) }
+    ensures err { IfErr result (λ e. (e ≡ ToolFault.NoMemory) ⊎
+        ((e ≡ ToolFault.TooManyToSend) × IsPastLimits kinds is_minimal repo.now.patches names.now most)) }
+{
+    match bundle_for(alloc, repo, names, most, is_minimal) {
+        Ok(bundle) => {
+            let cut = rest_on_tag(alloc, repo, bundle)?;
+            let text = text_of(alloc, kinds, &cut)?;
+            let sent = Sent {
+                status: 0,
+                new: Some(cut.new_patches().len()),
+                unheld,
+            };
+            Ok((text, sent))
+        }
+        Err(why) => {
+            let line = refusal_line(alloc, why)?;
+            let sent = Sent {
+                status: status_of(Verdict::Refused(why)),
+                new: None,
+                unheld,
+            };
+            Ok((line, sent))
+        }
+    }
+}
+
 /// What is printed for somebody who holds patches of these names, and what is told of it.
 fn answer_for(
     alloc: Global,
@@ -130,26 +175,16 @@ fn answer_for(
         ((e ≡ ToolFault.TooManyToSend) × IsPastLimits kinds is_minimal repo.now.patches names.now most)) }
 {
     let unheld = count_unheld(repo, names);
-    match bundle_for(alloc, repo, names, most, is_minimal) {
-        Ok(bundle) => {
-            let text = text_of(alloc, kinds, &bundle)?;
-            let sent = Sent {
-                status: 0,
-                new: Some(bundle.new_patches().len()),
-                unheld,
-            };
-            Ok((text, sent))
-        }
-        Err(why) => {
-            let line = refusal_line(alloc, why)?;
-            let sent = Sent {
-                status: status_of(Verdict::Refused(why)),
-                new: None,
-                unheld,
-            };
-            Ok((line, sent))
-        }
+    if !knows_base(alloc, repo, names)? {
+        let line = before_base_line(alloc)?;
+        let sent = Sent {
+            status: 1,
+            new: None,
+            unheld,
+        };
+        return Ok((line, sent));
     }
+    answer_knower(alloc, kinds, repo, names, most, is_minimal, unheld)
 }
 
 /// The names of what somebody holds: those that their text tells, and none without a text.
@@ -186,6 +221,9 @@ fn answer_to(
 /// only what its patches rest on. Behind the context stands the hash of the patches. Where a patch that they hold rests on one
 /// that they don't, or a repository of what both hold would refuse the bundle, it writes the line of the refusal. Returns the exit
 /// status, 0 with a bundle and 1 with a refusal, and what it tells.
+///
+/// Where the repository begins with a base, and they don't have all of it, it writes the line `refused before-base`. Of a base that
+/// they have the context names the last patch, and no other.
 ///
 /// Errors: [`ToolFault::BadNames`] where the other text tells no names; [`ToolFault::TooManyToSend`] where the bundle is past a
 /// limit of what `dm` reads; [`ToolFault::NoMemory`]; [`ToolFault::Write`]. Only after the last has anything been written, which

@@ -1,6 +1,8 @@
 //! `dm rollback`: the bundle of a patch that undoes others.
+use crate::base_tag::{names_base, refuse_before_base};
 use crate::choosing::chosen_names;
 use crate::mirror::read_repo;
+use crate::naming::rest_on_tag;
 use crate::obliterating::{refuse, refuse_bound};
 use crate::send::text_of;
 use crate::streams::write_text;
@@ -121,9 +123,13 @@ pub fn undo_chosen<'a>(
 ) -> Result<u8, WordFault<'a>> {
     let (repo, kinds) = read_repo(rt, words, is_terminal)?;
     let chosen = chosen_names(rt, words, &repo)?;
+    if names_base(&repo, &chosen) {
+        return refuse_before_base(rt, &repo, "no bundle was made");
+    }
     let info = info_of(rt, words, &chosen)?;
     match roll_back(rt.alloc(), &repo, &chosen, info) {
         Ok(bundle) => {
+            let bundle = rest_on_tag(rt.alloc(), &repo, bundle)?;
             let text = text_of(rt.alloc(), kinds, &bundle)?;
             write_text(&text, &mut io::writer(rt))?;
             Ok(0)

@@ -1,6 +1,8 @@
 //! What `--explain` says while bundles are taken.
 use crate::colour::{Colour, say};
-use crate::explaining::{explain_hash, explain_hash_fault, explain_taken, skips_ahead};
+use crate::explaining::{
+    explain_before_base, explain_hash, explain_hash_fault, explain_taken, skips_ahead,
+};
 use crate::reading::Reading;
 use dm_deliver::{Answer, Observer};
 use dm_repo::{Policy, Repo, Skip};
@@ -80,6 +82,7 @@ impl Observer for Watcher<'_, '_> {
                 explain_hash(&self.rt, self.colour, reading, text, false);
             }
             Answer::Hash(fault) => explain_hash_fault(&self.rt, self.colour, fault),
+            Answer::BeforeBase => explain_before_base(&self.rt, self.colour, repo),
         }
     }
 }

@@ -1,6 +1,7 @@
 //! Why the words of a command start nothing, or why what they started gives no answer.
 use crate::fault::ToolFault;
 use crate::input::INPUT;
+use dm_begin::BeginFault;
 use dm_deliver::{AnswerError, DeliverError, FrameFault, FrameFaultKind};
 use dm_disk::OpenFault;
 use dm_info::InfoFault;
@@ -49,6 +50,24 @@ pub enum WordFault<'a> {
     /// A mirror of this name was to be made, and there is one.
     #[error("{0} is a mirror already")]
     MirrorIsThere(&'a str),
+    /// The mirror of this name begins at a tag, and was to be printed as a bundle.
+    #[error("{0} begins at a tag, and can't be printed as a bundle; copy the file")]
+    BeginsAtTag(&'a str),
+    /// The file of this name has new patches, where the names behind a tag were due.
+    #[error("{}: a context is wanted, as darcs log --context prints it", said(.0))]
+    NoContext(&'a str),
+    /// The first name in the file of this name isn't that of a tag.
+    #[error("{}: the first name isn't that of a tag", said(.0))]
+    NoTag(&'a str),
+    /// So many names into the file of this name is one that stands there before.
+    #[error("{}: name {} stands there twice", said(.0), .1)]
+    NameTwice(&'a str, usize),
+    /// No mirror begins with the names in the file of this name.
+    #[error("{}: {}", said(.0), .1)]
+    NoBeginning(&'a str, BeginFault),
+    /// The folder of this name was to be the tree at a tag, and has nothing in it.
+    #[error("nothing is in {0}")]
+    EmptyFolder(&'a str),
     /// The mirror of this name can't be written. What was answered before stands; of the last bundle nobody knows until the mirror
     /// is opened again.
     #[error("cannot write {0}: {1}")]
