@@ -147,15 +147,21 @@ function arm_says(i, j,    from_enum) {
   return from_enum ? 2 : 1
 }
 
-# Whether these words are an `if` that compares something with out of memory: 2 where that is a variant of a fault, named by its
+# Whether these words are an `if` that compares something with out of memory, or an `if let` for it: 2 where that is a variant of a fault, named by its
 # enum.
 function asks_so(i, j,    asks) {
   for (; i <= j; i++) if (word[i] == "if") break
   for (asks = 0; i <= j; i++) {
-    if (word[i] == "==") asks = names_it(i, j)
+    if (word[i] == "==" || word[i] == "let" && is_pattern(i)) asks = names_it(i, j)
     else if (asks && (word[i] in given_by) && word[i + 1] == "::") return 2
   }
   return asks
+}
+
+# Whether the pattern behind this `let` is a variant for out of memory and nothing else.
+function is_pattern(i) {
+  for (i++; word[i] ~ /^[A-Za-z]/ && word[i + 1] == "::"; i += 2) ;
+  return names_it(i, i) && word[i + 1] == "="
 }
 
 # Whether out of memory stands here in a pattern, a comparison or a type.
