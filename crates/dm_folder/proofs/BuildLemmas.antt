@@ -1,11 +1,13 @@
 -- How a tree grows by a row.
-use Rattle.std.proofs.Common.{◌≡◌, ◌+◌, ℕ, Bool, true, false, cond, List, [], ◌∷◌, ◌++◌, length, refl, sym, ap, ◌∙◌, Some, None, arith}
+use Rattle.std.proofs.Common.{◌≡◌, ◌≢◌, ◌+◌, ℕ, Bool, true, false, cond, List, [], ◌∷◌, ◌++◌, length, refl, sym, ap, ◌∙◌, Some, None, Err, arith}
 use Rattle.std.proofs.lemmas.List.{append-nil, map_push, nil_from_length}
 use Rattle.std.specs.Ordering.{eq_by_cmp}
 use Rattle.std.specs.FinMap.{get, get-insert, insert, same_map}
 use Rattle.dm_tree.specs.Paths.{Path}
 use Rattle.dm_tree.specs.Trees.{Entry, File, Lines, Tree, empty_file, path_cmp}
-use Rattle.dm_tree.specs.Changes.{Edited}
+use Rattle.dm_tree.specs.Changes.{EditAnswers, Edited}
+use Rattle.dm_tree.specs.declared.fault.TreeFault.{TreeFault}
+use Rattle.dm_tree.specs.declared.fault.TreeFault.TheVariants as tree
 use Rattle.dm_tree.proofs.MoveLemmas.{self_equal}
 use Rattle.dm_tree.proofs.Trees.{path_same, path_total}
 use Rattle.dm_folder.specs.Builds.{AreHeld, AreNew, IsBuilt, IsHeld, bare, insert_all, is_dir}
@@ -67,3 +69,24 @@ file_put t with_file now p old new added is edited =
     let stood : edited.0 ≡ [] ∷ [] = cc (edited.2, ap (λ x. get x p) added, here t p empty_file) in
     let lines : edited.1 ≡ new = replaced r.front r.back new edited.1 r.at (sym stood ∙ r.before ∙ ap (λ o. r.front ++ (o ++ r.back)) is) r.after in
     edited.4 ∙ ap (λ x. insert x p (File edited.1)) added ∙ insert_twice t p empty_file (File edited.1) ∙ ap (λ ls. insert t p (File ls)) lines
+
+-- lines in the place of the one of a new file: there is no fault but memory
+pub only_memory : (T : Type 0) (t with_file : Tree) (p : Path) (old new : Lines) (fault : TreeFault) → with_file ≡ insert t p empty_file → old ≡ [] ∷ [] → new ≢ [] → EditAnswers {T = T} (get with_file) p 1 old new (Err fault) → fault ≡ tree.NoMemory
+only_memory T t with_file p old new fault added is some answers =
+    let stands : get with_file p ≡ Some empty_file = ap (λ x. get x p) added ∙ here t p empty_file in
+    elim fault as (λ f. EditAnswers {T = T} (get with_file) p 1 old new (Err f) → f ≡ tree.NoMemory) [
+      | tree.NoParent ↦ λ a. absurd a
+      | tree.Occupied ↦ λ a. absurd a
+      | tree.Missing ↦ λ a. absurd (cc (stands, a))
+      | tree.NotFile ↦ λ a. absurd (cc (stands, a))
+      | tree.NotDir ↦ λ a. absurd a
+      | tree.NotEmpty ↦ λ a. absurd a
+      | tree.IntoItself ↦ λ a. absurd a
+      | tree.LineRange ↦ λ a. let lines : a.0 ≡ [] ∷ [] = cc (a.1, stands) in absurd (a.2 (rw (lines, is) (omega arith, omega arith)))
+      | tree.OldDiffers ↦ λ a. let lines : a.0 ≡ [] ∷ [] = cc (a.1, stands) in absurd (a.3 (rw (lines, is) refl))
+      | tree.NoLines ↦ λ a. absurd (some a.4)
+      | tree.TooDeep ↦ λ a. absurd a
+      | tree.TokenThere ↦ λ a. absurd a
+      | tree.TooLarge ↦ λ a. absurd a
+      | tree.NoMemory ↦ λ a. refl
+    ] answers

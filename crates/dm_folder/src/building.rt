@@ -1,5 +1,5 @@
 //! The tree of what a folder has.
-ghost use Rattle.std.specs.Prelude.{◌≡◌, ◌∷◌, [], IfOk, IfErr, OnOk};
+ghost use Rattle.std.specs.Prelude.{◌≡◌, ◌≢◌, ◌∷◌, [], IfOk, IfErr, OnOk};
 ghost use Rattle.std.specs.FinMap as map;
 ghost use Rattle.dm_tree.specs.Trees.{Entry, File};
 ghost use Rattle.dm_tree.specs.Changes.{AddAnswers};
@@ -67,16 +67,14 @@ fn add_file(
     path: &Path<Global>,
     lines: &Lines<Global>,
 ) -> Result<(), TreeFault>
+    requires { lines.now ≢ [] }
     ensures fault { AddAnswers (map.get tree.old) path.now result }
     ensures ok { OnOk result (tree.new ≡ map.insert tree.old path.now (File lines.now)) }
 {
     tree.add_file(path)?;
     let empty = empty_file(alloc)?;
-    match tree.edit(path, 1, &empty, lines) {
-        Ok(()) => Ok(()),
-        // The file is there and has that line.
-        Err(_) => Err(TreeFault::NoMemory),
-    }
+    tree.edit(path, 1, &empty, lines)?;
+    Ok(())
 }
 
 /// The one line of an empty file.

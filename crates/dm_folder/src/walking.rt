@@ -1,5 +1,5 @@
 //! Going through a folder, directory by directory.
-ghost use Rattle.std.specs.Prelude.{◌≡◌, ◌++◌, ◌∷◌, [], List, length, map, IfOk, IfErr, OnOk};
+ghost use Rattle.std.specs.Prelude.{◌≡◌, ◌≢◌, ◌++◌, ◌∷◌, [], List, map, IfOk, IfErr, OnOk};
 ghost use Rattle.dm_tree.specs.Validity.{is_name};
 ghost use Rattle.dm_checkout.specs.Places.{place_text};
 ghost use Rattle.dm_folder.specs.Found.{Told, told};
@@ -45,17 +45,15 @@ pub(crate) fn walk_folder<S: Source>(
         refused: Vec::new(alloc),
     };
     list_into(alloc, source, top, special, &Dir::Top, &mut walk)?;
-    for i in 0..usize::MAX {
-        if i >= walk.rows.len() {
-            return Ok(walk);
-        }
+    let mut i = 0;
+    while i < walk.rows.len() {
         if walk.rows[i].is_dir {
             let dir = Dir::In(walk.rows[i].path.copy_into(alloc)?);
             list_into(alloc, source, top, special, &dir, &mut walk)?;
         }
+        i += 1;
     }
-    // No memory has so many rows.
-    Err(FolderFault::NoMemory)
+    Ok(walk)
 }
 
 /// Adds what is right inside a directory.
@@ -109,14 +107,23 @@ fn add_found(
     }
     match Path::from_owned(names_of(alloc, dir, &found.name)?) {
         Ok(path) => add_path(alloc, place, path, found, walk),
-        Err(PathFault::NoMemory) => Err(AllocError),
-        Err(fault) => refuse(
-            alloc,
-            place,
-            &found.name,
-            Why::Path(fault),
-            &mut walk.refused,
-        ),
+        Err(fault) => refuse_path(alloc, place, &found.name, fault, &mut walk.refused),
+    }
+}
+
+/// Adds what no path may have.
+fn refuse_path(
+    alloc: Global,
+    place: &[u8],
+    name: &[u8],
+    fault: PathFault,
+    refused: &mut Vec<Refused>,
+) -> Result<(), AllocError>
+    ensures { OnOk result ((fault ≢ PathFault.NoMemory) × (refused_in refused.new.items ≡ refused_in refused.old.items ++ (name_place place.now name.now, Why.Path fault) ∷ [])) }
+{
+    match fault {
+        PathFault::NoMemory => Err(AllocError),
+        _ => refuse(alloc, place, name, Why::Path(fault), refused),
     }
 }
 

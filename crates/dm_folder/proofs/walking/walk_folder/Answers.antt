@@ -25,7 +25,7 @@ returns-in_err-list_into-2-clause-err g c =
     let rows = c.loop-i.walk.rows.items in
     let i = c.loop-i.i in
     let path = c.in_ok-copy_into.field-0 in
-    let lt : i < length rows = omega (arith, c.if-i-len.false, c.len.ensures) in
+    let lt : i < length rows = omega (arith, c.loop-i-test.true, c.len.ensures) in
     let here : get_or (rows_in rows) i (path, true) ≡ (path, true) = dir_here rows i c.index.result.now c.index-then-index.result.now path lt c.index.ensures c.if-index.true c.index-then-index.ensures c.in_ok-copy_into.ensures in
     let within : i < length (rows_in rows) = omega (arith, as_many rows, lt) in
     rw (p.1, p.2) (Unlisted path (next (g.S.Source.Lists c.args.source.now) c.args.special c.args.top.now i (path, true) path (rows_in rows) (refused_in c.loop-i.walk.refused.items) c.loop-i.invariant.walk within here) c.in_err-list_into-2.ensures.err)
@@ -36,7 +36,7 @@ loop-i-preserved g c =
     let refused = refused_in c.loop-i.walk.refused.items in
     let i = c.loop-i.i in
     let lists = g.S.Source.Lists c.args.source.now in
-    let lt : i < length rows = omega (arith, c.if-i-len.false, c.len.ensures) in
+    let lt : i < length rows = omega (arith, c.loop-i-test.true, c.len.ensures) in
     let within : i < length (rows_in rows) = omega (arith, as_many rows, lt) in
     elim c.if-index.branch [
       | then-index+in_ok-copy_into+in_ok-list_into-2+in-In-1 w ↦

@@ -1,4 +1,4 @@
-use Rattle.std.proofs.Common.{◌≤◌, length, take}
+use Rattle.std.proofs.Common.{◌≤◌, ◌-◌, length, take}
 use Rattle.dm_folder.specs.Walks.{IsWalk, refused_in, rows_in}
 use Rattle.dm_folder.proofs.walking.walk_folder.Given as goal
 
@@ -7,3 +7,6 @@ invariant-loop-i g l = record {
   walk : IsWalk (g.S.Source.Lists l.source) l.special l.top (take l.i (rows_in l.walk.rows.items)) (rows_in l.walk.rows.items) (refused_in l.walk.refused.items);
   within : l.i ≤ length l.walk.rows.items;
 }
+
+abbrev pub decreases-loop-i : goal.decreases-loop-i
+decreases-loop-i g l = 18446744073709551615 - l.i
