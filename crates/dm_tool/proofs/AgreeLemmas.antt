@@ -1,5 +1,5 @@
 -- The mirrors of a run that have one base, and whether they had to agree.
-use Rattle.std.proofs.Common.{◌≡◌, ◌≢◌, ◌<◌, ◌+◌, ℕ, zero, suc, List, [], ◌∷◌, ◌++◌, Some, slice_get, slice_index_or, length, map, take, refl, sym, ap, subst, ◌∙◌, arith}
+use Rattle.std.proofs.Common.{◌≡◌, ◌≢◌, ◌<◌, ◌+◌, ℕ, zero, suc, List, [], ◌∷◌, ◌++◌, Some, slice_get, slice_index_or, length, take, refl, sym, ap, subst, ◌∙◌, arith}
 use Rattle.std.specs.Prelude.{IfOk, Result, Ok, Err}
 use Rattle.std.proofs.Math.ListN.{replicate}
 use Rattle.std.specs.List.{AllByRecursion}
@@ -16,21 +16,21 @@ use Rattle.dm_repo.specs.declared.policy.Policy.TheVariants.{Refuse}
 use Rattle.dm_repo.specs.declared.refusal.Refusal.TheVariants.{NoMemory}
 use Rattle.dm_repo.specs.Repositories.{Repository}
 use Rattle.dm_scratch.specs.declared.verdict.Verdict.{Verdict}
-use Rattle.dm_scratch.specs.declared.verdict.Verdict.TheVariants.{Taken, TakenSome, NothingNew, Malformed, Refused}
+use Rattle.dm_scratch.specs.declared.verdict.Verdict.TheVariants.{Refused}
 use Rattle.dm_scratch.specs.Laws.{TakingHasOneOutcome}
 use Rattle.dm_scratch.specs.Taking.{IsAccepted, TakesWithin, bundle, malformed, no_memory}
 use Rattle.dm_mirror.specs.declared.outcome.Outcome.{Outcome}
 use Rattle.dm_mirror.specs.Plans.{AreStarts, IsStart, empty, taken}
-use Rattle.dm_mirror.specs.Runs.{AllAccepted, HasRepo, IsRunOf}
+use Rattle.dm_mirror.specs.Runs.{AllAccepted, HasRepo}
 use Rattle.dm_mirror.proofs.DeliveryLemmas.{item_at}
 use Rattle.dm_agree.specs.Laws.{AcceptingMirrorsAgree, MirrorsAgree, IsMirrorOver, sent_texts}
 use Rattle.dm_agree.specs.Names.{NameIsShared, NamesStandWithin}
 use Rattle.dm_tool.specs.declared.agreeing.Agreement.TheVariants.{Equal, TwoMeanings, NotAllTaken}
 use Rattle.dm_tool.specs.declared.plan_words.Mirrors.{Mirrors}
-use Rattle.dm_tool.specs.declared.running.Ran.{Ran}
-use Rattle.dm_tool.specs.Applying.{IsBase}
+use Rattle.dm_commands.specs.declared.running.Ran.{Ran}
+use Rattle.dm_commands.specs.Applying.{IsBase}
 use Rattle.dm_tool.specs.Agreeing.{AreAlikeByName, AreAllAlike, IsAgreement, IsRanAs, IsRanOver, IsRunOver, made}
-use Rattle.dm_tool.specs.Running.{IsRan, NamedPoster, bytes_of, texts_in}
+use Rattle.dm_commands.specs.Running.{IsRan, NamedPoster, bytes_of, texts_in}
 
 -- an accepted verdict isn't that memory ran out
 had_memory : (v : Verdict) → IsAccepted v → v ≢ Refused NoMemory

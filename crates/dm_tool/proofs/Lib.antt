@@ -1,12 +1,3 @@
-pub mod CheckLemmas
-pub mod AnswerLemmas
-pub mod RunLemmas
-pub mod SendLemmas
 pub mod MirrorLemmas
-pub mod TakenOut
 pub mod ChoosingLemmas
 pub mod AgreeLemmas
-pub mod BeginLemmas
-pub mod KeptLemmas
-pub mod NamingLemmas
-pub mod InBaseLemmas

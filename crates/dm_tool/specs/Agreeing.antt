@@ -18,8 +18,8 @@ use Rattle.dm_agree.specs.Names.{NameIsShared, NamesStandWithin}
 use Rattle.dm_tool.specs.declared.agreeing.Agreement.{Agreement}
 use Rattle.dm_tool.specs.declared.agreeing.Agreement.TheVariants.{Equal, TwoMeanings, NotAllTaken}
 use Rattle.dm_tool.specs.declared.plan_words.Mirrors.{Mirrors}
-use Rattle.dm_tool.specs.declared.running.Ran.{Ran}
-use Rattle.dm_tool.specs.Running.{IsRan}
+use Rattle.dm_commands.specs.declared.running.Ran.{Ran}
+use Rattle.dm_commands.specs.Running.{IsRan}
 
 -- a run of posters that send these texts, to mirrors that all began with this repository, left this outcome
 pub record IsRunOver (texts : List (List (List ℕ))) (base : List Patch) (o : Outcome) : Type 0 where

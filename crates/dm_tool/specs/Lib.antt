@@ -1,13 +1,4 @@
-pub mod Streams
-pub mod Printing
-pub mod Checking
 pub mod Choosing
-pub mod Applying
-pub mod Running
-pub mod Naming
-pub mod Sending
-pub mod Obliterating
 pub mod Bundles
-pub mod Beginning
 pub mod Mirrors
 pub mod Agreeing

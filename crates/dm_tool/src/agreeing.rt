@@ -3,14 +3,12 @@ ghost use Rattle.std.specs.Prelude.{◌≡◌, IfOk};
 ghost use Rattle.dm_agree.specs.Laws.{sent_texts};
 ghost use Rattle.dm_mirror.specs.Plans.{IsStart};
 ghost use Rattle.dm_tool.specs.Agreeing.{IsAgreement, IsRanOver, IsRunOver};
-ghost use Rattle.dm_tool.specs.Running.{bytes_of, texts_in};
+ghost use Rattle.dm_commands.specs.Running.{bytes_of, texts_in};
 
-use crate::base::{Base, repo_of_base};
 use crate::colour::{Colour, say};
-use crate::fault::ToolFault;
-use crate::running::Ran;
 use dm_agree::laws::{accepting_mirrors_agree, mirrors_agree};
 use dm_agree::names_stand_for_one;
+use dm_commands::{Base, Ran, ToolFault, repo_of_base};
 use dm_explain::Who;
 use dm_info::Info;
 use dm_mirror::Outcome;

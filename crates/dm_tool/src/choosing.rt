@@ -6,9 +6,9 @@ ghost use Rattle.dm_log.specs.declared.finding.Found.{Found as FoundOne};
 ghost use Rattle.dm_tool.specs.Choosing.{ChoiceFails, Chooses};
 ghost use Rattle.dm_tool.specs.declared.choosing.Unchosen.TheVariants.{NoMemory, Word};
 
-use crate::fault::ToolFault;
 use crate::word_fault::WordFault;
 use clap::ArgMatches;
+use dm_commands::ToolFault;
 use dm_info::Info;
 use dm_log::{Found, find_patch, hash_text};
 use dm_quoted::Quoted;

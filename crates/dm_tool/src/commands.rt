@@ -1,15 +1,9 @@
 //! The words of the command line, and what they start.
-use crate::apply::{Applied, apply_in, apply_over};
-use crate::base::{Base, repo_of};
 use crate::beginning::init;
-use crate::check::{
-    CheckOutput, Checked, check_hash_within, check_over, check_paths_over, check_within,
-};
 use crate::checking_out::check_out;
 use crate::colour::{Colour, colour_of};
 use crate::delivering::{apply_each, apply_to_mirror};
 use crate::explaining::{explain_applied, explain_hash, explain_unread};
-use crate::fault::ToolFault;
 use crate::files::{base_of, blame_input, read_base, read_file};
 use crate::input::{INPUT, Input};
 use crate::listing::Listing;
@@ -23,6 +17,10 @@ use crate::undoing::undo_chosen;
 use crate::word_fault::WordFault;
 use clap::error::ErrorKind;
 use clap::{ArgMatches, Error};
+use dm_commands::{
+    Applied, Base, CheckOutput, Checked, ToolFault, apply_in, apply_over, check_hash_within,
+    check_over, check_paths_over, check_within, repo_of,
+};
 use dm_named::Kinds;
 use dm_words::program;
 use std::io::{Read, Write};

@@ -1,5 +1,5 @@
 //! Bundles that are taken one after the other, into a mirror or a repository in memory: `dm apply --mirror`.
-ghost use Rattle.std.specs.Prelude.{◌≡◌, ◌⊎◌, ◌↔◌, All, length, IfOk, IfErr, IsTrue, OnOk};
+ghost use Rattle.std.specs.Prelude.{◌≡◌, ◌↔◌, All, length, IfOk, IfErr, IsTrue, OnOk};
 ghost use Rattle.dm_disk.specs.States.{seen, may_leave, file_may_leave};
 ghost use Rattle.dm_store.specs.Keeping.{IsStored};
 ghost use Rattle.dm_store.specs.Kinds.{kinds_in};
@@ -8,21 +8,18 @@ ghost use Rattle.dm_deliver.specs.Delivering.{Delivers};
 ghost use Rattle.dm_deliver.specs.Outputs.{output};
 ghost use Rattle.dm_tool.specs.Mirrors.{AnswersAll, AnyTexts, MayGoOn};
 
-use crate::base_tag::base_tag;
 use crate::beginning::{open_mirror, rehearse_mirror, rehearse_start};
 use crate::bundles::Bundles;
 use crate::colour::Colour;
-use crate::fault::ToolFault;
 use crate::input::INPUT;
 use crate::listing::Listing;
 use crate::mirror::blame;
 use crate::plan_words::policy_of;
-use crate::print::push_repo;
 use crate::reading::{Reading, kinds_of, refuse_kinds};
-use crate::streams::write_text;
 use crate::watching::Watcher;
 use crate::word_fault::WordFault;
 use clap::ArgMatches;
+use dm_commands::{ToolFault, base_tag, push_repo, write_text};
 use dm_deliver::{AnswerError, DeliverError, Framed, HashRule, Watched, deliver};
 use dm_disk::DiskFile;
 use dm_journal::{Device, WriteError};

@@ -3,14 +3,11 @@
 ghost use Rattle.std.specs.Prelude.{◌<◌};
 ghost use Rattle.dm_mirror.specs.Runs.{mirror_count};
 
-use crate::apply::Applied;
-use crate::base::{Base, repo_of};
-use crate::base_tag::base_tag;
-use crate::check::Unread;
 use crate::colour::{Colour, say};
 use crate::reading::Reading;
 use bumpalo::Bump;
 use dm_bundle::{Bundle, read_bundle_within};
+use dm_commands::{Applied, Base, Unread, base_tag, repo_of};
 use dm_deliver::{HashFault, HashFaultKind, HashRule, hash_fault_within};
 use dm_explain::{Account, AccountWithSkips, Malformed, account_of, skips_of};
 use dm_mail::{Body, Mail};

@@ -1,11 +1,9 @@
 //! The files that the words of a command name.
-use crate::base::Base;
-use crate::fault::ToolFault;
 use crate::input::{INPUT, Input, InputFault};
 use crate::reading::kinds_of;
-use crate::streams::read_within;
 use crate::word_fault::WordFault;
 use clap::ArgMatches;
+use dm_commands::{Base, ToolFault, read_within};
 use dm_named::Limits;
 
 /// Why there is no text of this name, where reading it gave a fault.

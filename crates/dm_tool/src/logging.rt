@@ -1,56 +1,17 @@
 //! The words of `dm log`, and what they start.
-ghost use Rattle.std.specs.Prelude.{IfOk};
-ghost use Rattle.dm_tool.specs.Naming.{NamesFromTag};
-
-use crate::base::repo_of;
 use crate::base_tag::say_base;
-use crate::fault::ToolFault;
 use crate::files::{base_of, read_base, read_file};
 use crate::mirror::read_repo;
 use crate::reading::{Reading, refuse_kinds};
 use crate::word_fault::WordFault;
 use clap::ArgMatches;
-use dm_begin::base_len;
 use dm_bundle::read_bundle_within;
+use dm_commands::{ToolFault, context_of, repo_of};
 use dm_log::{LogOptions, Patches, write_context, write_entries};
-use dm_named::Named;
 use dm_repo::Repo;
 use dm_scratch::Verdict;
-use std::alloc::{AllocError, Global};
+use std::alloc::Global;
 use std::io::{self, ErrorKind, Write};
-
-/// Patches that stand in memory one behind the other.
-#[derive(Clone, Copy)]
-struct Later<'a> {
-    patches: &'a [Named<Global>],
-}
-
-impl<'a> Patches for Later<'a> {
-    type Memory = Global;
-
-    ghost patches = { λ later. later.patches.now };
-
-    fn count(&self) -> usize {
-        self.patches.len()
-    }
-
-    fn at(&self, i: usize) -> &Named<Global> {
-        &self.patches[i]
-    }
-}
-
-/// The context of a repository. If it begins at a tag, that is the first name, as with `darcs log --context`: `darcs send` makes
-/// what rests on the tag of that alone.
-fn context_of(alloc: Global, repo: &Repo<Global>) -> Result<Vec<u8>, AllocError>
-    ensures { IfOk result (λ text. NamesFromTag repo.now.patches text.items) }
-{
-    let patches = repo.patches();
-    let first = base_len(patches).saturating_sub(1);
-    let later = Later {
-        patches: &patches[first..],
-    };
-    write_context(alloc, &later)
-}
 
 /// The text that the words ask for, of a repository.
 fn text_of_repo(

@@ -1,87 +1,35 @@
 //! `dm obliterate`: patches are taken out of a mirror, and kept as a bundle.
-ghost use Rattle.std.specs.Prelude.{◌≡◌, ◌≢◌, ◌⊎◌, [], Err, IfErr, IfNone, IfOk, IfSome, IsTrue, OnOk};
+ghost use Rattle.std.specs.Prelude.{IfOk};
 ghost use Rattle.dm_disk.specs.States.{seen, may_leave, file_may_leave};
-ghost use Rattle.dm_journal.specs.declared.fault.WriteError.{WriteError};
-ghost use Rattle.dm_journal.specs.Device.{IsDurable, LeavesOnly};
-ghost use Rattle.dm_send.specs.Obliterating.{Obliterates, RefusesToObliterate};
-ghost use Rattle.dm_send.specs.Sending.{Accepts};
+ghost use Rattle.dm_journal.specs.Device.{IsDurable};
+ghost use Rattle.dm_send.specs.Obliterating.{Obliterates};
 ghost use Rattle.dm_named.specs.Laws.{with_kinds};
 ghost use Rattle.dm_named.specs.Limits.{standard};
 ghost use Rattle.dm_scratch.specs.Taking.{ReadsWithin};
-ghost use Rattle.dm_store.specs.Keeping.{FitsOneEntry, IsStored};
+ghost use Rattle.dm_store.specs.Keeping.{IsStored};
 ghost use Rattle.dm_store.specs.Kinds.{kinds_in};
-ghost use Rattle.dm_store.specs.LettingGo.{LosesNothing};
-ghost use Rattle.dm_tool.specs.Obliterating.{KeepsBase, NamesBase, TakesOut};
-ghost use Rattle.dm_tool.specs.declared.obliterating.Unkept.TheVariants as unkept;
+ghost use Rattle.dm_commands.specs.Obliterating.{TakesOut};
 
-use crate::base_tag::{base_tag, has_first, refuse_before_base};
+use crate::base_tag::refuse_before_base;
 use crate::choosing::{chosen_names, label_of};
 use crate::colour::{Colour, say};
-use crate::fault::ToolFault;
 use crate::mirror::{blame, open_file, open_store, unopened};
-use crate::naming::rest_on_tag;
-use crate::send::{refusal_line, text_of};
-use crate::streams::write_text;
 use crate::word_fault::WordFault;
 use clap::ArgMatches;
-use dm_begin::base_len;
 use dm_bundle::Bundle;
+use dm_commands::{
+    ToolFault, Unkept, keep_and_let_go, kept_bundle, obliterate_unless_base, refusal_line, text_of,
+    write_text,
+};
 use dm_disk::{Access, DiskFile, Lock};
 use dm_info::Info;
-use dm_journal::{Device, WriteError, replace_file};
 use dm_named::Kinds;
-use dm_repo::{Policy, Refusal, Repo, weigh};
-use dm_send::{Obliterated, obliterate};
+use dm_repo::{Refusal, Repo};
+use dm_send::Obliterated;
 use dm_store::Store;
 use std::alloc::Global;
 use std::io;
 use std::rt::Runtime;
-
-/// Which of two files could not be written.
-enum Unkept {
-    /// That of the bundle: the mirror is as it was.
-    Bundle(WriteError),
-    /// That of the mirror, once the bundle was on the disk.
-    Mirror(WriteError),
-}
-
-/// Puts the bundle of what goes into a file, and once it is on the disk has the mirror let go of it. `false` where what stays is past
-/// the limits of a repository of one's own: the mirror is as it was then.
-fn keep_and_let_go<D: Device, F: Device>(
-    alloc: Global,
-    store: &mut Store<D>,
-    file: &mut F,
-    text: &[u8],
-    stays: Repo<Global>,
-) -> Result<bool, Unkept>
-    requires stored { IsStored D.seen D.may_leave D.file_may_leave store.old }
-    requires durable { IsDurable F.seen F.may_leave F.file_may_leave file.old }
-    requires takes_out { TakesOut (kinds_in store.old) store.old.repo.patches stays.patches text.now }
-
-    ensures done { IfOk result (λ done. IsTrue done → store.new.repo ≡ stays) }
-    ensures too_large { IfOk result (λ done. ¬ IsTrue done → (stays.patches ≢ []) × (FitsOneEntry stays.patches → ⊥)) }
-    ensures unless_done { IfOk result (λ done. ¬ IsTrue done → store.new ≡ store.old) }
-    ensures unless_kept { (fault : WriteError) → result ≡ Err (unkept.Bundle fault) → store.new ≡ store.old }
-    ensures stored { OnOk result (IsStored D.seen D.may_leave D.file_may_leave store.new) }
-    ensures kept { OnOk result (IsDurable F.seen F.may_leave F.file_may_leave file.new × (F.seen file.new ≡ text.now)) }
-
-    // The mirror isn't touched before the bundle is on the disk.
-    ensures order { (store.new ≡ store.old) ⊎ (IsDurable F.seen F.may_leave F.file_may_leave file.new × (F.seen file.new ≡ text.now)) }
-
-    // A crash at any moment loses no patch, once the mirror is touched: the one file or the other has it. It leaves the file of
-    // the bundle as it was, or whole.
-    ensures any_moment { (store.new ≡ store.old) ⊎ LeavesOnly D.moment D.left_since store.old.journal.device store.new.journal.device
-        (LosesNothing (kinds_in store.old) store.old.repo.patches stays.patches (F.may_leave file.new)) }
-    ensures file { LeavesOnly F.moment F.left_since file.old file.new (λ c. (c ≡ F.seen file.old) ⊎ (c ≡ text.now)) }
-{
-    if let Err(fault) = replace_file(file, text) {
-        return Err(Unkept::Bundle(fault));
-    }
-    match store.let_go(alloc, stays, file) {
-        Ok(done) => Ok(done),
-        Err(fault) => Err(Unkept::Mirror(fault)),
-    }
-}
 
 /// The file for the bundle of what goes: it has no bytes, or is made.
 fn open_kept<'a>(rt: &HostRuntime, name: &'a str) -> Result<DiskFile, WordFault<'a>>
@@ -235,28 +183,6 @@ fn kept_text<'a>(
     }
 }
 
-/// The bundle of what goes, as it is kept: where the repository begins at a tag, it names that one. What stays takes it.
-fn kept_bundle(
-    alloc: Global,
-    repo: &Repo<Global>,
-    stays: &Repo<Global>,
-    bundle: Bundle<Global>,
-) -> Result<Bundle<Global>, Refusal>
-    requires { Accepts stays.now.patches bundle }
-    ensures patches { IfOk result (λ kept. kept.patches ≡ bundle.patches) }
-    ensures is_taken { IfOk result (Accepts stays.now.patches) }
-{
-    if base_tag(repo).is_none() {
-        return Ok(bundle);
-    }
-    let kept = rest_on_tag(alloc, repo, bundle)?;
-    match weigh(alloc, stays, &kept, Policy::Refuse) {
-        Ok(_) => Ok(kept),
-        Err(Refusal::NoMemory) => Err(Refusal::NoMemory),
-        Err(_) => Err(Refusal::Full),
-    }
-}
-
 /// What goes from a mirror is kept where the words say, and the mirror lets go of it.
 fn take_out<'a>(
     rt: &HostRuntime,
@@ -294,26 +220,6 @@ fn take_out<'a>(
         }
     }
     Ok(0)
-}
-
-/// Takes the patches of these names out of a repository, and what is bound to them; `None` where one of the names is of the base with
-/// which it begins.
-fn obliterate_unless_base(
-    alloc: Global,
-    repo: &Repo<Global>,
-    chosen: &[Info<Global>],
-) -> Result<Option<Obliterated<Global>>, Refusal>
-    ensures base { IfOk result (λ out. IfNone out (NamesBase repo.now.patches chosen.now)) }
-    ensures keeps { IfOk result (λ out. IfSome out (λ o. KeepsBase repo.now.patches o.repo.patches)) }
-    ensures obliterates { IfOk result (λ out. IfSome out (λ o. Obliterates repo.now.patches chosen.now o.repo.patches o.bundle o.bound.items)) }
-    ensures refusal { IfErr result (RefusesToObliterate repo.now.patches chosen.now) }
-{
-    let base = base_len(repo.patches());
-    if has_first(repo, base, chosen) {
-        return Ok(None);
-    }
-    let out = obliterate(alloc, repo, chosen)?;
-    Ok(Some(out))
 }
 
 /// `dm obliterate`.

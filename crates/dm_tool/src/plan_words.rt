@@ -1,19 +1,17 @@
 //! The words of `dm run`, and what they start.
 ghost use Rattle.std.specs.Prelude.{IfOk};
 ghost use Rattle.dm_tool.specs.Agreeing.{IsRanAs};
-ghost use Rattle.dm_tool.specs.Running.{texts_in};
+ghost use Rattle.dm_commands.specs.Running.{texts_in};
 
 use crate::agreeing::explain_agreement;
-use crate::base::Base;
 use crate::colour::Colour;
 use crate::explaining::{explain_base, explain_run};
-use crate::fault::ToolFault;
 use crate::files::{BaseFile, read_base, read_file};
 use crate::reading::Reading;
-use crate::running::{Bases, Ran, run_over};
 use crate::telling::{Manner, NO_ANSWER, fixed_manner, tell};
 use crate::word_fault::WordFault;
 use clap::ArgMatches;
+use dm_commands::{Base, Bases, Ran, ToolFault, run_over};
 use dm_mirror::PlanFault;
 use dm_named::Limits;
 use dm_repo::Policy;

@@ -1,15 +1,13 @@
 //! The words of `dm send`, and what they start.
-use crate::base::{Base, repo_of};
 use crate::colour::Colour;
 use crate::explaining::{explain_base, explain_theirs};
-use crate::fault::ToolFault;
 use crate::files::{base_of, read_base, read_file};
 use crate::mirror::read_repo;
 use crate::reading::{Reading, refuse_kinds};
-use crate::send::{Sent, send_over};
 use crate::telling::{Manner, NO_ANSWER, tell};
 use crate::word_fault::WordFault;
 use clap::ArgMatches;
+use dm_commands::{Base, Sent, ToolFault, repo_of, send_over};
 use dm_named::Limits;
 use dm_repo::Repo;
 use std::alloc::Global;

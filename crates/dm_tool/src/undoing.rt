@@ -1,13 +1,11 @@
 //! `dm rollback`: the bundle of a patch that undoes others.
-use crate::base_tag::{names_base, refuse_before_base};
+use crate::base_tag::refuse_before_base;
 use crate::choosing::chosen_names;
 use crate::mirror::read_repo;
-use crate::naming::rest_on_tag;
 use crate::obliterating::{refuse, refuse_bound};
-use crate::send::text_of;
-use crate::streams::write_text;
 use crate::word_fault::WordFault;
 use clap::ArgMatches;
+use dm_commands::{names_base, rest_on_tag, text_of, write_text};
 use dm_info::Info;
 use dm_send::{UndoFault, roll_back};
 use jiff_core::civil::DateTime;

@@ -1,7 +1,7 @@
 //! Why the words of a command start nothing, or why what they started gives no answer.
-use crate::fault::ToolFault;
 use crate::input::INPUT;
 use dm_begin::BeginFault;
+use dm_commands::ToolFault;
 use dm_deliver::{AnswerError, DeliverError, FrameFault, FrameFaultKind};
 use dm_disk::OpenFault;
 use dm_info::InfoFault;

@@ -1,6 +1,6 @@
 use Rattle.std.proofs.Common.{ap, refl, ◌∙◌}
 use Rattle.dm_tree.proofs.Fronts.{refuted}
-use Rattle.dm_tool.specs.Running.{bytes_of, texts_in}
+use Rattle.dm_commands.specs.Running.{bytes_of, texts_in}
 use Rattle.dm_tool.proofs.AgreeLemmas.{equal, not_all_taken, two_meanings}
 use Rattle.dm_tool.proofs.agreeing.agreement_of.Goals as goal
 

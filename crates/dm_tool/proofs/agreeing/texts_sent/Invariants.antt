@@ -1,6 +1,6 @@
 use Rattle.std.proofs.Common.{◌≡◌, take}
 use Rattle.dm_agree.specs.Laws.{sent_texts}
-use Rattle.dm_tool.specs.Running.{bytes_of, texts_in}
+use Rattle.dm_commands.specs.Running.{bytes_of, texts_in}
 use Rattle.dm_tool.proofs.agreeing.texts_sent.Given as goal
 
 abbrev pub invariant-loop-poster : goal.invariant-loop-poster

@@ -1,4 +1,3 @@
-use Rattle.std.proofs.Common.{◌≡◌, ℕ, List, ◌∙◌, arith, slice_get, Some}
 use Rattle.dm_bundle.specs.Patches.{infos_of}
 use Rattle.dm_log.proofs.FindingLemmas.{info_there}
 use Rattle.dm_tool.specs.Choosing.{nothing}

@@ -1,5 +1,5 @@
 use Rattle.std.proofs.Common.{◌∙◌, sym}
-use Rattle.dm_tool.proofs.TakenOut.{some_new, takes_gone}
+use Rattle.dm_commands.proofs.TakenOut.{some_new, takes_gone}
 use Rattle.dm_tool.proofs.obliterating.take_out.Goals as goal
 
 pub kept_bundle-requires : goal.kept_bundle-requires

@@ -1,0 +1,9 @@
+pub mod CheckLemmas
+pub mod AnswerLemmas
+pub mod RunLemmas
+pub mod SendLemmas
+pub mod TakenOut
+pub mod BeginLemmas
+pub mod KeptLemmas
+pub mod NamingLemmas
+pub mod InBaseLemmas

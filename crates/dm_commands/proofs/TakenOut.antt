@@ -1,0 +1,123 @@
+-- The text of what goes gives it back.
+use Rattle.std.proofs.Common.{◌≡◌, ◌≢◌, ◌∙◌, false, eqb, ◌↔◌, ◌⊎◌, ℕ, List, [], ◌∷◌, ◌++◌, length, inl, inr, refl}
+use Rattle.std.specs.List.{Contains}
+use Rattle.std.proofs.lemmas.Bool.{true≢false}
+use Rattle.std.proofs.lemmas.List.Elements.{Contains-append_left, Contains-append_right, Contains-append_cases}
+use Rattle.dm_info.specs.PatchInfo.{PatchInfo}
+use Rattle.dm_named.specs.declared.limits.Kinds.{Kinds}
+use Rattle.dm_named.specs.Patches.{Patch}
+use Rattle.dm_bundle.specs.Bundles.{Contents}
+use Rattle.dm_bundle.specs.Patches.{infos_of, AreAllOf, SameMembers}
+use Rattle.dm_repo.specs.declared.policy.Policy.TheVariants.{Refuse}
+use Rattle.dm_repo.specs.CommonSets.{HasAll}
+use Rattle.dm_repo.specs.Repositories.{Holds}
+use Rattle.dm_repo.specs.Weighing.{IsMergeOf}
+use Rattle.dm_repo.proofs.Members.{here, more, one_of, infos_of-append}
+use Rattle.dm_scratch.specs.declared.verdict.Verdict.TheVariants.{Taken, NothingNew}
+use Rattle.dm_converge.proofs.Merged.{merged_all, merged_new}
+use Rattle.dm_send.proofs.KindLemmas.{leaving_keeps_kinds}
+use Rattle.dm_send.specs.Obliterating.{Obliterates}
+use Rattle.dm_send.specs.Sending.{Accepts, Parts, no_names, inside, outside}
+use Rattle.dm_store.specs.LettingGo.{GivesBack}
+use Rattle.dm_commands.specs.Obliterating.{TakesOut}
+
+module _ {In : PatchInfo → Type 0} {i : PatchInfo} where
+  there : {all those others : List PatchInfo} → Parts In all those others → Contains all i → Contains (those ++ others) i
+  there no_names c = c
+  there (inside {i = j} {all} {those} {others} h p) c = elim (one_of j all c) [ inl e ↦ rw (← e) (here j (those ++ others)) | inr d ↦ more j (those ++ others) (there p d) ]
+  there (outside {i = j} {all} {those} {others} h p) c = elim (one_of j all c) [
+    | inl e ↦ Contains-append_right those (j ∷ others) i (rw (← e) (here j others))
+    | inr d ↦ elim (Contains-append_cases those others i (there p d)) [
+      | inl k ↦ Contains-append_left those (j ∷ others) i k
+      | inr k ↦ Contains-append_right those (j ∷ others) i (more j others k)
+    ]
+  ]
+
+  back : {all those others : List PatchInfo} → Parts In all those others → Contains (those ++ others) i → Contains all i
+  back no_names c = c
+  back (inside {i = j} {all} {those} {others} h p) c = elim (one_of j (those ++ others) c) [ inl e ↦ rw (← e) (here j all) | inr d ↦ more j all (back p d) ]
+  back (outside {i = j} {all} {those} {others} h p) c = elim (Contains-append_cases those (j ∷ others) i c) [
+    | inl k ↦ more j all (back p (Contains-append_left those others i k))
+    | inr k ↦ elim (one_of j others k) [ inl e ↦ rw (← e) (here j all) | inr m ↦ more j all (back p (Contains-append_right those others i m)) ]
+  ]
+
+-- a list that isn't empty has an element
+pub some_new : (xs ys : List Patch) → xs ≡ ys → eqb (length xs) 0 ≡ false → ys ≢ []
+some_new [] ys same e none = absurd (true≢false e)
+some_new (x ∷ xs) ys same e none = let never : x ∷ xs ≡ [] = same ∙ none in absurd (cc)
+
+-- what stays takes the bundle of what goes
+pub takes_gone : (repo : List Patch) (chosen : List PatchInfo) (stays : List Patch) (b : Contents) (bound : List (PatchInfo × PatchInfo)) → Obliterates repo chosen stays b bound → b.patches ≢ [] → Accepts stays b
+takes_gone repo chosen stays b bound o some = inr (o.go, 0, o.is_taken Refuse some)
+
+-- the names of a repository are those of what stays and of what is brought
+abbrev Has : List Patch → List Patch → Contents → Type 0
+Has repo stays b = (i : PatchInfo) → Holds repo i ↔ (Holds stays i ⊎ Holds b.patches i)
+
+module _ (kinds : Kinds) (repo stays : List Patch) (text : List ℕ) (t : TakesOut kinds repo stays text) where
+  has_kept : Has repo stays t.kept
+  has_kept i = (
+    λ h. elim (Contains-append_cases (infos_of stays) (infos_of o.go) i (there o.names h)) [
+      | inl c ↦ inl c
+      | inr c ↦ inr (rw t.same (merged_new stays t.gone Refuse o.go 0 (rw t.same at t.reads.stands.sections.patches.distinct) whole i c))
+    ],
+    λ h. back o.names (elim h [
+      | inl c ↦ Contains-append_left (infos_of stays) (infos_of o.go) i c
+      | inr c ↦ elim (merged_all stays t.gone Refuse o.go whole i (rw t.same at c)) [
+        | inl d ↦ Contains-append_left (infos_of stays) (infos_of o.go) i d
+        | inr d ↦ Contains-append_right (infos_of stays) (infos_of o.go) i d
+      ]
+    ]),
+  )
+    where
+      o : Obliterates repo t.chosen stays t.gone t.bound
+      o = t.obliterates
+
+      whole : IsMergeOf stays t.gone Refuse o.go 0
+      whole = o.is_taken Refuse t.some
+
+  merged_has : (merged : List Patch) → IsMergeOf stays t.kept Refuse merged 0 → SameMembers (infos_of repo) (infos_of (stays ++ merged))
+  merged_has merged m = λ i. (
+    λ h. rw (infos_of-append stays merged) (elim ((has_kept i).0 h) [
+      | inl c ↦ Contains-append_left (infos_of stays) (infos_of merged) i c
+      | inr c ↦ elim (merged_all stays t.kept Refuse merged m i c) [
+        | inl d ↦ Contains-append_left (infos_of stays) (infos_of merged) i d
+        | inr d ↦ Contains-append_right (infos_of stays) (infos_of merged) i d
+      ]
+    ]),
+    λ h. (has_kept i).1 (elim (Contains-append_cases (infos_of stays) (infos_of merged) i (rw (infos_of-append stays merged) at h)) [
+      | inl c ↦ inl c
+      | inr c ↦ inr (merged_new stays t.kept Refuse merged 0 t.reads.stands.sections.patches.distinct m i c)
+    ]),
+  )
+
+  nothing_has : HasAll stays t.kept → SameMembers (infos_of repo) (infos_of stays)
+  nothing_has all = λ i. (λ h. elim ((has_kept i).0 h) [ inl c ↦ c | inr c ↦ all i c ], λ h. (has_kept i).1 (inl h))
+
+  pub gives_back : GivesBack kinds repo stays text
+  gives_back = elim t.is_taken [
+    | inl n ↦ record {
+      gone = t.kept;
+      stands = t.reads.stands;
+      verdict = NothingNew;
+      accepted = tt;
+      after = stays;
+      takes = (n, refl);
+      names = nothing_has n.all_held;
+    }
+    | inr m ↦
+        let merge : IsMergeOf stays t.kept Refuse m.0 0 = rw m.2.merge.1 at m.2 in
+        record {
+          gone = t.kept;
+          stands = t.reads.stands;
+          verdict = Taken (length m.0);
+          accepted = tt;
+          after = stays ++ m.0;
+          takes = record { merged = m.0; is_merge = merge; counted = refl; appended = refl };
+          names = merged_has m.0 merge;
+        }
+  ]
+
+  -- what stays has the kinds of the repository
+  pub stays_of_kinds : AreAllOf kinds repo → AreAllOf kinds stays
+  stays_of_kinds k = let o = t.obliterates in (leaving_keeps_kinds kinds t.chosen repo stays o.go t.bound k o.leaves).0

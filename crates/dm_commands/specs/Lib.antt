@@ -1,0 +1,9 @@
+pub mod Streams
+pub mod Printing
+pub mod Checking
+pub mod Applying
+pub mod Running
+pub mod Naming
+pub mod Sending
+pub mod Obliterating
+pub mod Beginning

@@ -1,0 +1,251 @@
+//! The command `dm send`.
+ghost use Rattle.std.specs.Prelude.{◌≡◌, ◌≢◌, ◌⊎◌, IfOk, IfErr};
+ghost use Rattle.std.specs.Io.KnownBytes.{Keeps};
+ghost use Rattle.dm_named.specs.Laws.{with_kinds};
+ghost use Rattle.dm_named.specs.Limits.{standard};
+ghost use Rattle.dm_scratch.specs.declared.verdict.Verdict.TheVariants.{Refused};
+ghost use Rattle.dm_scratch.specs.Printing.{line_of};
+ghost use Rattle.dm_scratch.specs.Taking.{ReadsWithin};
+ghost use Rattle.dm_scratch.specs.Words.{verdict_text};
+ghost use Rattle.dm_begin.specs.Bases.{KnowsBase};
+ghost use Rattle.dm_send.specs.Telling.{TellsNames};
+ghost use Rattle.dm_commands.specs.Streams.{Writes, WritesPrefix};
+ghost use Rattle.dm_commands.specs.Sending.{AnswersNames, AnswersTexts, CountsUnheld, hashed_text, IsPastLimits, IsWithinLimits, RefusesNames, RefusesTexts, RefusesTheirs, TheirNames};
+ghost use Rattle.dm_commands.specs.Sending.{RefusesToSendFor, SendsFor, TellsNumbers, TellsTexts};
+
+use crate::base::Base;
+use crate::fault::ToolFault;
+use crate::naming::rest_on_tag;
+use crate::status::status_of;
+use crate::streams::write_text;
+use crate::tag::before_base_line;
+use dm_begin::knows_base;
+use dm_bundle::{Bundle, are_within};
+use dm_hash::write_hashed;
+use dm_info::Info;
+use dm_named::{Kinds, Limits};
+use dm_repo::{Refusal, Repo};
+use dm_scratch::{Verdict, push_verdict};
+use dm_send::{read_names, send, send_minimal};
+use dm_store::are_of;
+use std::alloc::Global;
+use std::io::Write;
+
+/// What `dm send` answered.
+#[derive(Drop)]
+pub struct Sent {
+    /// The exit status.
+    pub status: u8,
+    /// How many new patches are sent; `None` where there is no bundle.
+    pub new: Option<usize>,
+    /// How many names of theirs aren't held here.
+    pub unheld: usize,
+}
+
+/// The names that a text tells.
+fn names_of(alloc: Global, theirs: &[u8], limits: Limits) -> Result<Vec<Info<Global>>, ToolFault>
+    ensures ok { IfOk result (λ names. TellsNames limits theirs.now names.items) }
+    ensures err { IfErr result (RefusesNames limits theirs.now) }
+{
+    match read_names(alloc, theirs, limits) {
+        Ok(names) => Ok(names),
+        Err(fault) => Err(ToolFault::of_names(fault)),
+    }
+}
+
+/// How many of these names aren't held.
+fn count_unheld(repo: &Repo<Global>, names: &[Info<Global>]) -> usize
+    ensures { CountsUnheld repo.now.patches names.now result }
+{
+    let mut unheld = 0;
+    for name in names {
+        match repo.position(name) {
+            Some(_) => {}
+            None => unheld += 1,
+        }
+    }
+    unheld
+}
+
+/// The bundle for somebody who holds patches of these names.
+fn bundle_for(
+    alloc: Global,
+    repo: &Repo<Global>,
+    names: &[Info<Global>],
+    most: usize,
+    is_minimal: bool,
+) -> Result<Bundle<Global>, Refusal>
+    ensures sent { IfOk result (SendsFor is_minimal repo.now.patches names.now most) }
+    ensures refusal { IfErr result (RefusesToSendFor is_minimal repo.now.patches names.now most) }
+{
+    if is_minimal {
+        return send_minimal(alloc, repo, names, most);
+    }
+    send(alloc, repo, names, most)
+}
+
+/// The text of a bundle of primitives of these kinds with the hash of its patches, where both are within the limits of what is
+/// read.
+pub fn text_of(alloc: Global, kinds: Kinds, bundle: &Bundle<Global>) -> Result<Vec<u8>, ToolFault>
+    ensures text { IfOk result (λ text. text.items ≡ hashed_text bundle.now) }
+    ensures reads { IfOk result (λ text. ReadsWithin (with_kinds standard kinds) text.items bundle.now) }
+    ensures err { IfErr result (λ e. (e ≡ ToolFault.NoMemory) ⊎ ((e ≡ ToolFault.TooManyToSend) × (IsWithinLimits kinds bundle.now → ⊥))) }
+{
+    let limits = Limits::STANDARD.with_kinds(kinds);
+    if !are_within(limits, bundle.new_patches()) {
+        return Err(ToolFault::TooManyToSend);
+    }
+    if !are_of(kinds, bundle.new_patches()) {
+        return Err(ToolFault::TooManyToSend);
+    }
+    let text = write_hashed(alloc, bundle)?;
+    if text.len() > Limits::STANDARD.bytes {
+        return Err(ToolFault::TooManyToSend);
+    }
+    Ok(text)
+}
+
+/// The line that says why there is no bundle. That memory ran out is no answer.
+pub fn refusal_line(alloc: Global, why: Refusal) -> Result<Vec<u8>, ToolFault>
+    ensures line { IfOk result (λ line. line.items ≡ line_of (verdict_text (Refused why))) }
+    ensures answers { IfOk result (λ _. why ≢ Refusal.NoMemory) }
+    ensures err { IfErr result (λ e. e ≡ ToolFault.NoMemory) }
+{
+    if why == Refusal::NoMemory {
+        return Err(ToolFault::NoMemory);
+    }
+    let mut line = Vec::new(alloc);
+    push_verdict(Verdict::Refused(why), &mut line)?;
+    Ok(line)
+}
+
+/// What is printed for somebody who holds patches of these names, and has the whole base with which the repository begins, and
+/// what is told of it, where so many of the names aren't held.
+fn answer_knower(
+    alloc: Global,
+    kinds: Kinds,
+    repo: &Repo<Global>,
+    names: &[Info<Global>],
+    most: usize,
+    is_minimal: bool,
+    unheld: usize,
+) -> Result<(Vec<u8>, Sent), ToolFault>
+    requires knows { KnowsBase repo.now.patches names.now }
+    requires unheld { CountsUnheld repo.now.patches names.now unheld }
+    ensures ok { IfOk result (λ x. AnswersNames kinds is_minimal repo.now.patches names.now most x.0.items x.1.status) }
+    ensures told { IfOk result (λ x. TellsNumbers is_minimal repo.now.patches names.now most x.1) }
+    ensures err { IfErr result (λ e. (e ≡ ToolFault.NoMemory) ⊎
+        ((e ≡ ToolFault.TooManyToSend) × IsPastLimits kinds is_minimal repo.now.patches names.now most)) }
+{
+    match bundle_for(alloc, repo, names, most, is_minimal) {
+        Ok(bundle) => {
+            let cut = rest_on_tag(alloc, repo, bundle)?;
+            let text = text_of(alloc, kinds, &cut)?;
+            let sent = Sent {
+                status: 0,
+                new: Some(cut.new_patches().len()),
+                unheld,
+            };
+            Ok((text, sent))
+        }
+        Err(why) => {
+            let line = refusal_line(alloc, why)?;
+            let sent = Sent {
+                status: status_of(Verdict::Refused(why)),
+                new: None,
+                unheld,
+            };
+            Ok((line, sent))
+        }
+    }
+}
+
+/// What is printed for somebody who holds patches of these names, and what is told of it.
+fn answer_for(
+    alloc: Global,
+    kinds: Kinds,
+    repo: &Repo<Global>,
+    names: &[Info<Global>],
+    most: usize,
+    is_minimal: bool,
+) -> Result<(Vec<u8>, Sent), ToolFault>
+    ensures ok { IfOk result (λ x. AnswersNames kinds is_minimal repo.now.patches names.now most x.0.items x.1.status) }
+    ensures told { IfOk result (λ x. TellsNumbers is_minimal repo.now.patches names.now most x.1) }
+    ensures err { IfErr result (λ e. (e ≡ ToolFault.NoMemory) ⊎
+        ((e ≡ ToolFault.TooManyToSend) × IsPastLimits kinds is_minimal repo.now.patches names.now most)) }
+{
+    let unheld = count_unheld(repo, names);
+    if !knows_base(alloc, repo, names)? {
+        let line = before_base_line(alloc)?;
+        let sent = Sent {
+            status: 1,
+            new: None,
+            unheld,
+        };
+        return Ok((line, sent));
+    }
+    answer_knower(alloc, kinds, repo, names, most, is_minimal, unheld)
+}
+
+/// The names of what somebody holds: those that their text tells, and none without a text.
+fn their_names(alloc: Global, theirs: Option<Base<'_>>) -> Result<Vec<Info<Global>>, ToolFault>
+    ensures ok { IfOk result (λ names. TheirNames theirs.entry names.items) }
+    ensures err { IfErr result (RefusesTheirs theirs.entry) }
+{
+    match theirs {
+        None => Ok(Vec::new(alloc)),
+        Some(theirs) => names_of(alloc, theirs.text, theirs.limits),
+    }
+}
+
+/// What is printed for somebody of whom a text tells what they hold, or who holds nothing, and what is told of it.
+fn answer_to(
+    alloc: Global,
+    kinds: Kinds,
+    repo: &Repo<Global>,
+    theirs: Option<Base<'_>>,
+    most: usize,
+    is_minimal: bool,
+) -> Result<(Vec<u8>, Sent), ToolFault>
+    ensures ok { IfOk result (λ x. AnswersTexts kinds is_minimal repo.now.patches theirs.entry most x.0.items x.1.status) }
+    ensures told { IfOk result (λ x. TellsTexts is_minimal repo.now.patches theirs.entry most x.1) }
+    ensures err { IfErr result (RefusesTexts kinds is_minimal repo.now.patches theirs.entry most) }
+{
+    let names = their_names(alloc, theirs)?;
+    let answer = answer_for(alloc, kinds, repo, &names, most, is_minimal)?;
+    Ok(answer)
+}
+
+/// Writes the canonical bundle of the patches that somebody lacks, as they stand behind what both hold: the first `most` of
+/// those of a repository, whose primitives are of these kinds. Another text tells what they hold; without one they hold nothing. A minimal bundle names in its context
+/// only what its patches rest on. Behind the context stands the hash of the patches. Where a patch that they hold rests on one
+/// that they don't, or a repository of what both hold would refuse the bundle, it writes the line of the refusal. Returns the exit
+/// status, 0 with a bundle and 1 with a refusal, and what it tells.
+///
+/// Where the repository begins with a base, and they don't have all of it, it writes the line `refused before-base`. Of a base that
+/// they have the context names the last patch, and no other.
+///
+/// Errors: [`ToolFault::BadNames`] where the other text tells no names; [`ToolFault::TooManyToSend`] where the bundle is past a
+/// limit of what `dm` reads; [`ToolFault::NoMemory`]; [`ToolFault::Write`]. Only after the last has anything been written, which
+/// is a prefix of the output.
+pub fn send_over<W: Write>(
+    alloc: Global,
+    kinds: Kinds,
+    repo: &Repo<Global>,
+    theirs: Option<Base<'_>>,
+    most: usize,
+    is_minimal: bool,
+    writer: &mut W,
+) -> Result<Sent, ToolFault>
+    ensures ok { IfOk result (λ sent. Writes (AnswersTexts kinds is_minimal repo.now.patches theirs.entry most)
+        (W.contents writer.old) (W.contents writer.new) sent.status) }
+    ensures told { IfOk result (TellsTexts is_minimal repo.now.patches theirs.entry most) }
+    ensures fault { IfErr result (λ e. (e ≢ ToolFault.Write) → RefusesTexts kinds is_minimal repo.now.patches theirs.entry most e) }
+    ensures silent { IfErr result (λ e. (e ≢ ToolFault.Write) → Keeps (W.contents writer.old) (W.contents writer.new)) }
+    ensures prefix { IfErr result (λ e. (e ≡ ToolFault.Write) →
+        WritesPrefix (AnswersTexts kinds is_minimal repo.now.patches theirs.entry most) (W.contents writer.old) (W.contents writer.new)) }
+{
+    let (out, sent) = answer_to(alloc, kinds, repo, theirs, most, is_minimal)?;
+    write_text(&out, writer)?;
+    Ok(sent)
+}

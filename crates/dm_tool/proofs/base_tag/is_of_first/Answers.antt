@@ -1,6 +1,0 @@
-use Rattle.dm_bundle.specs.Patches.{infos_of}
-use Rattle.dm_repo.proofs.NameLemmas.{is_before}
-use Rattle.dm_tool.proofs.base_tag.is_of_first.Goals as goal
-
-pub returns-in-Some : goal.returns-in-Some
-returns-in-Some c = is_before (infos_of c.args.repo.now.patches) c.args.name.now c.in-Some.place c.args.count c.are_distinct.ensures (rw c.in-Some.is at c.position.ensures)

@@ -1,6 +1,0 @@
-use Rattle.std.proofs.Common.{◌≡◌, ◌++◌, map, take}
-use Rattle.dm_tool.specs.Running.{posters_text}
-use Rattle.dm_tool.proofs.running.push_posters.Given as goal
-
-abbrev pub invariant-loop-number : goal.invariant-loop-number
-invariant-loop-number l = l.out.items ≡ l.fn.out.items ++ posters_text 0 (map (λ p. p.0.now) (take l.number l.posters))
