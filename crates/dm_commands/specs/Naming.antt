@@ -7,6 +7,7 @@ use Rattle.dm_bundle.specs.Patches.{infos_of}
 use Rattle.dm_bundle.specs.Bundles.{Contents}
 use Rattle.dm_log.specs.Contexts.{context_text}
 use Rattle.dm_begin.specs.Bases.{BeginsWith, CutsBase, IsLast}
+use Rattle.dm_commands.specs.declared.tag.BaseTag.{BaseTag}
 
 -- the bundle brings a patch of this name, or its context has it
 abbrev pub Names : Contents → PatchInfo → Type 0
@@ -36,3 +37,8 @@ pub record NamesFromTag (repo : List Patch) (text : List ℕ) : Type 0 where
   pub base : ℕ
   pub begins : BeginsWith repo base
   pub names : text ≡ context_text (infos_of (drop (base - 1) repo))
+
+-- the tag with which the repository begins, and how many patches it covers
+pub record IsBaseTag (repo : List Patch) (tag : BaseTag) : Type 0 where
+  pub begins : BeginsWith repo tag.count
+  pub is_last : IsLast (infos_of (take tag.count repo)) tag.tag.now

@@ -1,5 +1,5 @@
 -- What goes from a mirror, and the text that brings it back.
-use Rattle.std.specs.Prelude.{◌≡◌, ◌≢◌, ℕ, List, [], take}
+use Rattle.std.specs.Prelude.{◌≡◌, ◌≢◌, ◌⊎◌, ℕ, List, [], take}
 use Rattle.std.specs.List.{Contains}
 use Rattle.dm_info.specs.PatchInfo.{PatchInfo}
 use Rattle.dm_named.specs.Limits.{standard}
@@ -9,9 +9,14 @@ use Rattle.dm_named.specs.Patches.{Patch}
 use Rattle.dm_bundle.specs.Patches.{infos_of}
 use Rattle.dm_begin.specs.Bases.{BeginsWith}
 use Rattle.dm_bundle.specs.Bundles.{Contents}
+use Rattle.dm_repo.specs.declared.policy.Policy.TheVariants.{Refuse}
+use Rattle.dm_repo.specs.declared.refusal.Refusal.{Refusal}
+use Rattle.dm_repo.specs.declared.refusal.Refusal.TheVariants.{NoMemory}
+use Rattle.dm_repo.specs.Weighing.{RefusesBundle}
 use Rattle.dm_scratch.specs.Taking.{ReadsWithin}
 use Rattle.dm_send.specs.Obliterating.{Obliterates}
 use Rattle.dm_send.specs.Sending.{Accepts}
+use Rattle.dm_commands.specs.Naming.{RestsOnTag}
 
 -- Patches of some names go, and those that are bound to them, one at least. The text stands for a bundle of them, of primitives of these kinds, and
 -- what stays takes it.
@@ -39,3 +44,7 @@ pub record KeepsBase (repo stay : List Patch) : Type 0 where
   pub base : ℕ
   pub begins : BeginsWith repo base
   pub keeps : take base stay ≡ take base repo
+
+-- what stays doesn't take what goes with the tag named, or memory ran out
+abbrev pub RefusesKept : List Patch → List Patch → Contents → Refusal → Type 0
+RefusesKept repo stays gone why = (why ≡ NoMemory) ⊎ ((kept : Contents) × RestsOnTag repo gone kept × RefusesBundle stays kept Refuse why)

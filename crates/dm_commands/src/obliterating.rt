@@ -7,11 +7,12 @@ ghost use Rattle.dm_send.specs.Sending.{Accepts};
 ghost use Rattle.dm_store.specs.Keeping.{FitsOneEntry, IsStored};
 ghost use Rattle.dm_store.specs.Kinds.{kinds_in};
 ghost use Rattle.dm_store.specs.LettingGo.{LosesNothing};
-ghost use Rattle.dm_commands.specs.Obliterating.{KeepsBase, NamesBase, TakesOut};
+ghost use Rattle.dm_commands.specs.Naming.{RestsOnTag};
+ghost use Rattle.dm_commands.specs.Obliterating.{KeepsBase, NamesBase, RefusesKept, TakesOut};
 ghost use Rattle.dm_commands.specs.declared.obliterating.Unkept.TheVariants as unkept;
 
 use crate::naming::rest_on_tag;
-use crate::tag::{base_tag, has_first};
+use crate::tag::has_first;
 use dm_begin::base_len;
 use dm_bundle::Bundle;
 use dm_info::Info;
@@ -47,6 +48,7 @@ pub fn keep_and_let_go<D: Device, F: Device>(
     ensures too_large { IfOk result (λ done. ¬ IsTrue done → (stays.patches ≢ []) × (FitsOneEntry stays.patches → ⊥)) }
     ensures unless_done { IfOk result (λ done. ¬ IsTrue done → store.new ≡ store.old) }
     ensures unless_kept { (fault : WriteError) → result ≡ Err (unkept.Bundle fault) → store.new ≡ store.old }
+    ensures kept_before { (fault : WriteError) → result ≡ Err (unkept.Mirror fault) → IsDurable F.seen F.may_leave F.file_may_leave file.new × (F.seen file.new ≡ text.now) }
     ensures stored { OnOk result (IsStored D.seen D.may_leave D.file_may_leave store.new) }
     ensures kept { OnOk result (IsDurable F.seen F.may_leave F.file_may_leave file.new × (F.seen file.new ≡ text.now)) }
 
@@ -69,6 +71,8 @@ pub fn keep_and_let_go<D: Device, F: Device>(
 }
 
 /// The bundle of what goes, as it is kept: where the repository begins at a tag, it names that one. What stays takes it.
+///
+/// Errors: [`Refusal::NoMemory`]; why what stays doesn't take it.
 pub fn kept_bundle(
     alloc: Global,
     repo: &Repo<Global>,
@@ -76,10 +80,12 @@ pub fn kept_bundle(
     bundle: Bundle<Global>,
 ) -> Result<Bundle<Global>, Refusal>
     requires { Accepts stays.now.patches bundle }
+    ensures rests { IfOk result (RestsOnTag repo.now.patches bundle) }
     ensures patches { IfOk result (λ kept. kept.patches ≡ bundle.patches) }
     ensures is_taken { IfOk result (Accepts stays.now.patches) }
+    ensures refusal { IfErr result (RefusesKept repo.now.patches stays.now.patches bundle) }
 {
-    if base_tag(repo).is_none() {
+    if base_len(repo.patches()) == 0 {
         return Ok(bundle);
     }
     let kept = rest_on_tag(alloc, repo, bundle)?;

@@ -1,8 +1,10 @@
 //! The tag with which a mirror begins, and what is refused of it.
-ghost use Rattle.std.specs.Prelude.{◌≡◌, ◌↔◌, Any, Contains, IfErr, IfOk, IsTrue, take};
+ghost use Rattle.std.specs.Prelude.{◌≡◌, ◌↔◌, Any, Contains, IfErr, IfOk, IsTrue, MatchOption, take};
+ghost use Rattle.dm_begin.specs.Bases.{BeginsWith};
 ghost use Rattle.dm_bundle.specs.Patches.{Distinct, infos_of};
 ghost use Rattle.dm_deliver.specs.Answering.{answer_line};
 ghost use Rattle.dm_deliver.specs.declared.answers.Answer.TheVariants.{BeforeBase};
+ghost use Rattle.dm_commands.specs.Naming.{IsBaseTag};
 ghost use Rattle.dm_commands.specs.Obliterating.{NamesBase};
 
 use crate::fault::ToolFault;
@@ -23,19 +25,22 @@ pub struct BaseTag<'a> {
 
 impl BaseTag<'_> {
     /// How many patches it covers, itself among them.
-    pub fn count(&self) -> usize {
+    pub fn count(&self) -> usize
+        ensures { result ≡ self.now.count }
+    {
         self.count
     }
 }
 
 /// The tag with which a repository begins, if it does.
-pub fn base_tag(repo: &Repo<Global>) -> Option<BaseTag<'_>> {
-    let patches = repo.patches();
-    let count = base_len(patches);
-    let Some(last) = patches[..count.min(patches.len())].last() else {
+pub fn base_tag(repo: &Repo<Global>) -> Option<BaseTag<'_>>
+    ensures { MatchOption result (BeginsWith repo.now.patches 0) (IsBaseTag repo.now.patches) }
+{
+    let count = base_len(repo.patches());
+    if count == 0 {
         return None;
-    };
-    let tag = last.info();
+    }
+    let tag = repo.patch(count - 1).info();
     Some(BaseTag { tag, count })
 }
 

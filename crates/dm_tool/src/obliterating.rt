@@ -183,6 +183,32 @@ fn kept_text<'a>(
     }
 }
 
+/// Keeps the bundle where the words say, has the mirror let go of what it has, and says how many patches went.
+fn keep_where_said<'a>(
+    rt: &HostRuntime,
+    words: &ArgMatches<'a>,
+    path: &'a str,
+    store: Store<DiskFile>,
+    text: &[u8],
+    stays: Repo<Global>,
+    count: usize,
+) -> Result<u8, WordFault<'a>>
+    requires stored { IsStored seen may_leave file_may_leave store }
+    requires takes_out { TakesOut (kinds_in store) store.repo.patches stays.patches text.now }
+{
+    match words.get_str("output") {
+        Some(name) => {
+            keep_in_file(rt, path, store, name, text, stays)?;
+            print_count(rt, count)?;
+        }
+        None => {
+            print_and_let_go(rt, path, store, text, stays)?;
+            say_count(rt, count);
+        }
+    }
+    Ok(0)
+}
+
 /// What goes from a mirror is kept where the words say, and the mirror lets go of it.
 fn take_out<'a>(
     rt: &HostRuntime,
@@ -203,23 +229,13 @@ fn take_out<'a>(
         Ok(kept) => kept,
         Err(why) => return refuse(rt, why),
     };
-    let count = kept.new_patches().len();
     let text = kept_text(rt, store.kinds(), &kept)?;
     if words.get_flag("dry-run") {
         write_text(&text, &mut io::writer(rt))?;
         return Ok(0);
     }
-    match words.get_str("output") {
-        Some(name) => {
-            keep_in_file(rt, path, store, name, &text, repo)?;
-            print_count(rt, count)?;
-        }
-        None => {
-            print_and_let_go(rt, path, store, &text, repo)?;
-            say_count(rt, count);
-        }
-    }
-    Ok(0)
+    let count = kept.new_patches().len();
+    keep_where_said(rt, words, path, store, &text, repo, count)
 }
 
 /// `dm obliterate`.
