@@ -5,6 +5,7 @@ use crate::arguments::{
     one_bundle, output, patches, place, posters, quiet, repository, skip, skip_special, stream,
     text,
 };
+use crate::building::Building;
 use crate::help;
 use clap::{ArgGroup, Command};
 use std::alloc::{AllocError, Global};
@@ -14,50 +15,47 @@ const VERSION: &str = "0.1.0";
 
 /// The words of `dm apply`.
 fn apply_words<'a>(alloc: Global) -> Result<Command<'a>, AllocError> {
-    Command::new(alloc, "apply")
-        .about(help::APPLY)
-        .after_help(help::AFTER_APPLY)
-        .arg(file(alloc, "base", help::APPLY_BASE))?
-        .arg(repository(alloc)?)?
-        .arg(mirror(alloc, help::APPLY_MIRROR))?
-        .arg(no_wait_at_mirror(alloc)?)?
-        .arg(dry_run_at_mirror(alloc)?)?
-        .arg(bundle(alloc))?
-        .arg(quiet(alloc)?)?
-        .arg(hash(alloc))?
-        .arg(all_kinds(alloc, help::READ_ALL_HERE))?
-        .arg(explain(alloc))?
-        .arg(skip(alloc))?
-        .arg(stream(alloc)?)?
+    Building::new(alloc, "apply", help::APPLY, help::AFTER_APPLY)
+        .arg(file(alloc, "base", help::APPLY_BASE))
+        .try_arg(repository(alloc))
+        .arg(mirror(alloc, help::APPLY_MIRROR))
+        .try_arg(no_wait_at_mirror(alloc))
+        .try_arg(dry_run_at_mirror(alloc))
+        .arg(bundle(alloc))
+        .try_arg(quiet(alloc))
+        .arg(hash(alloc))
+        .arg(all_kinds(alloc, help::READ_ALL_HERE))
+        .arg(explain(alloc))
+        .arg(skip(alloc))
+        .try_arg(stream(alloc))
         .arg(bundles(alloc))
+        .done()
 }
 
 /// The words of `dm check`.
 fn check_words<'a>(alloc: Global) -> Result<Command<'a>, AllocError> {
-    Command::new(alloc, "check")
-        .about(help::CHECK)
-        .after_help(help::AFTER_CHECK)
-        .arg(flag(alloc, "paths", help::PATHS))?
-        .arg(hash(alloc))?
-        .arg(all_kinds(alloc, help::READ_ALL))?
-        .arg(explain(alloc))?
+    Building::new(alloc, "check", help::CHECK, help::AFTER_CHECK)
+        .arg(flag(alloc, "paths", help::PATHS))
+        .arg(hash(alloc))
+        .arg(all_kinds(alloc, help::READ_ALL))
+        .arg(explain(alloc))
         .arg(one_bundle(alloc, help::CHECK_BUNDLE))
+        .done()
 }
 
 /// The words of `dm init`.
 fn init_words<'a>(alloc: Global) -> Result<Command<'a>, AllocError> {
-    Command::new(alloc, "init")
-        .about(help::INIT)
-        .after_help(help::AFTER_INIT)
-        .arg(mirror(alloc, help::INIT_MIRROR).required(true))?
-        .arg(file(alloc, "base", help::INIT_BASE))?
-        .arg(repository(alloc)?)?
-        .arg(all_kinds(alloc, help::REMEMBER_ALL))?
-        .arg(names(alloc)?)?
-        .arg(skip_special(alloc)?)?
-        .arg(no_wait(alloc))?
-        .arg(explain(alloc))?
-        .arg(folder(alloc)?)
+    Building::new(alloc, "init", help::INIT, help::AFTER_INIT)
+        .arg(mirror(alloc, help::INIT_MIRROR).required(true))
+        .arg(file(alloc, "base", help::INIT_BASE))
+        .try_arg(repository(alloc))
+        .arg(all_kinds(alloc, help::REMEMBER_ALL))
+        .try_arg(names(alloc))
+        .try_arg(skip_special(alloc))
+        .arg(no_wait(alloc))
+        .arg(explain(alloc))
+        .try_arg(folder(alloc))
+        .done()
 }
 
 /// What `dm log` reads, one of these.
@@ -72,74 +70,74 @@ fn logged<'a>(alloc: Global) -> Result<ArgGroup<'a>, AllocError> {
 
 /// The words of `dm log`.
 fn log_words<'a>(alloc: Global) -> Result<Command<'a>, AllocError> {
-    Command::new(alloc, "log")
-        .about(help::LOG)
-        .after_help(help::AFTER_LOG)
-        .arg(mirror(alloc, help::MIRROR))?
-        .arg(file(alloc, "base", help::LOG_BASE))?
-        .arg(repository(alloc)?)?
-        .arg(one_bundle(alloc, help::LOG_BUNDLE))?
-        .group(logged(alloc)?)?
-        .arg(last(alloc))?
-        .arg(flag(alloc, "reverse", help::REVERSE))?
-        .arg(flag(alloc, "verbose", help::VERBOSE))?
-        .arg(count(alloc)?)?
-        .arg(context(alloc)?)?
-        .arg(all_kinds(alloc, help::READ_ALL_HERE))?
-        .arg(no_wait_at_mirror(alloc)?)
+    Building::new(alloc, "log", help::LOG, help::AFTER_LOG)
+        .arg(mirror(alloc, help::MIRROR))
+        .arg(file(alloc, "base", help::LOG_BASE))
+        .try_arg(repository(alloc))
+        .arg(one_bundle(alloc, help::LOG_BUNDLE))
+        .try_group(logged(alloc))
+        .arg(last(alloc))
+        .arg(flag(alloc, "reverse", help::REVERSE))
+        .arg(flag(alloc, "verbose", help::VERBOSE))
+        .try_arg(count(alloc))
+        .try_arg(context(alloc))
+        .arg(all_kinds(alloc, help::READ_ALL_HERE))
+        .try_arg(no_wait_at_mirror(alloc))
+        .done()
 }
 
 /// The words of `dm checkout`.
 fn checkout_words<'a>(alloc: Global) -> Result<Command<'a>, AllocError> {
-    Command::new(alloc, "checkout")
-        .about(help::CHECKOUT)
-        .after_help(help::AFTER_CHECKOUT)
-        .arg(mirror(alloc, help::MIRROR).required(true))?
-        .arg(no_wait(alloc))?
-        .arg(flag(alloc, "all-names", help::ALL_NAMES))?
+    Building::new(alloc, "checkout", help::CHECKOUT, help::AFTER_CHECKOUT)
+        .arg(mirror(alloc, help::MIRROR).required(true))
+        .arg(no_wait(alloc))
+        .arg(flag(alloc, "all-names", help::ALL_NAMES))
         .arg(place(alloc, "folder", "FOLDER", help::CHECKOUT_FOLDER).required(true))
+        .done()
 }
 
 /// The words of `dm obliterate`.
 fn obliterate_words<'a>(alloc: Global) -> Result<Command<'a>, AllocError> {
-    Command::new(alloc, "obliterate")
-        .about(help::OBLITERATE)
-        .after_help(help::AFTER_OBLITERATE)
-        .arg(mirror(alloc, help::MIRROR).required(true))?
-        .arg(output(alloc))?
-        .arg(flag(alloc, "with-dependents", help::WITH_DEPENDENTS))?
-        .arg(dry_run(alloc)?)?
-        .arg(no_wait(alloc))?
-        .arg(explain(alloc))?
-        .arg(patches(alloc))
+    Building::new(
+        alloc,
+        "obliterate",
+        help::OBLITERATE,
+        help::AFTER_OBLITERATE,
+    )
+    .arg(mirror(alloc, help::MIRROR).required(true))
+    .arg(output(alloc))
+    .arg(flag(alloc, "with-dependents", help::WITH_DEPENDENTS))
+    .try_arg(dry_run(alloc))
+    .arg(no_wait(alloc))
+    .arg(explain(alloc))
+    .arg(patches(alloc))
+    .done()
 }
 
 /// The words of `dm rollback`.
 fn rollback_words<'a>(alloc: Global) -> Result<Command<'a>, AllocError> {
-    Command::new(alloc, "rollback")
-        .about(help::ROLLBACK)
-        .after_help(help::AFTER_ROLLBACK)
-        .arg(mirror(alloc, help::MIRROR).required(true))?
-        .arg(text(alloc, "author", "AUTHOR", help::AUTHOR).required(true))?
-        .arg(text(alloc, "date", "DATE", help::DATE))?
-        .arg(text(alloc, "name", "NAME", help::NAME))?
-        .arg(text(alloc, "log", "TEXT", help::LOG_TEXT))?
-        .arg(no_wait(alloc))?
+    Building::new(alloc, "rollback", help::ROLLBACK, help::AFTER_ROLLBACK)
+        .arg(mirror(alloc, help::MIRROR).required(true))
+        .arg(text(alloc, "author", "AUTHOR", help::AUTHOR).required(true))
+        .arg(text(alloc, "date", "DATE", help::DATE))
+        .arg(text(alloc, "name", "NAME", help::NAME))
+        .arg(text(alloc, "log", "TEXT", help::LOG_TEXT))
+        .arg(no_wait(alloc))
         .arg(patches(alloc))
+        .done()
 }
 
 /// The words of `dm run`.
 fn run_words<'a>(alloc: Global) -> Result<Command<'a>, AllocError> {
-    Command::new(alloc, "run")
-        .about(help::RUN)
-        .after_help(help::AFTER_RUN)
-        .arg(number(alloc, "mirrors", "M", help::MIRRORS))?
-        .arg(number(alloc, "bound", "B", help::BOUND))?
-        .arg(file(alloc, "base", help::RUN_BASE))?
-        .arg(repository(alloc)?)?
-        .arg(explain(alloc))?
-        .arg(skip(alloc))?
+    Building::new(alloc, "run", help::RUN, help::AFTER_RUN)
+        .arg(number(alloc, "mirrors", "M", help::MIRRORS))
+        .arg(number(alloc, "bound", "B", help::BOUND))
+        .arg(file(alloc, "base", help::RUN_BASE))
+        .try_arg(repository(alloc))
+        .arg(explain(alloc))
+        .arg(skip(alloc))
         .arg(posters(alloc))
+        .done()
 }
 
 /// From what `dm send` sends, one of these.
@@ -153,19 +151,18 @@ fn mine<'a>(alloc: Global) -> Result<ArgGroup<'a>, AllocError> {
 
 /// The words of `dm send`.
 fn send_words<'a>(alloc: Global) -> Result<Command<'a>, AllocError> {
-    Command::new(alloc, "send")
-        .about(help::SEND)
-        .after_help(help::AFTER_SEND)
-        .arg(mirror(alloc, help::SEND_MIRROR))?
-        .arg(file(alloc, "base", help::SEND_BASE))?
-        .arg(repository(alloc)?)?
-        .group(mine(alloc)?)?
-        .arg(first(alloc))?
-        .arg(minimal(alloc))?
-        .arg(all_kinds(alloc, help::READ_ALL_HERE))?
-        .arg(no_wait_at_mirror(alloc)?)?
-        .arg(explain(alloc))?
+    Building::new(alloc, "send", help::SEND, help::AFTER_SEND)
+        .arg(mirror(alloc, help::SEND_MIRROR))
+        .arg(file(alloc, "base", help::SEND_BASE))
+        .try_arg(repository(alloc))
+        .try_group(mine(alloc))
+        .arg(first(alloc))
+        .arg(minimal(alloc))
+        .arg(all_kinds(alloc, help::READ_ALL_HERE))
+        .try_arg(no_wait_at_mirror(alloc))
+        .arg(explain(alloc))
         .arg(file(alloc, "to", help::SEND_TO))
+        .done()
 }
 
 /// The commands and their words.

@@ -3,6 +3,7 @@
 #![tactic(auto)]
 
 mod arguments;
+mod building;
 mod commands;
 mod help;
 
