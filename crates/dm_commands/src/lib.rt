@@ -1,5 +1,5 @@
-//! What the commands of `dm` answer, over any reader, writer and device; the program `dm_tool` adds the words, the files and the
-//! messages.
+//! What the commands of `dm` answer, over any reader, writer and device; `dm_files` adds the files, `dm_remarks` the explanations, and
+//! the program `dm_tool` the words.
 //!
 //! [`check_over`] reads a bundle and writes its canonical text, or what is wrong with it and where. [`apply_over`] takes one into the
 //! repository that another bundle makes, or into an empty one, and writes the verdict with the listing of the tree, or with all

@@ -1,3 +1,1 @@
-pub mod MirrorLemmas
-pub mod ChoosingLemmas
-pub mod AgreeLemmas
+pub mod RunLemmas

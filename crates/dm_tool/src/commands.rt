@@ -1,27 +1,20 @@
 //! The words of the command line, and what they start.
-use crate::beginning::init;
-use crate::checking_out::check_out;
-use crate::colour::{Colour, colour_of};
-use crate::delivering::{apply_each, apply_to_mirror};
-use crate::explaining::{explain_applied, explain_hash, explain_unread};
-use crate::files::{base_of, blame_input, read_base, read_file};
-use crate::input::{INPUT, Input};
-use crate::listing::Listing;
 use crate::logging::log;
-use crate::obliterating::obliterate_chosen;
-use crate::plan_words::{policy_of, refuse_base, run_plan};
-use crate::reading::Reading;
+use crate::plan_words::{refuse_base, run_plan};
 use crate::sending::send;
-use crate::telling::{Manner, NO_ANSWER, exit_status, fixed_manner, tell};
-use crate::undoing::undo_chosen;
-use crate::word_fault::WordFault;
 use clap::error::ErrorKind;
 use clap::{ArgMatches, Error};
 use dm_commands::{
     Applied, Base, CheckOutput, Checked, ToolFault, apply_in, apply_over, check_hash_within,
     check_over, check_paths_over, check_within, repo_of,
 };
+use dm_files::{
+    INPUT, Input, Listing, Manner, NO_ANSWER, WordFault, apply_each, apply_to_mirror, base_of,
+    blame_input, check_out, exit_status, fixed_manner, init, kinds_of, obliterate_chosen,
+    policy_of, read_base, read_file, tell, undo_chosen,
+};
 use dm_named::Kinds;
+use dm_remarks::{Colour, Reading, colour_of, explain_applied, explain_hash, explain_unread};
 use dm_words::program;
 use std::io::{Read, Write};
 use std::rt::Runtime;
@@ -64,7 +57,7 @@ fn check_explained<'a>(
     words: &ArgMatches<'a>,
     name: &'a str,
 ) -> Result<u8, WordFault<'a>> {
-    let reading = Reading::of_words(words);
+    let reading = Reading::of_words(kinds_of(words));
     let text = read_file(rt, name, reading.limits())?;
     let mut writer = io::writer(rt);
     let mut reader = text.as_slice();
@@ -90,7 +83,7 @@ fn check<'a>(
     let mut writer = io::writer(rt);
     match check_words(
         rt,
-        Reading::of_words(words),
+        Reading::of_words(kinds_of(words)),
         words,
         &mut reader,
         &mut writer,
@@ -133,7 +126,7 @@ fn apply_one<'a>(
     base: Option<Base<'_>>,
     name: &'a str,
 ) -> Result<u8, WordFault<'a>> {
-    let reading = Reading::of_words(words);
+    let reading = Reading::of_words(kinds_of(words));
     let mut reader = Input::open(rt, name);
     let mut writer = Listing::new(rt, words.get_flag("bundle"));
     let applied = match apply_as(rt, reading, words, base, &mut reader, &mut writer) {
@@ -182,7 +175,7 @@ fn apply<'a>(
     let file = read_base(rt, words)?;
     match (apply_after(rt, colour, words, base_of(&file)), &file) {
         (Err(WordFault::Tool(ToolFault::BadBase(verdict))), Some(file)) => {
-            let reading = Reading::of_words(words);
+            let reading = Reading::of_words(kinds_of(words));
             Ok(refuse_base(rt, colour, reading, words, file, verdict))
         }
         (answered, _) => answered,

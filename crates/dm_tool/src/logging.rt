@@ -1,13 +1,12 @@
 //! The words of `dm log`, and what they start.
-use crate::base_tag::say_base;
-use crate::files::{base_of, read_base, read_file};
-use crate::mirror::read_repo;
-use crate::reading::{Reading, refuse_kinds};
-use crate::word_fault::WordFault;
 use clap::ArgMatches;
 use dm_bundle::read_bundle_within;
 use dm_commands::{ToolFault, context_of, repo_of};
+use dm_files::{
+    WordFault, base_of, kinds_of, read_base, read_file, read_repo, refuse_kinds, say_base,
+};
 use dm_log::{LogOptions, Patches, write_context, write_entries};
+use dm_remarks::Reading;
 use dm_repo::Repo;
 use dm_scratch::Verdict;
 use std::alloc::Global;
@@ -71,7 +70,7 @@ fn log_of_bundle<'a>(
     words: &ArgMatches<'a>,
     name: &'a str,
 ) -> Result<Vec<u8>, WordFault<'a>> {
-    let limits = Reading::of_words(words).limits();
+    let limits = Reading::of_words(kinds_of(words)).limits();
     let text = read_file(rt, name, limits)?;
     match read_bundle_within(rt.alloc(), &text, limits) {
         Ok(bundle) if words.get_flag("context") => Ok(write_context(rt.alloc(), &bundle)?),

@@ -7,35 +7,14 @@
 //! `dm log` prints its patches, and `dm checkout` writes its tree. `dm obliterate` takes patches out of it, and `dm rollback` prints
 //! the bundle of a patch that undoes others.
 //!
-//! What the commands answer, and the theorems, are in `dm_commands`. This crate has the words of the command line, the files that
-//! they name, what is said on standard error, and the order of these steps.
+//! What the commands answer is in `dm_commands`, what is done on files in `dm_files`, and what `--explain` adds in `dm_remarks`, each
+//! with its theorems. This crate asks them for what the words say.
 #![tactic(auto)]
 
-mod agreeing;
-mod base_tag;
-mod beginning;
-mod bundles;
-mod checking_out;
-mod choosing;
-mod colour;
 mod commands;
-mod delivering;
-mod explaining;
-mod files;
-mod from_folder;
-mod input;
-mod listing;
 mod logging;
-mod mirror;
-mod obliterating;
 mod plan_words;
-mod progress;
-mod reading;
 mod sending;
-mod telling;
-mod undoing;
-mod watching;
-mod word_fault;
 
 use std::io::IsTerminal;
 use std::process::ExitCode;

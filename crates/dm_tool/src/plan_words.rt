@@ -1,19 +1,16 @@
 //! The words of `dm run`, and what they start.
 ghost use Rattle.std.specs.Prelude.{IfOk};
-ghost use Rattle.dm_tool.specs.Agreeing.{IsRanAs};
+ghost use Rattle.dm_tool.specs.Runs.{IsRanAs};
 ghost use Rattle.dm_commands.specs.Running.{texts_in};
 
-use crate::agreeing::explain_agreement;
-use crate::colour::Colour;
-use crate::explaining::{explain_base, explain_run};
-use crate::files::{BaseFile, read_base, read_file};
-use crate::reading::Reading;
-use crate::telling::{Manner, NO_ANSWER, fixed_manner, tell};
-use crate::word_fault::WordFault;
 use clap::ArgMatches;
 use dm_commands::{Base, Bases, Ran, ToolFault, run_over};
+use dm_files::{
+    BaseFile, Manner, NO_ANSWER, WordFault, fixed_manner, policy_of, read_base, read_file, tell,
+};
 use dm_mirror::PlanFault;
 use dm_named::Limits;
+use dm_remarks::{Colour, Reading, explain_agreement, explain_base, explain_run};
 use dm_repo::Policy;
 use dm_scratch::Verdict;
 use indexmap::IndexMap;
@@ -113,14 +110,6 @@ fn named_lists<'n, 'l, 't>(
         named.push((list.0, list.1.as_slice()))?;
     }
     Ok(named)
-}
-
-/// What each mirror does with patches that conflict, as the words say.
-pub fn policy_of(words: &ArgMatches<'_>) -> Policy {
-    if words.get_flag("skip") {
-        return Policy::Skip;
-    }
-    Policy::Refuse
 }
 
 /// Runs the plan of these posters and of the mirrors that the words ask for, but at most one more than any plan takes.

@@ -1,14 +1,12 @@
 //! The words of `dm send`, and what they start.
-use crate::colour::Colour;
-use crate::explaining::{explain_base, explain_theirs};
-use crate::files::{base_of, read_base, read_file};
-use crate::mirror::read_repo;
-use crate::reading::{Reading, refuse_kinds};
-use crate::telling::{Manner, NO_ANSWER, tell};
-use crate::word_fault::WordFault;
 use clap::ArgMatches;
 use dm_commands::{Base, Sent, ToolFault, repo_of, send_over};
+use dm_files::{
+    Manner, NO_ANSWER, WordFault, base_of, kinds_of, read_base, read_file, read_repo, refuse_kinds,
+    tell,
+};
 use dm_named::Limits;
+use dm_remarks::{Colour, Reading, explain_base, explain_theirs};
 use dm_repo::Repo;
 use std::alloc::Global;
 use std::io;
@@ -99,7 +97,7 @@ pub fn send<'a>(
         let (repo, kinds) = read_repo(rt, words, is_terminal)?;
         return send_from(rt, colour, Reading::of_mirror(kinds), words, &repo);
     }
-    let reading = Reading::of_words(words);
+    let reading = Reading::of_words(kinds_of(words));
     let file = read_base(rt, words)?;
     match (repo_of(rt.alloc(), base_of(&file)), &file) {
         (Ok(repo), _) => send_from(rt, colour, reading, words, &repo),

@@ -1,4 +1,4 @@
-use Rattle.dm_tool.proofs.AgreeLemmas.{bases_are, policies_are, ran_as}
+use Rattle.dm_tool.proofs.RunLemmas.{bases_are, policies_are, ran_as}
 use Rattle.dm_tool.proofs.plan_words.run_named.Goals as goal
 
 pub returns : goal.returns

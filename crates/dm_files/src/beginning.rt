@@ -1,0 +1,266 @@
+//! How a mirror begins: `dm init`, and `dm apply --mirror` where there is none yet.
+ghost use Rattle.std.specs.Prelude.{◌≡◌, ◌⊎◌, [], IfOk};
+ghost use Rattle.dm_disk.specs.States.{seen, may_leave, file_may_leave};
+ghost use Rattle.dm_journal.specs.Device.{IsDurable};
+ghost use Rattle.dm_store.specs.Keeping.{IsStored, KeepsRepo};
+ghost use Rattle.dm_store.specs.Kinds.{kinds_in};
+
+use crate::base_tag::say_begun;
+use crate::files::{BaseFile, base_of, read_base};
+use crate::from_folder::read_beginning;
+use crate::mirror::{blame, find_file, open_file, open_store};
+use crate::telling::{Manner, tell};
+use crate::word_fault::WordFault;
+use crate::words::kinds_of;
+use clap::ArgMatches;
+use dm_commands::{ToolFault, repo_of, write_text};
+use dm_deliver::{Answer, HashRule, hash_fault_within};
+use dm_disk::{Access, DiskFile, Rehearsal};
+use dm_named::Kinds;
+use dm_remarks::{Colour, Reading, explain_base, explain_hash_fault};
+use dm_repo::Repo;
+use dm_store::Store;
+use std::alloc::Global;
+use std::io;
+use std::rt::Runtime;
+
+/// Refuses a base whose hash is wrong: a mirror can't give it back.
+fn refuse_wrong_hash<'a>(
+    rt: &HostRuntime,
+    colour: Colour,
+    words: &ArgMatches<'_>,
+    file: &BaseFile<'_>,
+) -> Result<(), WordFault<'a>> {
+    let base = file.base();
+    let found = hash_fault_within(rt.alloc(), base.text, base.limits, HashRule::NotWrong)?;
+    let Some(fault) = found else {
+        return Ok(());
+    };
+    let name = file.name;
+    let answer = Answer::Hash(fault);
+    let _ = eprintln!(rt; "dm: {name}: {answer}");
+    if words.get_flag("explain") {
+        explain_hash_fault(rt, colour, fault);
+    }
+    Err(WordFault::Said)
+}
+
+/// The repository with which a mirror begins: that of `--base` or `--repository`, or an empty one. Why it isn't taken is explained
+/// where the words ask for it.
+fn read_start<'a>(
+    rt: &HostRuntime,
+    colour: Colour,
+    reading: Reading,
+    words: &ArgMatches<'a>,
+) -> Result<Repo<Global>, WordFault<'a>> {
+    let file = read_base(rt, words)?;
+    if let Some(file) = &file {
+        refuse_wrong_hash(rt, colour, words, file)?;
+    }
+    match (repo_of(rt.alloc(), base_of(&file)), &file) {
+        (Ok(repo), _) => Ok(repo),
+        (Err(fault), Some(file)) => {
+            tell(rt, Manner::Full, WordFault::of_base(file.name, fault));
+            if let (true, ToolFault::BadBase(verdict)) = (words.get_flag("explain"), fault) {
+                explain_base(rt, colour, reading, file.base(), verdict);
+            }
+            Err(WordFault::Said)
+        }
+        (Err(fault), None) => Err(WordFault::Tool(fault)),
+    }
+}
+
+/// A mirror of these kinds that begins with a repository, in an empty file.
+fn make_store<'a>(
+    path: &'a str,
+    file: DiskFile,
+    start: Repo<Global>,
+    kinds: Kinds,
+    alloc: Global,
+) -> Result<Store<DiskFile>, WordFault<'a>>
+    requires durable { IsDurable seen may_leave file_may_leave file }
+    requires empty { seen file ≡ [] }
+    ensures stored { IfOk result (IsStored seen may_leave file_may_leave) }
+    ensures kinds { IfOk result (λ store. kinds_in store ≡ kinds) }
+    ensures same { IfOk result (λ store. store.repo ≡ start) }
+{
+    match Store::create(alloc, file, start, kinds) {
+        Ok(store) => Ok(store),
+        Err((fault, file)) => Err(blame(WordFault::Unwritten(path, fault), &file)),
+    }
+}
+
+/// The mirror of a file: what it keeps, or where it has no bytes one of the six kinds that begins with this repository.
+fn store_of<'a>(
+    rt: &HostRuntime,
+    path: &'a str,
+    file: DiskFile,
+    start: Repo<Global>,
+) -> Result<Store<DiskFile>, WordFault<'a>>
+    requires { IsDurable seen may_leave file_may_leave file }
+    ensures stored { IfOk result (IsStored seen may_leave file_may_leave) }
+    ensures kept { IfOk result (λ store. KeepsRepo (kinds_in store) (seen file) store.repo.patches ⊎ ((seen file ≡ []) × (store.repo ≡ start))) }
+{
+    if file.is_empty() {
+        return make_store(path, file, start, Kinds::Six, rt.alloc());
+    }
+    open_store(rt, path, file)
+}
+
+/// Says that a base isn't used, where one is named.
+fn say_base_unused(rt: &HostRuntime, words: &ArgMatches<'_>) {
+    if words.contains_id("base") {
+        let _ = eprintln!(rt; "dm: the mirror is there already; --base isn't used");
+    }
+    if words.contains_id("repository") {
+        let _ = eprintln!(rt; "dm: the mirror is there already; --repository isn't used");
+    }
+}
+
+/// The mirror of `--mirror`, to be written. Where there is none it is made of what `--base` or `--repository` names; that is read
+/// and taken before a file is made.
+pub fn open_mirror<'a>(
+    rt: &HostRuntime,
+    colour: Colour,
+    words: &ArgMatches<'a>,
+    path: &'a str,
+    is_terminal: bool,
+) -> Result<Store<DiskFile>, WordFault<'a>>
+    ensures { IfOk result (IsStored seen may_leave file_may_leave) }
+{
+    let found = match find_file(rt, words, path, Access::Write, is_terminal)? {
+        Some(file) if !file.is_empty() => {
+            say_base_unused(rt, words);
+            return open_store(rt, path, file);
+        }
+        found => found,
+    };
+    let start = read_start(rt, colour, Reading::of_mirror(Kinds::Six), words)?;
+    let file = match found {
+        Some(file) => file,
+        None => open_file(rt, words, path, Access::Create, is_terminal)?,
+    };
+    store_of(rt, path, file, start)
+}
+
+/// A repository, as a mirror of these kinds of which nothing is written.
+pub fn rehearse_start<'a>(
+    rt: &HostRuntime,
+    start: Repo<Global>,
+    kinds: Kinds,
+    path: &'a str,
+) -> Result<Store<Rehearsal>, WordFault<'a>>
+    ensures stored { IfOk result (IsStored seen may_leave file_may_leave) }
+    ensures kinds { IfOk result (λ store. kinds_in store ≡ kinds) }
+    ensures same { IfOk result (λ store. store.repo ≡ start) }
+{
+    let device = Rehearsal::new(Vec::new(rt.alloc()));
+    match Store::create(rt.alloc(), device, start, kinds) {
+        Ok(store) => Ok(store),
+        Err((fault, _)) => Err(WordFault::Unwritten(path, fault)),
+    }
+}
+
+/// A mirror that is only tried: the one that a file keeps, or one that begins with what the words name. Nothing is written.
+pub fn rehearse_mirror<'a>(
+    rt: &HostRuntime,
+    colour: Colour,
+    words: &ArgMatches<'a>,
+    path: &'a str,
+    is_terminal: bool,
+) -> Result<Store<Rehearsal>, WordFault<'a>>
+    ensures { IfOk result (IsStored seen may_leave file_may_leave) }
+{
+    if let Some(file) = find_file(rt, words, path, Access::Read, is_terminal)? {
+        if !file.is_empty() {
+            say_base_unused(rt, words);
+            if let Some(rehearsal) = file.rehearse() {
+                return open_store(rt, path, rehearsal);
+            }
+        }
+    }
+    let start = read_start(rt, colour, Reading::of_mirror(Kinds::Six), words)?;
+    rehearse_start(rt, start, Kinds::Six, path)
+}
+
+/// Why a file that has bytes is no place for a new mirror: it keeps one, or something else.
+fn refuse_place<'a>(rt: &HostRuntime, path: &'a str, file: DiskFile) -> WordFault<'a>
+    requires { IsDurable seen may_leave file_may_leave file }
+{
+    match open_store(rt, path, file) {
+        Ok(_) => WordFault::MirrorIsThere(path),
+        Err(fault) => fault,
+    }
+}
+
+/// A mirror of these kinds that begins with a repository, where the file is empty.
+fn begin_store<'a>(
+    rt: &HostRuntime,
+    path: &'a str,
+    file: DiskFile,
+    start: Repo<Global>,
+    kinds: Kinds,
+) -> Result<Store<DiskFile>, WordFault<'a>>
+    requires { IsDurable seen may_leave file_may_leave file }
+    ensures stored { IfOk result (IsStored seen may_leave file_may_leave) }
+    ensures kinds { IfOk result (λ store. kinds_in store ≡ kinds) }
+    ensures begun { IfOk result (λ store. (seen file ≡ []) × (store.repo ≡ start)) }
+{
+    if file.is_empty() {
+        return make_store(path, file, start, kinds, rt.alloc());
+    }
+    Err(refuse_place(rt, path, file))
+}
+
+/// The repository with which a new mirror begins: at a tag, where the words name what it covers.
+fn read_first<'a>(
+    rt: &HostRuntime,
+    colour: Colour,
+    reading: Reading,
+    words: &ArgMatches<'a>,
+) -> Result<Repo<Global>, WordFault<'a>> {
+    match words.get_str("names") {
+        Some(names) => read_beginning(rt, words, names),
+        None => read_start(rt, colour, reading, words),
+    }
+}
+
+/// A new mirror of `--mirror`, of what `--base` or `--repository` names, or of the names of `--names` and a folder. That is read
+/// and taken before a file is made.
+fn make_mirror<'a>(
+    rt: &HostRuntime,
+    colour: Colour,
+    words: &ArgMatches<'a>,
+    path: &'a str,
+    is_terminal: bool,
+) -> Result<Store<DiskFile>, WordFault<'a>> {
+    let found = match find_file(rt, words, path, Access::Write, is_terminal)? {
+        Some(file) if !file.is_empty() => return Err(refuse_place(rt, path, file)),
+        found => found,
+    };
+    let reading = Reading::of_words(kinds_of(words));
+    let start = read_first(rt, colour, reading, words)?;
+    let file = match found {
+        Some(file) => file,
+        None => open_file(rt, words, path, Access::Create, is_terminal)?,
+    };
+    begin_store(rt, path, file, start, reading.kinds)
+}
+
+/// `dm init`.
+pub fn init<'a>(
+    rt: &HostRuntime,
+    colour: Colour,
+    words: &ArgMatches<'a>,
+    is_terminal: bool,
+) -> Result<u8, WordFault<'a>> {
+    let path = words.get_str("mirror").unwrap_or("");
+    let store = make_mirror(rt, colour, words, path, is_terminal)?;
+    let line = match store.repo().len() {
+        1 => format!(in rt.alloc(); "mirror {path}: 1 patch\n")?,
+        count => format!(in rt.alloc(); "mirror {path}: {count} patches\n")?,
+    };
+    write_text(line.as_bytes(), &mut io::writer(rt))?;
+    say_begun(rt, store.repo());
+    Ok(0)
+}

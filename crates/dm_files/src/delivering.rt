@@ -1,0 +1,300 @@
+//! Bundles that are taken one after the other, into a mirror or a repository in memory: `dm apply --mirror`.
+ghost use Rattle.std.specs.Prelude.{◌≡◌, ◌↔◌, All, length, IfOk, IfErr, IsTrue, OnOk};
+ghost use Rattle.dm_disk.specs.States.{seen, may_leave, file_may_leave};
+ghost use Rattle.dm_store.specs.Keeping.{IsStored};
+ghost use Rattle.dm_store.specs.Kinds.{kinds_in};
+ghost use Rattle.dm_deliver.specs.Answering.{IsAcceptedAnswer, IsOfStore};
+ghost use Rattle.dm_deliver.specs.Delivering.{Delivers};
+ghost use Rattle.dm_deliver.specs.Outputs.{output};
+ghost use Rattle.dm_files.specs.Mirrors.{AnswersAll, AnyTexts, MayGoOn};
+
+use crate::beginning::{open_mirror, rehearse_mirror, rehearse_start};
+use crate::bundles::Bundles;
+use crate::input::INPUT;
+use crate::listing::Listing;
+use crate::mirror::blame;
+use crate::word_fault::WordFault;
+use crate::words::{kinds_of, policy_of, refuse_kinds};
+use clap::ArgMatches;
+use dm_commands::{ToolFault, base_tag, push_repo, write_text};
+use dm_deliver::{AnswerError, DeliverError, Framed, HashRule, Watched, deliver};
+use dm_disk::DiskFile;
+use dm_journal::{Device, WriteError};
+use dm_named::Kinds;
+use dm_remarks::{Colour, Reading, Watcher};
+use dm_repo::{Policy, Repo};
+use dm_store::Store;
+use std::alloc::Global;
+use std::io::{self, Write};
+use std::rt::Runtime;
+
+/// Why not all was taken.
+enum Stop<'a> {
+    /// The mirror failed, and nobody knows whether it has the last bundle.
+    Mirror(WriteError),
+    /// Something else did, and the mirror can go on.
+    Beside(WordFault<'a>),
+}
+
+impl<'a> Stop<'a> {
+    fn of_answer(fault: AnswerError) -> Stop<'a>
+        ensures { MayGoOn result → ¬ IsOfStore fault }
+    {
+        match fault {
+            AnswerError::Store(fault) => Stop::Mirror(fault),
+            AnswerError::NoMemory => Stop::Beside(WordFault::Tool(ToolFault::NoMemory)),
+            AnswerError::Write => Stop::Beside(WordFault::Tool(ToolFault::Write)),
+        }
+    }
+}
+
+/// What is asked of the hash behind a bundle.
+fn rule_of(words: &ArgMatches<'_>, otherwise: HashRule) -> HashRule {
+    if words.get_flag("hash") {
+        HashRule::Right
+    } else {
+        otherwise
+    }
+}
+
+/// Takes each of these bundles in turn, and answers each.
+fn take_named<'a, D: Device, W: Write>(
+    rt: &HostRuntime,
+    names: &[&'a str],
+    store: &mut Store<D>,
+    policy: Policy,
+    rule: HashRule,
+    watcher: &mut Watcher<'_, 'a>,
+    writer: &mut Watched<W>,
+) -> Result<bool, Stop<'a>>
+    requires { IsStored D.seen D.may_leave D.file_may_leave store.old }
+    // As many texts came as there are names, each was answered in turn, and its line written.
+    ensures delivers { IfOk result (λ all. (d : Delivers D.moment D.left_since (λ texts. length texts ≡ length names.now) policy rule store.old store.new
+        (output W.contents writer.old) (output W.contents writer.new)) × (IsTrue all ↔ All IsAcceptedAnswer d.answers)) }
+    ensures stored { OnOk result (IsStored D.seen D.may_leave D.file_may_leave store.new) }
+    ensures stored_err { IfErr result (λ e. MayGoOn e → IsStored D.seen D.may_leave D.file_may_leave store.new) }
+{
+    let mut source = Bundles::new(*rt, names);
+    match deliver(
+        rt.alloc(),
+        store,
+        &mut source,
+        policy,
+        rule,
+        watcher,
+        writer,
+    ) {
+        Ok(all_accepted) => Ok(all_accepted),
+        Err(DeliverError::Source(fault)) => Err(Stop::Beside(fault)),
+        Err(DeliverError::Answer(fault)) => Err(Stop::of_answer(fault)),
+        Err(DeliverError::Checkpoint(fault)) => Err(Stop::Mirror(fault)),
+    }
+}
+
+/// Takes the bundles that come one after the other on standard input.
+fn take_stream<'a, D: Device, W: Write>(
+    rt: &HostRuntime,
+    store: &mut Store<D>,
+    policy: Policy,
+    rule: HashRule,
+    watcher: &mut Watcher<'_, 'a>,
+    writer: &mut Watched<W>,
+) -> Result<bool, Stop<'a>>
+    requires { IsStored D.seen D.may_leave D.file_may_leave store.old }
+    // The texts that came were each answered in turn, and their lines written.
+    ensures delivers { IfOk result (λ all. (d : Delivers D.moment D.left_since AnyTexts policy rule store.old store.new
+        (output W.contents writer.old) (output W.contents writer.new)) × (IsTrue all ↔ All IsAcceptedAnswer d.answers)) }
+    ensures stored { OnOk result (IsStored D.seen D.may_leave D.file_may_leave store.new) }
+    ensures stored_err { IfErr result (λ e. MayGoOn e → IsStored D.seen D.may_leave D.file_may_leave store.new) }
+{
+    let mut source = Framed::new(rt.alloc(), rt.reader());
+    match deliver(
+        rt.alloc(),
+        store,
+        &mut source,
+        policy,
+        rule,
+        watcher,
+        writer,
+    ) {
+        Ok(all_accepted) => Ok(all_accepted),
+        Err(DeliverError::Source(fault)) => Err(Stop::Beside(WordFault::of_frame(fault))),
+        Err(DeliverError::Answer(fault)) => Err(Stop::of_answer(fault)),
+        Err(DeliverError::Checkpoint(fault)) => Err(Stop::Mirror(fault)),
+    }
+}
+
+/// How what the words name is read into a store of these kinds.
+fn reading_of(words: &ArgMatches<'_>, kinds: Kinds) -> Reading {
+    if words.contains_id("mirror") {
+        Reading::of_mirror(kinds)
+    } else {
+        Reading::of_words(kinds_of(words))
+    }
+}
+
+/// Prints what is shown of the repository.
+fn show<'a>(
+    rt: &HostRuntime,
+    words: &ArgMatches<'a>,
+    repo: &Repo<Global>,
+) -> Result<(), WordFault<'a>> {
+    if words.get_flag("quiet") {
+        return Ok(());
+    }
+    let as_bundle = words.get_flag("bundle");
+    let mut text = Vec::new(rt.alloc());
+    push_repo(repo, as_bundle, &mut text)?;
+    write_text(&text, &mut Listing::new(rt, as_bundle))?;
+    Ok(())
+}
+
+/// Takes what the words name, and answers each.
+fn take_words<'a, D: Device, W: Write>(
+    rt: &HostRuntime,
+    colour: Colour,
+    words: &ArgMatches<'a>,
+    store: &mut Store<D>,
+    policy: Policy,
+    rule: HashRule,
+    writer: &mut Watched<W>,
+) -> Result<bool, Stop<'a>>
+    requires { IsStored D.seen D.may_leave D.file_may_leave store.old }
+    ensures delivers { IfOk result (λ all. (d : Delivers D.moment D.left_since AnyTexts policy rule store.old store.new
+        (output W.contents writer.old) (output W.contents writer.new)) × (IsTrue all ↔ All IsAcceptedAnswer d.answers)) }
+    ensures stored { OnOk result (IsStored D.seen D.may_leave D.file_may_leave store.new) }
+    ensures stored_err { IfErr result (λ e. MayGoOn e → IsStored D.seen D.may_leave D.file_may_leave store.new) }
+{
+    let explains = words.get_flag("explain");
+    let reading = reading_of(words, store.kinds());
+    if words.get_flag("stream") {
+        let mut watcher = Watcher::new(*rt, colour, explains, reading, &[]);
+        return take_stream(rt, store, policy, rule, &mut watcher, writer);
+    }
+    let names = words.get_strs("bundles").unwrap_or(&[INPUT]);
+    let mut watcher = Watcher::new(*rt, colour, explains, reading, names);
+    match take_named(rt, names, store, policy, rule, &mut watcher, writer) {
+        Ok(all_accepted) => Ok(all_accepted),
+        Err(stop) => Err(stop),
+    }
+}
+
+/// Takes what the words name, and prints what is shown of the repository then. Returns the exit status.
+fn take_and_show<'a, D: Device>(
+    rt: &HostRuntime,
+    colour: Colour,
+    words: &ArgMatches<'a>,
+    store: &mut Store<D>,
+    policy: Policy,
+    rule: HashRule,
+) -> Result<u8, Stop<'a>>
+    requires { IsStored D.seen D.may_leave D.file_may_leave store.old }
+    ensures answers { IfOk result (AnswersAll (kinds_in store.old) policy rule store.old.repo.patches store.new.repo.patches) }
+    ensures stored { OnOk result (IsStored D.seen D.may_leave D.file_may_leave store.new) }
+    ensures stored_err { IfErr result (λ e. MayGoOn e → IsStored D.seen D.may_leave D.file_may_leave store.new) }
+{
+    let mut writer = Watched::new(io::writer(rt));
+    let all_accepted = match take_words(rt, colour, words, store, policy, rule, &mut writer) {
+        Ok(all_accepted) => all_accepted,
+        Err(stop) => return Err(stop),
+    };
+    match show(rt, words, store.repo()) {
+        Ok(()) => Ok(if all_accepted { 0 } else { 1 }),
+        Err(fault) => Err(Stop::Beside(fault)),
+    }
+}
+
+/// Makes a checkpoint where one is worth its while. Where it fails what was taken stands, so that is only said.
+fn settle(rt: &HostRuntime, path: &str, store: Store<DiskFile>)
+    requires { IsStored seen may_leave file_may_leave store }
+{
+    let mut store = store;
+    if !store.wants_checkpoint() {
+        return;
+    }
+    if let Err(fault) = store.checkpoint(rt.alloc()) {
+        say_unsettled(rt, path, fault, &store.into_device());
+    }
+}
+
+fn say_unsettled(rt: &HostRuntime, path: &str, fault: WriteError, file: &DiskFile) {
+    let _ = match file.error() {
+        Some(error) => eprintln!(rt; "dm: no checkpoint of {path}: {error}"),
+        None => eprintln!(rt; "dm: no checkpoint of {path}: {fault}"),
+    };
+}
+
+/// The exit status of what was tried.
+fn status_of_trial<'a>(tried: Result<u8, Stop<'a>>, path: &'a str) -> Result<u8, WordFault<'a>> {
+    match tried {
+        Ok(status) => Ok(status),
+        Err(Stop::Mirror(fault)) => Err(WordFault::Unwritten(path, fault)),
+        Err(Stop::Beside(fault)) => Err(fault),
+    }
+}
+
+/// `dm apply` without a mirror, of several bundles, or with what one alone isn't asked.
+pub fn apply_each<'a>(
+    rt: &HostRuntime,
+    colour: Colour,
+    words: &ArgMatches<'a>,
+    start: Repo<Global>,
+) -> Result<u8, WordFault<'a>> {
+    let path = "the repository";
+    let mut store = rehearse_start(rt, start, kinds_of(words), path)?;
+    let tried = take_and_show(
+        rt,
+        colour,
+        words,
+        &mut store,
+        policy_of(words),
+        rule_of(words, HashRule::Any),
+    );
+    status_of_trial(tried, path)
+}
+
+/// Refuses words that ask for a bundle of the whole mirror, where it begins at a tag: a base isn't for others.
+fn refuse_bundle_of_base<'a>(
+    words: &ArgMatches<'_>,
+    path: &'a str,
+    repo: &Repo<Global>,
+) -> Result<(), WordFault<'a>> {
+    if words.get_flag("bundle") && base_tag(repo).is_some() {
+        return Err(WordFault::BeginsAtTag(path));
+    }
+    Ok(())
+}
+
+/// `dm apply --mirror`.
+pub fn apply_to_mirror<'a>(
+    rt: &HostRuntime,
+    colour: Colour,
+    words: &ArgMatches<'a>,
+    path: &'a str,
+    is_terminal: bool,
+) -> Result<u8, WordFault<'a>> {
+    refuse_kinds(words)?;
+    let policy = policy_of(words);
+    let rule = rule_of(words, HashRule::NotWrong);
+    if words.get_flag("dry-run") {
+        let mut store = rehearse_mirror(rt, colour, words, path, is_terminal)?;
+        refuse_bundle_of_base(words, path, store.repo())?;
+        let tried = take_and_show(rt, colour, words, &mut store, policy, rule);
+        return status_of_trial(tried, path);
+    }
+    let mut store = open_mirror(rt, colour, words, path, is_terminal)?;
+    refuse_bundle_of_base(words, path, store.repo())?;
+    match take_and_show(rt, colour, words, &mut store, policy, rule) {
+        Ok(status) => {
+            settle(rt, path, store);
+            Ok(status)
+        }
+        Err(Stop::Beside(fault)) => {
+            settle(rt, path, store);
+            Err(fault)
+        }
+        Err(Stop::Mirror(fault)) => {
+            Err(blame(WordFault::Unwritten(path, fault), &store.into_device()))
+        }
+    }
+}

@@ -1,0 +1,39 @@
+//! The files that the words of a command name, as texts, mirrors and folders, and the commands whose work is done on them: `dm init`,
+//! `dm apply --mirror`, `dm checkout`, `dm obliterate` and `dm rollback`.
+//!
+//! [`WordFault`] says why words start nothing, or why what they started gives no answer, and [`tell`] prints it. [`apply_to_mirror`]
+//! rests on theorems: what comes is answered in turn by what the mirror held, each line stands behind the taking that it tells, and
+//! what a crash leaves is what was taken before it.
+#![tactic(auto)]
+
+mod base_tag;
+mod beginning;
+mod bundles;
+mod checking_out;
+mod choosing;
+mod delivering;
+mod files;
+mod from_folder;
+mod input;
+mod listing;
+mod mirror;
+mod obliterating;
+mod progress;
+mod telling;
+mod undoing;
+mod word_fault;
+mod words;
+
+pub use base_tag::say_base;
+pub use beginning::init;
+pub use checking_out::check_out;
+pub use delivering::{apply_each, apply_to_mirror};
+pub use files::{BaseFile, base_of, blame_input, read_base, read_file};
+pub use input::{INPUT, Input};
+pub use listing::Listing;
+pub use mirror::read_repo;
+pub use obliterating::obliterate_chosen;
+pub use telling::{Manner, NO_ANSWER, exit_status, fixed_manner, tell};
+pub use undoing::undo_chosen;
+pub use word_fault::WordFault;
+pub use words::{kinds_of, policy_of, refuse_kinds};

@@ -1,0 +1,274 @@
+//! `dm obliterate`: patches are taken out of a mirror, and kept as a bundle.
+ghost use Rattle.std.specs.Prelude.{IfOk};
+ghost use Rattle.dm_disk.specs.States.{seen, may_leave, file_may_leave};
+ghost use Rattle.dm_journal.specs.Device.{IsDurable};
+ghost use Rattle.dm_send.specs.Obliterating.{Obliterates};
+ghost use Rattle.dm_named.specs.Laws.{with_kinds};
+ghost use Rattle.dm_named.specs.Limits.{standard};
+ghost use Rattle.dm_scratch.specs.Taking.{ReadsWithin};
+ghost use Rattle.dm_store.specs.Keeping.{IsStored};
+ghost use Rattle.dm_store.specs.Kinds.{kinds_in};
+ghost use Rattle.dm_commands.specs.Obliterating.{TakesOut};
+
+use crate::base_tag::refuse_before_base;
+use crate::choosing::{chosen_names, label_of};
+use crate::mirror::{blame, open_file, open_store, unopened};
+use crate::word_fault::WordFault;
+use clap::ArgMatches;
+use dm_bundle::Bundle;
+use dm_commands::{
+    ToolFault, Unkept, keep_and_let_go, kept_bundle, obliterate_unless_base, refusal_line, text_of,
+    write_text,
+};
+use dm_disk::{Access, DiskFile, Lock};
+use dm_info::Info;
+use dm_named::Kinds;
+use dm_remarks::{Colour, say};
+use dm_repo::{Refusal, Repo};
+use dm_send::Obliterated;
+use dm_store::Store;
+use std::alloc::Global;
+use std::io;
+use std::rt::Runtime;
+
+/// The file for the bundle of what goes: it has no bytes, or is made.
+fn open_kept<'a>(rt: &HostRuntime, name: &'a str) -> Result<DiskFile, WordFault<'a>>
+    ensures { IfOk result (IsDurable seen may_leave file_may_leave) }
+{
+    match DiskFile::open(rt, name, Access::Create, Lock::Try) {
+        Ok(file) if file.is_empty() => Ok(file),
+        Ok(_) => Err(WordFault::OutputIsThere(name)),
+        Err(fault) => Err(unopened(name, fault)),
+    }
+}
+
+/// The end of a command that may have changed a mirror: `false` says that what stays is too large for one.
+fn finish<'a>(done: bool, path: &'a str) -> Result<(), WordFault<'a>> {
+    if done {
+        Ok(())
+    } else {
+        Err(WordFault::TooLargeToStay(path))
+    }
+}
+
+/// Prints how many patches went.
+fn print_count<'a>(rt: &HostRuntime, count: usize) -> Result<(), WordFault<'a>> {
+    let line = format!(in rt.alloc(); "obliterated {count}\n")?;
+    write_text(line.as_bytes(), &mut io::writer(rt))?;
+    Ok(())
+}
+
+/// Says on standard error how many patches went.
+fn say_count(rt: &HostRuntime, count: usize) {
+    let _ = match count {
+        1 => eprintln!(rt; "dm: obliterated 1 patch"),
+        _ => eprintln!(rt; "dm: obliterated {count} patches"),
+    };
+}
+
+/// Keeps the bundle in the file of this name, and has the mirror let go of what it has.
+fn keep_in_file<'a>(
+    rt: &HostRuntime,
+    path: &'a str,
+    mut store: Store<DiskFile>,
+    name: &'a str,
+    text: &[u8],
+    stays: Repo<Global>,
+) -> Result<(), WordFault<'a>>
+    requires stored { IsStored seen may_leave file_may_leave store }
+    requires takes_out { TakesOut (kinds_in store) store.repo.patches stays.patches text.now }
+{
+    let mut file = open_kept(rt, name)?;
+    match keep_and_let_go(rt.alloc(), &mut store, &mut file, text, stays) {
+        Ok(done) => finish(done, path),
+        Err(Unkept::Bundle(fault)) => Err(blame(WordFault::Unwritten(name, fault), &file)),
+        Err(Unkept::Mirror(fault)) => {
+            Err(blame(WordFault::Unwritten(path, fault), &store.into_device()))
+        }
+    }
+}
+
+/// Has the mirror let go of what was kept elsewhere.
+fn let_go<'a>(
+    rt: &HostRuntime,
+    path: &'a str,
+    mut store: Store<DiskFile>,
+    stays: Repo<Global>,
+) -> Result<(), WordFault<'a>>
+    requires { IsStored seen may_leave file_may_leave store }
+{
+    match store.replace(rt.alloc(), stays) {
+        Ok(done) => finish(done, path),
+        Err(fault) => Err(blame(WordFault::Unwritten(path, fault), &store.into_device())),
+    }
+}
+
+/// Prints the bundle, and has the mirror let go of what it has.
+fn print_and_let_go<'a>(
+    rt: &HostRuntime,
+    path: &'a str,
+    store: Store<DiskFile>,
+    text: &[u8],
+    stays: Repo<Global>,
+) -> Result<(), WordFault<'a>>
+    requires { IsStored seen may_leave file_may_leave store }
+{
+    write_text(text, &mut io::writer(rt))?;
+    let_go(rt, path, store, stays)
+}
+
+/// Says on standard error which patches can't do without one that goes.
+pub fn say_bound<'a>(
+    rt: &HostRuntime,
+    bound: &[(Info<Global>, Info<Global>)],
+) -> Result<(), WordFault<'a>> {
+    for (name, by) in bound {
+        let name = label_of(rt.alloc(), name)?;
+        let by = label_of(rt.alloc(), by)?;
+        let _ = eprintln!(rt; "dm: {name} rests on {by}");
+    }
+    Ok(())
+}
+
+/// Prints that patches are bound to those that were chosen, and which.
+pub fn refuse_bound<'a>(
+    rt: &HostRuntime,
+    bound: &[(Info<Global>, Info<Global>)],
+) -> Result<u8, WordFault<'a>> {
+    let count = bound.len();
+    let line = format!(in rt.alloc(); "refused depends {count}\n")?;
+    write_text(line.as_bytes(), &mut io::writer(rt))?;
+    say_bound(rt, bound)?;
+    Ok(1)
+}
+
+/// Prints the line of a refusal.
+pub fn refuse<'a>(rt: &HostRuntime, why: Refusal) -> Result<u8, WordFault<'a>> {
+    let line = refusal_line(rt.alloc(), why)?;
+    write_text(&line, &mut io::writer(rt))?;
+    Ok(1)
+}
+
+/// Says which patches go, and how many stay.
+fn explain_obliterated<'a>(
+    rt: &HostRuntime,
+    colour: Colour,
+    out: &Obliterated<Global>,
+) -> Result<(), WordFault<'a>> {
+    say(rt, colour, &format_args!("These go:\n"));
+    for patch in out.bundle.new_patches() {
+        let label = label_of(rt.alloc(), patch.info())?;
+        say(rt, colour, &format_args!("  {label}\n"));
+    }
+    let count = out.repo.len();
+    match count {
+        1 => say(rt, colour, &format_args!("1 patch stays.\n")),
+        _ => say(rt, colour, &format_args!("{count} patches stay.\n")),
+    }
+    Ok(())
+}
+
+/// The text of the bundle of what goes, of primitives of these kinds, which is within the limits of what is read.
+fn kept_text<'a>(
+    rt: &HostRuntime,
+    kinds: Kinds,
+    bundle: &Bundle<Global>,
+) -> Result<Vec<u8>, WordFault<'a>>
+    ensures { IfOk result (λ text. ReadsWithin (with_kinds standard kinds) text.items bundle.now) }
+{
+    match text_of(rt.alloc(), kinds, bundle) {
+        Ok(text) => Ok(text),
+        Err(ToolFault::TooManyToSend) => Err(WordFault::TooManyToTakeOut),
+        Err(fault) => Err(WordFault::Tool(fault)),
+    }
+}
+
+/// Keeps the bundle where the words say, has the mirror let go of what it has, and says how many patches went.
+fn keep_where_said<'a>(
+    rt: &HostRuntime,
+    words: &ArgMatches<'a>,
+    path: &'a str,
+    store: Store<DiskFile>,
+    text: &[u8],
+    stays: Repo<Global>,
+    count: usize,
+) -> Result<u8, WordFault<'a>>
+    requires stored { IsStored seen may_leave file_may_leave store }
+    requires takes_out { TakesOut (kinds_in store) store.repo.patches stays.patches text.now }
+{
+    match words.get_str("output") {
+        Some(name) => {
+            keep_in_file(rt, path, store, name, text, stays)?;
+            print_count(rt, count)?;
+        }
+        None => {
+            print_and_let_go(rt, path, store, text, stays)?;
+            say_count(rt, count);
+        }
+    }
+    Ok(0)
+}
+
+/// What goes from a mirror is kept where the words say, and the mirror lets go of it.
+fn take_out<'a>(
+    rt: &HostRuntime,
+    words: &ArgMatches<'a>,
+    path: &'a str,
+    store: Store<DiskFile>,
+    chosen: &[Info<Global>],
+    out: Obliterated<Global>,
+) -> Result<u8, WordFault<'a>>
+    requires stored { IsStored seen may_leave file_may_leave store }
+    requires obliterates { Obliterates store.repo.patches chosen.now out.repo.patches out.bundle out.bound.items }
+{
+    let Obliterated { repo, bundle, .. } = out;
+    if bundle.new_patches().is_empty() {
+        return Err(WordFault::NothingToUndo);
+    }
+    let kept = match kept_bundle(rt.alloc(), store.repo(), &repo, bundle) {
+        Ok(kept) => kept,
+        Err(why) => return refuse(rt, why),
+    };
+    let text = kept_text(rt, store.kinds(), &kept)?;
+    if words.get_flag("dry-run") {
+        write_text(&text, &mut io::writer(rt))?;
+        return Ok(0);
+    }
+    let count = kept.new_patches().len();
+    keep_where_said(rt, words, path, store, &text, repo, count)
+}
+
+/// `dm obliterate`.
+pub fn obliterate_chosen<'a>(
+    rt: &HostRuntime,
+    colour: Colour,
+    words: &ArgMatches<'a>,
+    is_terminal: bool,
+) -> Result<u8, WordFault<'a>> {
+    let path = words.get_str("mirror").unwrap_or("");
+    let access = if words.get_flag("dry-run") {
+        Access::Read
+    } else {
+        Access::Write
+    };
+    let file = open_file(rt, words, path, access, is_terminal)?;
+    let store = open_store(rt, path, file)?;
+    let chosen = chosen_names(rt, words, store.repo())?;
+    let out = match obliterate_unless_base(rt.alloc(), store.repo(), &chosen) {
+        Ok(Some(out)) => out,
+        Ok(None) => return refuse_before_base(rt, store.repo(), "nothing was taken out"),
+        Err(why) => return refuse(rt, why),
+    };
+    if !out.bound.is_empty() && !words.get_flag("with-dependents") {
+        let status = refuse_bound(rt, &out.bound)?;
+        let _ = eprintln!(rt;
+            "dm: nothing was taken out; --with-dependents takes these patches out too"
+        );
+        return Ok(status);
+    }
+    if words.get_flag("explain") {
+        say_bound(rt, &out.bound)?;
+        explain_obliterated(rt, colour, &out)?;
+    }
+    take_out(rt, words, path, store, &chosen, out)
+}

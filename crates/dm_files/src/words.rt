@@ -1,0 +1,30 @@
+//! What words that several commands share ask for.
+use crate::word_fault::WordFault;
+use clap::ArgMatches;
+use dm_named::Kinds;
+use dm_repo::Policy;
+
+/// The kinds of primitives that the words of a command name.
+pub fn kinds_of(words: &ArgMatches<'_>) -> Kinds {
+    if words.get_flag("all-kinds") {
+        Kinds::All
+    } else {
+        Kinds::Six
+    }
+}
+
+/// Refuses words that name the kinds beside a mirror, which remembers them.
+pub fn refuse_kinds<'a>(words: &ArgMatches<'a>) -> Result<(), WordFault<'a>> {
+    match kinds_of(words) {
+        Kinds::Six => Ok(()),
+        Kinds::All => Err(WordFault::KindsOfMirror),
+    }
+}
+
+/// What is done with patches that conflict, as the words say.
+pub fn policy_of(words: &ArgMatches<'_>) -> Policy {
+    if words.get_flag("skip") {
+        return Policy::Skip;
+    }
+    Policy::Refuse
+}

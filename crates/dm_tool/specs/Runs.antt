@@ -1,0 +1,15 @@
+-- The mirrors of a run, as the words ask for them.
+use Rattle.std.specs.Prelude.{◌+◌, ℕ, List, min}
+use Rattle.std.proofs.Math.ListN.{replicate}
+use Rattle.dm_mirror.specs.Limits.{most_mirrors}
+use Rattle.dm_commands.specs.declared.running.Ran.{Ran}
+use Rattle.dm_commands.specs.Running.{IsRan}
+use Rattle.dm_tool.specs.declared.plan_words.Mirrors.{Mirrors}
+
+-- how many mirrors are made where so many are asked for: at most one more than any plan takes
+abbrev pub made : ℕ → ℕ
+made count = min count (most_mirrors + 1)
+
+-- what is told of a run whose mirrors are those that the words ask for
+abbrev pub IsRanAs : List (List (List ℕ)) → Mirrors → Ran → Type 0
+IsRanAs texts m ran = IsRan texts (replicate (made m.count) m.base.text.now) m.base.limits (replicate (made m.count) m.policy) m.bound ran
