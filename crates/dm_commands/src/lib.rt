@@ -9,8 +9,9 @@
 //! fault, or those of taking it, or of a run in which no bundle is lost, doubled or reordered, or of the bundle for somebody who
 //! holds other patches.
 //!
-//! Of a mirror that a file keeps, [`keep_and_let_go`] takes patches out so that a crash at any moment loses none, [`repo_at_tag`] is
-//! the repository of one that begins at a tag, and [`context_of`] is what `dm log --context` prints of it.
+//! Of a mirror that a file keeps, [`kept_mirror`] opens it and [`new_mirror`] begins one, [`keep_and_let_go`] takes patches out so that
+//! a crash at any moment loses none, [`repo_at_tag`] is the repository of one that begins at a tag, and [`context_of`] is what
+//! `dm log --context` prints of it.
 #![tactic(auto)]
 
 mod apply;
@@ -19,6 +20,7 @@ mod beginning;
 mod check;
 mod context;
 mod fault;
+mod mirror;
 mod naming;
 mod obliterating;
 mod print;
@@ -36,6 +38,7 @@ pub use check::{
 };
 pub use context::context_of;
 pub use fault::ToolFault;
+pub use mirror::{MirrorFault, Unbegun, kept_mirror, kept_or_new_mirror, new_mirror};
 pub use naming::rest_on_tag;
 pub use obliterating::{Unkept, keep_and_let_go, kept_bundle, obliterate_unless_base};
 pub use print::push_repo;

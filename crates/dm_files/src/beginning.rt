@@ -4,16 +4,17 @@ ghost use Rattle.dm_disk.specs.States.{seen, may_leave, file_may_leave};
 ghost use Rattle.dm_journal.specs.Device.{IsDurable};
 ghost use Rattle.dm_store.specs.Keeping.{IsStored, KeepsRepo};
 ghost use Rattle.dm_store.specs.Kinds.{kinds_in};
+ghost use Rattle.dm_named.specs.declared.limits.Kinds.TheVariants.{Six};
 
 use crate::base_tag::say_begun;
 use crate::files::{BaseFile, base_of, read_base};
 use crate::from_folder::read_beginning;
-use crate::mirror::{blame, find_file, open_file, open_store};
+use crate::mirror::{blame, find_file, of_kept, open_file, open_store};
 use crate::telling::{Manner, tell};
 use crate::word_fault::WordFault;
 use crate::words::kinds_of;
 use clap::ArgMatches;
-use dm_commands::{ToolFault, repo_of, write_text};
+use dm_commands::{ToolFault, Unbegun, kept_or_new_mirror, new_mirror, repo_of, write_text};
 use dm_deliver::{Answer, HashRule, hash_fault_within};
 use dm_disk::{Access, DiskFile, Rehearsal};
 use dm_named::Kinds;
@@ -70,23 +71,12 @@ fn read_start<'a>(
     }
 }
 
-/// A mirror of these kinds that begins with a repository, in an empty file.
-fn make_store<'a>(
-    path: &'a str,
-    file: DiskFile,
-    start: Repo<Global>,
-    kinds: Kinds,
-    alloc: Global,
-) -> Result<Store<DiskFile>, WordFault<'a>>
-    requires durable { IsDurable seen may_leave file_may_leave file }
-    requires empty { seen file ≡ [] }
-    ensures stored { IfOk result (IsStored seen may_leave file_may_leave) }
-    ensures kinds { IfOk result (λ store. kinds_in store ≡ kinds) }
-    ensures same { IfOk result (λ store. store.repo ≡ start) }
-{
-    match Store::create(alloc, file, start, kinds) {
-        Ok(store) => Ok(store),
-        Err((fault, file)) => Err(blame(WordFault::Unwritten(path, fault), &file)),
+/// Why no mirror began in the file at a path, with what the system said.
+fn of_unbegun<'a>(path: &'a str, fault: Unbegun<DiskFile>) -> WordFault<'a> {
+    match fault {
+        Unbegun::Kept(fault) => of_kept(path, fault),
+        Unbegun::IsThere => WordFault::MirrorIsThere(path),
+        Unbegun::Unwritten(fault, file) => blame(WordFault::Unwritten(path, fault), &file),
     }
 }
 
@@ -99,12 +89,14 @@ fn store_of<'a>(
 ) -> Result<Store<DiskFile>, WordFault<'a>>
     requires { IsDurable seen may_leave file_may_leave file }
     ensures stored { IfOk result (IsStored seen may_leave file_may_leave) }
-    ensures kept { IfOk result (λ store. KeepsRepo (kinds_in store) (seen file) store.repo.patches ⊎ ((seen file ≡ []) × (store.repo ≡ start))) }
+    ensures kept { IfOk result (λ store. KeepsRepo (kinds_in store) (seen file) store.repo.patches
+        ⊎ ((seen file ≡ []) × (store.repo ≡ start) × (kinds_in store ≡ Six))) }
 {
-    if file.is_empty() {
-        return make_store(path, file, start, Kinds::Six, rt.alloc());
+    let is_empty = file.is_empty();
+    match kept_or_new_mirror(rt.alloc(), file, is_empty, start, Kinds::Six) {
+        Ok(store) => Ok(store),
+        Err(fault) => Err(of_unbegun(path, fault)),
     }
-    open_store(rt, path, file)
 }
 
 /// Says that a base isn't used, where one is named.
@@ -206,10 +198,11 @@ fn begin_store<'a>(
     ensures kinds { IfOk result (λ store. kinds_in store ≡ kinds) }
     ensures begun { IfOk result (λ store. (seen file ≡ []) × (store.repo ≡ start)) }
 {
-    if file.is_empty() {
-        return make_store(path, file, start, kinds, rt.alloc());
+    let is_empty = file.is_empty();
+    match new_mirror(rt.alloc(), file, is_empty, start, kinds) {
+        Ok(store) => Ok(store),
+        Err(fault) => Err(of_unbegun(path, fault)),
     }
-    Err(refuse_place(rt, path, file))
 }
 
 /// The repository with which a new mirror begins: at a tag, where the words name what it covers.

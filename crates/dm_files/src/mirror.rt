@@ -8,6 +8,7 @@ ghost use Rattle.dm_store.specs.Kinds.{kinds_in};
 
 use crate::word_fault::WordFault;
 use clap::ArgMatches;
+use dm_commands::{MirrorFault, kept_mirror};
 use dm_disk::{Access, DiskFile, Lock, OpenFault};
 use dm_journal::Device;
 use dm_named::Kinds;
@@ -57,7 +58,15 @@ pub fn open_file<'a>(
     }
 }
 
-/// The mirror that a file keeps. One in which a changed byte hides bundles isn't opened.
+/// Why the file at a path isn't the mirror that was asked for.
+pub fn of_kept<'a>(path: &'a str, fault: MirrorFault) -> WordFault<'a> {
+    match fault {
+        MirrorFault::Bad(fault) => WordFault::BadMirror(path, fault),
+        MirrorFault::Hidden(at) => WordFault::Hidden(path, at),
+    }
+}
+
+/// The mirror that a file keeps.
 pub fn open_store<'a, D: Device + Drop>(
     rt: &HostRuntime,
     path: &'a str,
@@ -68,12 +77,9 @@ pub fn open_store<'a, D: Device + Drop>(
     ensures keeps { IfOk result (λ store. KeepsRepo (kinds_in store) (D.seen device) store.repo.patches) }
     ensures hides_none { OnOk result ((at : ℕ) → ¬ Hides (D.seen device) at) }
 {
-    match Store::open(rt.alloc(), device) {
-        Ok(store) => match store.hidden() {
-            None => Ok(store),
-            Some(at) => Err(WordFault::Hidden(path, at)),
-        },
-        Err((fault, _)) => Err(WordFault::BadMirror(path, fault)),
+    match kept_mirror(rt.alloc(), device) {
+        Ok(store) => Ok(store),
+        Err(fault) => Err(of_kept(path, fault)),
     }
 }
 
