@@ -1,5 +1,5 @@
 //! `dm obliterate`: patches are taken out of a mirror, and kept as a bundle.
-ghost use Rattle.std.specs.Prelude.{IfOk};
+ghost use Rattle.std.specs.Prelude.{ℕ, List, IfOk};
 ghost use Rattle.dm_disk.specs.States.{seen, may_leave, file_may_leave};
 ghost use Rattle.dm_journal.specs.Device.{IsDurable};
 ghost use Rattle.dm_send.specs.Obliterating.{Obliterates};
@@ -70,21 +70,19 @@ fn say_count(rt: &HostRuntime, count: usize) {
 fn keep_in_file<'a>(
     rt: &HostRuntime,
     path: &'a str,
-    mut store: Store<DiskFile>,
+    store: &mut Store<DiskFile>,
     name: &'a str,
     text: &[u8],
     stays: Repo<Global>,
 ) -> Result<(), WordFault<'a>>
-    requires stored { IsStored seen may_leave file_may_leave store }
-    requires takes_out { TakesOut (kinds_in store) store.repo.patches stays.patches text.now }
+    requires stored { IsStored seen may_leave file_may_leave store.old }
+    requires takes_out { TakesOut (kinds_in store.old) store.old.repo.patches stays.patches text.now }
 {
     let mut file = open_kept(rt, name)?;
-    match keep_and_let_go(rt.alloc(), &mut store, &mut file, text, stays) {
+    match keep_and_let_go(rt.alloc(), store, &mut file, text, stays) {
         Ok(done) => finish(done, path),
         Err(Unkept::Bundle(fault)) => Err(blame(WordFault::Unwritten(name, fault), &file)),
-        Err(Unkept::Mirror(fault)) => {
-            Err(blame(WordFault::Unwritten(path, fault), &store.into_device()))
-        }
+        Err(Unkept::Mirror(fault)) => Err(WordFault::Unwritten(path, fault)),
     }
 }
 
@@ -92,14 +90,14 @@ fn keep_in_file<'a>(
 fn let_go<'a>(
     rt: &HostRuntime,
     path: &'a str,
-    mut store: Store<DiskFile>,
+    store: &mut Store<DiskFile>,
     stays: Repo<Global>,
 ) -> Result<(), WordFault<'a>>
-    requires { IsStored seen may_leave file_may_leave store }
+    requires { IsStored seen may_leave file_may_leave store.old }
 {
     match store.replace(rt.alloc(), stays) {
         Ok(done) => finish(done, path),
-        Err(fault) => Err(blame(WordFault::Unwritten(path, fault), &store.into_device())),
+        Err(fault) => Err(WordFault::Unwritten(path, fault)),
     }
 }
 
@@ -107,11 +105,11 @@ fn let_go<'a>(
 fn print_and_let_go<'a>(
     rt: &HostRuntime,
     path: &'a str,
-    store: Store<DiskFile>,
+    store: &mut Store<DiskFile>,
     text: &[u8],
     stays: Repo<Global>,
 ) -> Result<(), WordFault<'a>>
-    requires { IsStored seen may_leave file_may_leave store }
+    requires { IsStored seen may_leave file_may_leave store.old }
 {
     write_text(text, &mut io::writer(rt))?;
     let_go(rt, path, store, stays)
@@ -188,13 +186,13 @@ fn keep_where_said<'a>(
     rt: &HostRuntime,
     words: &ArgMatches<'a>,
     path: &'a str,
-    store: Store<DiskFile>,
+    store: &mut Store<DiskFile>,
     text: &[u8],
     stays: Repo<Global>,
     count: usize,
 ) -> Result<u8, WordFault<'a>>
-    requires stored { IsStored seen may_leave file_may_leave store }
-    requires takes_out { TakesOut (kinds_in store) store.repo.patches stays.patches text.now }
+    requires stored { IsStored seen may_leave file_may_leave store.old }
+    requires takes_out { TakesOut (kinds_in store.old) store.old.repo.patches stays.patches text.now }
 {
     match words.get_str("output") {
         Some(name) => {
@@ -209,50 +207,60 @@ fn keep_where_said<'a>(
     Ok(0)
 }
 
-/// What goes from a mirror is kept where the words say, and the mirror lets go of it.
-fn take_out<'a>(
+/// The bundle of what goes is kept where the words say, and the mirror lets go of it; a trial prints it alone.
+fn keep_or_show<'a>(
     rt: &HostRuntime,
     words: &ArgMatches<'a>,
     path: &'a str,
-    store: Store<DiskFile>,
-    chosen: &[Info<Global>],
-    out: Obliterated<Global>,
+    store: &mut Store<DiskFile>,
+    kept: &Bundle<Global>,
+    stays: Repo<Global>,
 ) -> Result<u8, WordFault<'a>>
-    requires stored { IsStored seen may_leave file_may_leave store }
-    requires obliterates { Obliterates store.repo.patches chosen.now out.repo.patches out.bundle out.bound.items }
+    requires stored { IsStored seen may_leave file_may_leave store.old }
+    requires takes_out { (text : List ℕ) → ReadsWithin (with_kinds standard (kinds_in store.old)) text kept.now
+        → TakesOut (kinds_in store.old) store.old.repo.patches stays.patches text }
 {
-    let Obliterated { repo, bundle, .. } = out;
-    if bundle.new_patches().is_empty() {
-        return Err(WordFault::NothingToUndo);
-    }
-    let kept = match kept_bundle(rt.alloc(), store.repo(), &repo, bundle) {
-        Ok(kept) => kept,
-        Err(why) => return refuse(rt, why),
-    };
-    let text = kept_text(rt, store.kinds(), &kept)?;
+    let text = kept_text(rt, store.kinds(), kept)?;
     if words.get_flag("dry-run") {
         write_text(&text, &mut io::writer(rt))?;
         return Ok(0);
     }
     let count = kept.new_patches().len();
-    keep_where_said(rt, words, path, store, &text, repo, count)
+    keep_where_said(rt, words, path, store, &text, stays, count)
 }
 
-/// `dm obliterate`.
-pub fn obliterate_chosen<'a>(
+/// Takes what goes out of a mirror.
+fn take_out<'a>(
+    rt: &HostRuntime,
+    words: &ArgMatches<'a>,
+    path: &'a str,
+    store: &mut Store<DiskFile>,
+    chosen: &[Info<Global>],
+    out: Obliterated<Global>,
+) -> Result<u8, WordFault<'a>>
+    requires stored { IsStored seen may_leave file_may_leave store.old }
+    requires obliterates { Obliterates store.old.repo.patches chosen.now out.repo.patches out.bundle out.bound.items }
+{
+    let Obliterated { repo, bundle, .. } = out;
+    if bundle.new_patches().is_empty() {
+        return Err(WordFault::NothingToUndo);
+    }
+    match kept_bundle(rt.alloc(), store.repo(), &repo, bundle) {
+        Ok(kept) => keep_or_show(rt, words, path, store, &kept, repo),
+        Err(why) => refuse(rt, why),
+    }
+}
+
+/// Takes the patches that the words choose out of a mirror.
+fn take_chosen<'a>(
     rt: &HostRuntime,
     colour: Colour,
     words: &ArgMatches<'a>,
-    is_terminal: bool,
-) -> Result<u8, WordFault<'a>> {
-    let path = words.get_str("mirror").unwrap_or("");
-    let access = if words.get_flag("dry-run") {
-        Access::Read
-    } else {
-        Access::Write
-    };
-    let file = open_file(rt, words, path, access, is_terminal)?;
-    let store = open_store(rt, path, file)?;
+    path: &'a str,
+    store: &mut Store<DiskFile>,
+) -> Result<u8, WordFault<'a>>
+    requires { IsStored seen may_leave file_may_leave store.old }
+{
     let chosen = chosen_names(rt, words, store.repo())?;
     let out = match obliterate_unless_base(rt.alloc(), store.repo(), &chosen) {
         Ok(Some(out)) => out,
@@ -271,4 +279,25 @@ pub fn obliterate_chosen<'a>(
         explain_obliterated(rt, colour, &out)?;
     }
     take_out(rt, words, path, store, &chosen, out)
+}
+
+/// `dm obliterate`.
+pub fn obliterate_chosen<'a>(
+    rt: &HostRuntime,
+    colour: Colour,
+    words: &ArgMatches<'a>,
+    is_terminal: bool,
+) -> Result<u8, WordFault<'a>> {
+    let path = words.get_str("mirror").unwrap_or("");
+    let access = if words.get_flag("dry-run") {
+        Access::Read
+    } else {
+        Access::Write
+    };
+    let file = open_file(rt, words, path, access, is_terminal)?;
+    let mut store = open_store(rt, path, file)?;
+    match take_chosen(rt, colour, words, path, &mut store) {
+        Ok(status) => Ok(status),
+        Err(fault) => Err(blame(fault, &store.into_device())),
+    }
 }
