@@ -1,13 +1,17 @@
 -- The mirrors of a run, as many as the words ask for.
 use Rattle.std.proofs.Common.{◌≡◌, ℕ, zero, suc, List, ◌∷◌, refl, ap, subst, ◌∙◌}
-use Rattle.std.specs.Prelude.{IfOk, Result}
+use Rattle.std.specs.Prelude.{IfErr, IfOk, Result}
 use Rattle.std.proofs.Math.ListN.{replicate}
 use Rattle.std.specs.Borrow.{Bor}
 use Rattle.dm_repo.specs.declared.policy.Policy.{Policy}
 use Rattle.dm_commands.specs.declared.running.Ran.{Ran}
 use Rattle.dm_commands.specs.Running.{IsRan, bytes_of}
 use Rattle.dm_tool.specs.declared.plan_words.Mirrors.{Mirrors}
-use Rattle.dm_tool.specs.Runs.{IsRanAs, made}
+use Rattle.dm_mirror.specs.declared.plan.PlanFault.{PlanFault}
+use Rattle.dm_mirror.specs.Plans.{IsFirstFault}
+use Rattle.dm_commands.specs.declared.fault.ToolFault.{ToolFault}
+use Rattle.dm_commands.specs.declared.fault.ToolFault.TheVariants.{BadPlan}
+use Rattle.dm_tool.specs.Runs.{HasFaultAs, IsRanAs, made}
 
 -- copies of a base, and of a policy
 bytes_replicate : (n : ℕ) (x : Bor (List ℕ)) → bytes_of (replicate n x) ≡ replicate n x.now
@@ -25,3 +29,10 @@ pub ran_as : {E : Type 0} (r : Result Ran E) (texts : List (List (List ℕ))) (m
 ran_as r texts m bases policies e f h =
     subst (λ (ps : List Policy). IfOk r (IsRan texts (replicate (made m.count) m.base.text.now) m.base.limits ps m.bound)) f
     (subst (λ (bs : List (List ℕ)). IfOk r (IsRan texts bs m.base.limits policies m.bound)) e h)
+
+pub fails_as : {T : Type 0} (r : Result T ToolFault) (texts : List (List (List ℕ))) (m : Mirrors) (bases : List (List ℕ)) (policies : List Policy) → bases ≡ replicate (made m.count) m.base.text.now → policies ≡ replicate (made m.count) m.policy →
+    IfErr r (λ e. (fault : PlanFault) → e ≡ BadPlan fault → IsFirstFault m.base.limits texts bases policies m.bound fault) →
+    IfErr r (λ e. (fault : PlanFault) → e ≡ BadPlan fault → HasFaultAs texts m fault)
+fails_as r texts m bases policies e f h =
+    subst (λ (ps : List Policy). IfErr r (λ e. (fault : PlanFault) → e ≡ BadPlan fault → IsFirstFault m.base.limits texts (replicate (made m.count) m.base.text.now) ps m.bound fault)) f
+    (subst (λ (bs : List (List ℕ)). IfErr r (λ e. (fault : PlanFault) → e ≡ BadPlan fault → IsFirstFault m.base.limits texts bs policies m.bound fault)) e h)

@@ -4,6 +4,8 @@ use Rattle.std.proofs.Math.ListN.{replicate}
 use Rattle.dm_mirror.specs.Limits.{most_mirrors}
 use Rattle.dm_commands.specs.declared.running.Ran.{Ran}
 use Rattle.dm_commands.specs.Running.{IsRan}
+use Rattle.dm_mirror.specs.declared.plan.PlanFault.{PlanFault}
+use Rattle.dm_mirror.specs.Plans.{IsFirstFault}
 use Rattle.dm_tool.specs.declared.plan_words.Mirrors.{Mirrors}
 
 -- how many mirrors are made where so many are asked for: at most one more than any plan takes
@@ -13,3 +15,7 @@ made count = min count (most_mirrors + 1)
 -- what is told of a run whose mirrors are those that the words ask for
 abbrev pub IsRanAs : List (List (List ℕ)) → Mirrors → Ran → Type 0
 IsRanAs texts m ran = IsRan texts (replicate (made m.count) m.base.text.now) m.base.limits (replicate (made m.count) m.policy) m.bound ran
+
+-- the first fault of a plan whose mirrors are those that the words ask for
+abbrev pub HasFaultAs : List (List (List ℕ)) → Mirrors → PlanFault → Type 0
+HasFaultAs texts m fault = IsFirstFault m.base.limits texts (replicate (made m.count) m.base.text.now) (replicate (made m.count) m.policy) m.bound fault

@@ -1,6 +1,8 @@
 //! The words of `dm run`, and what they start.
-ghost use Rattle.std.specs.Prelude.{IfOk};
-ghost use Rattle.dm_tool.specs.Runs.{IsRanAs};
+ghost use Rattle.std.specs.Prelude.{◌≡◌, ◌⊎◌, IfErr, IfOk};
+ghost use Rattle.dm_mirror.specs.declared.plan.PlanFault.{PlanFault};
+ghost use Rattle.dm_tool.specs.Runs.{HasFaultAs, IsRanAs};
+ghost use Rattle.dm_commands.specs.declared.fault.ToolFault.TheVariants as ToolFault;
 ghost use Rattle.dm_commands.specs.Running.{texts_in};
 
 use clap::ArgMatches;
@@ -118,7 +120,10 @@ fn run_named<R: Runtime + AllocGlobal + Threads + Wait + Sync>(
     posters: &[(&str, &[&[u8]])],
     mirrors: Mirrors<'_>,
 ) -> Result<Ran, ToolFault>
-    ensures { IfOk result (IsRanAs (texts_in posters.now) mirrors.entry) }
+    ensures told { IfOk result (IsRanAs (texts_in posters.now) mirrors.entry) }
+    ensures bad_plan { IfErr result (λ e. (fault : PlanFault) → e ≡ ToolFault.BadPlan fault → HasFaultAs (texts_in posters.now) mirrors.entry fault) }
+    ensures fault { IfErr result (λ e. ((fault : PlanFault) × (e ≡ ToolFault.BadPlan fault))
+        ⊎ ((e ≡ ToolFault.NoThread) ⊎ ((e ≡ ToolFault.NoMemory) ⊎ (e ≡ ToolFault.Write)))) }
 {
     let alloc = rt.alloc();
     let base = mirrors.base;
