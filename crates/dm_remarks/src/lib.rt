@@ -3,7 +3,7 @@
 //! what is said is cut.
 //!
 //! `dm_explain` finds the reasons and has the words; this crate asks it of what the commands answered, and prints. [`explain_agreement`]
-//! has a theorem: that the mirrors had to have one tree is said only where they had to.
+//! says what `agreement_of` finds, which has a theorem: that the mirrors had to have one tree is found only where they had to.
 #![tactic(auto)]
 
 mod agreeing;
