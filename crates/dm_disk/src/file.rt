@@ -37,7 +37,6 @@ struct Failure {
 
 /// A file on a disk, which is locked until it is dropped. Once a call on it has failed, every later one fails: open the file again.
 /// A new file that can't be made leaves it as it was.
-#[derive(Drop)]
 pub struct DiskFile {
     rt: HostRuntime,
     file: File,
@@ -52,6 +51,24 @@ pub struct DiskFile {
     bytes: Option<Vec<u8>>,
     failure: Option<Failure>,
     log: Record,
+}
+
+// By hand, so that this is called where one goes. What is derived stands there in full.
+impl Drop for DiskFile {
+    fn drop(self) {
+        let DiskFile {
+            rt: _,
+            file: _,
+            folder: _,
+            new_file: _,
+            path: _,
+            limit: _,
+            phase: _,
+            bytes: _,
+            failure: _,
+            log: _,
+        } = self;
+    }
 }
 
 impl Model for DiskFile {
@@ -235,11 +252,11 @@ impl DiskFile {
 
     /// The same file as it was when it was opened, for a rehearsal: what is taken into it is written nowhere. `None` where the
     /// bytes were handed out or written over. The lock is let go.
-    pub fn rehearse(self) -> Option<Rehearsal>
+    pub fn rehearse(mut self) -> Option<Rehearsal>
         ensures seen { IfSome result (λ rehearsal. seen rehearsal ≡ seen self) }
         ensures durable { IfSome result (IsDurable seen may_leave file_may_leave) }
     {
-        let bytes = self.bytes?;
+        let bytes = self.bytes.take()?;
         Some(Rehearsal::new(bytes))
     }
 

@@ -20,12 +20,22 @@ enum Phase {
 
 /// A device that begins with some bytes and keeps none that are written. Whoever takes bundles into a store on it is answered as
 /// on the disk, and no file changes. Its contracts are those of a file that is on the disk and whose calls are all done.
-#[derive(Drop)]
 pub struct Rehearsal {
     phase: Phase,
     // What it begins with, until it is handed out or written over.
     bytes: Option<Vec<u8>>,
     log: Record,
+}
+
+// By hand, so that this is called where one goes. What is derived stands there in full.
+impl Drop for Rehearsal {
+    fn drop(self) {
+        let Rehearsal {
+            phase: _,
+            bytes: _,
+            log: _,
+        } = self;
+    }
 }
 
 impl Model for Rehearsal {

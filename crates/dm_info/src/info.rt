@@ -21,10 +21,16 @@ use std::marker::Model;
 
 /// The patch info of a patch, which owns its parts. The four together are the patch's identity, as in
 /// Darcs' `Patch.Info`.
-#[derive(Drop)]
 pub struct Info<A: Allocator> {
     opening: Opening<A>,
     log: Vec<Vec<u8, A>, A>,
+}
+
+// By hand, so that this is called where one goes. What is derived stands there in full.
+impl<A: Allocator> Drop for Info<A> {
+    fn drop(self) {
+        let Info { opening: _, log: _ } = self;
+    }
 }
 
 impl<A: Allocator> Model for Info<A> {

@@ -11,11 +11,21 @@ use std::mem;
 
 /// A named patch: a patch info, the patch infos of the patches that it depends on, and its primitives in order
 /// (Darcs.Patch.Named). Dependencies are not checked: one may be listed twice, or be the patch itself.
-#[derive(Drop)]
 pub struct Named<A: Allocator> {
     info: Info<A>,
     deps: Vec<Info<A>, A>,
     prims: Vec<Prim<A>, A>,
+}
+
+// By hand, so that this is called where one goes. What is derived stands there in full.
+impl<A: Allocator> Drop for Named<A> {
+    fn drop(self) {
+        let Named {
+            info: _,
+            deps: _,
+            prims: _,
+        } = self;
+    }
 }
 
 impl<A: Allocator> Model for Named<A> {

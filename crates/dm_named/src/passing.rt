@@ -14,10 +14,19 @@ use std::marker::Model;
 
 /// A named patch that may have to pass others. What it touches is computed when it first meets another, and kept as long
 /// as it stays the same.
-#[derive(Drop)]
 pub struct Passing<A: Allocator> {
     patch: Named<A>,
     touched: Option<Touched<A>>,
+}
+
+// By hand, so that this is called where one goes. What is derived stands there in full.
+impl<A: Allocator> Drop for Passing<A> {
+    fn drop(self) {
+        let Passing {
+            patch: _,
+            touched: _,
+        } = self;
+    }
 }
 
 impl<A: Allocator> Model for Passing<A> {
@@ -53,7 +62,8 @@ impl<A: Allocator> Passing<A> {
     pub fn into_named(self) -> Named<A>
         ensures { result ≡ self }
     {
-        self.patch
+        let Passing { patch, touched: _ } = self;
+        patch
     }
 
     /// Whether what both touch is known and has nothing in common. Then they pass each other unchanged.

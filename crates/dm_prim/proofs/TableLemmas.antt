@@ -167,11 +167,8 @@ both_outside (preference_first h) = (tt, h)
 both_outside (preference_second h) = (h, tt)
 
 module _ (p q : Prim) where
-  pub no_first_outside : (MovesOutside p → ⊥) → (q' p' : Prim) → Commutes p q q' p' → ⊥
-  no_first_outside n q' p' r = n (both_outside r.row).0
-
-  pub no_second_outside : (MovesOutside q → ⊥) → (q' p' : Prim) → Commutes p q q' p' → ⊥
-  no_second_outside n q' p' r = n (both_outside r.row).1
+  pub not_both_outside : (MovesOutside p × MovesOutside q → ⊥) → (q' p' : Prim) → Commutes p q q' p' → ⊥
+  not_both_outside n q' p' r = n (both_outside r.row)
 
   pub both_stay : (NamesAPath p → ⊥) ⊎ (NamesAPath q → ⊥) → MovesOutside p → MovesOutside q → IsValidPrim p → IsValidPrim q → Commutes p q q p
   both_stay n hp hq gp gq = record { valid_p = gp; valid_q = gq; valid_q' = gq; valid_p' = gp; row = preference_row p q n hp hq }

@@ -9,11 +9,21 @@ use std::marker::Model;
 use thiserror::Error;
 
 /// A change of one file: all its lines, which have to be the old ones, are replaced by the new ones.
-#[derive(Drop)]
 pub struct Binary<A: Allocator> {
     path: Path<A>,
     old: Lines<A>,
     new: Lines<A>,
+}
+
+// By hand, so that this is called where one goes. What is derived stands there in full.
+impl<A: Allocator> Drop for Binary<A> {
+    fn drop(self) {
+        let Binary {
+            path: _,
+            old: _,
+            new: _,
+        } = self;
+    }
 }
 
 impl<A: Allocator> Model for Binary<A> {
@@ -82,10 +92,11 @@ impl<A: Allocator> Binary<A> {
     pub(crate) fn inverse(self) -> Binary<A>
         ensures { result ≡ record self { old = self.new; new = self.old } }
     {
+        let Binary { path, old, new } = self;
         Binary {
-            path: self.path,
-            old: self.new,
-            new: self.old,
+            path,
+            old: new,
+            new: old,
         }
     }
 
@@ -93,10 +104,7 @@ impl<A: Allocator> Binary<A> {
     pub(crate) fn at(self, path: Path<A>) -> Binary<A>
         ensures { result ≡ record self { path = path } }
     {
-        Binary {
-            path,
-            old: self.old,
-            new: self.new,
-        }
+        let Binary { path: _, old, new } = self;
+        Binary { path, old, new }
     }
 }

@@ -10,12 +10,23 @@ use std::marker::Model;
 use thiserror::Error;
 
 /// A change of one file: at a line, counted from 1, the old lines are replaced by the new ones.
-#[derive(Drop)]
 pub struct Hunk<A: Allocator> {
     path: Path<A>,
     line: u32,
     old: Lines<A>,
     new: Lines<A>,
+}
+
+// By hand, so that this is called where one goes. What is derived stands there in full.
+impl<A: Allocator> Drop for Hunk<A> {
+    fn drop(self) {
+        let Hunk {
+            path: _,
+            line: _,
+            old: _,
+            new: _,
+        } = self;
+    }
 }
 
 impl<A: Allocator> Model for Hunk<A> {
@@ -123,11 +134,17 @@ impl<A: Allocator> Hunk<A> {
     pub(crate) fn inverse(self) -> Hunk<A>
         ensures { result ≡ record self { old = self.new; new = self.old } }
     {
+        let Hunk {
+            path,
+            line,
+            old,
+            new,
+        } = self;
         Hunk {
-            path: self.path,
-            line: self.line,
-            old: self.new,
-            new: self.old,
+            path,
+            line,
+            old: new,
+            new: old,
         }
     }
 
@@ -135,11 +152,17 @@ impl<A: Allocator> Hunk<A> {
     pub(crate) fn at(self, path: Path<A>) -> Hunk<A>
         ensures { result ≡ record self { path = path } }
     {
+        let Hunk {
+            path: _,
+            line,
+            old,
+            new,
+        } = self;
         Hunk {
             path,
-            line: self.line,
-            old: self.old,
-            new: self.new,
+            line,
+            old,
+            new,
         }
     }
 
@@ -148,11 +171,17 @@ impl<A: Allocator> Hunk<A> {
         requires { IsLineNumber line }
         ensures { result ≡ record self { line = line } }
     {
+        let Hunk {
+            path,
+            line: _,
+            old,
+            new,
+        } = self;
         Hunk {
-            path: self.path,
+            path,
             line,
-            old: self.old,
-            new: self.new,
+            old,
+            new,
         }
     }
 }

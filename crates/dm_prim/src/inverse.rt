@@ -11,17 +11,7 @@ use std::collections::VecDeque;
 pub fn invert<A: Allocator>(prim: Primitive<A>) -> Primitive<A>
     ensures { prim_of result ≡ inv (prim_of prim) }
 {
-    match prim {
-        Primitive::AddFile(path) => Primitive::RmFile(path),
-        Primitive::RmFile(path) => Primitive::AddFile(path),
-        Primitive::AddDir(path) => Primitive::RmDir(path),
-        Primitive::RmDir(path) => Primitive::AddDir(path),
-        Primitive::Move(from, to) => Primitive::Move(to, from),
-        Primitive::Hunk(hunk) => Primitive::Hunk(hunk.inverse()),
-        Primitive::Binary(binary) => Primitive::Binary(binary.inverse()),
-        Primitive::Replace(replace) => Primitive::Replace(replace.inverse()),
-        Primitive::ChangePref(change) => Primitive::ChangePref(change.inverse()),
-    }
+    prim.inverse()
 }
 
 /// The list that undoes it: each inverted, in reversed order. Takes no memory.

@@ -2,9 +2,9 @@
 ghost use Rattle.std.specs.Prelude.{◌≡◌, ◌↔◌, ◌<◌, ◌⊎◌, ℕ, IfOk, IsTrue, MatchOption, length};
 ghost use Rattle.dm_tree.specs.Limits.{most_names};
 ghost use Rattle.dm_tree.specs.Paths.{Apart, forward};
-ghost use Rattle.dm_prim.specs.Primitives.{At, Move};
+ghost use Rattle.dm_prim.specs.Primitives.{Prim, At, Move};
 ghost use Rattle.dm_prim.specs.Table.{LiesAbove, WorkAndWork, WorkThenMove, MoveThenMove, MovesOutside};
-ghost use Rattle.dm_prim.specs.Commuting.{IsValidPrim, IsLineNumber};
+ghost use Rattle.dm_prim.specs.Commuting.{Commutes, IsValidPrim, IsLineNumber};
 ghost use Rattle.dm_prim.specs.Hunks.{ChangePlaces, hunk_of};
 ghost use Rattle.dm_prim.specs.Prims.{prim_of, path_of, work_of, IsWork, NamesAPath, CommutesTo, PairLawsHold};
 
@@ -61,15 +61,36 @@ fn commute_preference<A: Allocator>(
     requires { (NamesAPath (prim_of p) → ⊥) ⊎ (NamesAPath (prim_of q) → ⊥) }
     ensures { CommutesTo (prim_of p) (prim_of q) result }
 {
-    if !moves_outside(&p) {
-        return None;
-    }
-    if !moves_outside(&q) {
-        return None;
-    }
     p.tells_valid();
     q.tells_valid();
+    let change = both_move_outside(&p, &q);
+    swapped(p, q, change)
+}
+
+/// The two in the other order, if they change places.
+fn swapped<A: Allocator>(
+    p: Primitive<A>,
+    q: Primitive<A>,
+    change: bool,
+) -> Option<(Primitive<A>, Primitive<A>)>
+    requires change { IsTrue change → Commutes (prim_of p) (prim_of q) (prim_of q) (prim_of p) }
+    requires stay { ¬ IsTrue change → (second first : Prim) → ¬ Commutes (prim_of p) (prim_of q) second first }
+    ensures { CommutesTo (prim_of p) (prim_of q) result }
+{
+    if !change {
+        return None;
+    }
     Some((q, p))
+}
+
+/// Whether neither is a move one of whose paths is, or contains, the other.
+fn both_move_outside<A: Allocator>(p: &Primitive<A>, q: &Primitive<A>) -> bool
+    ensures { IsTrue result ↔ MovesOutside (prim_of p.now) × MovesOutside (prim_of q.now) }
+{
+    if !moves_outside(p) {
+        return false;
+    }
+    moves_outside(q)
 }
 
 /// Whether a primitive is no move one of whose paths is, or contains, the other.
@@ -94,12 +115,10 @@ fn commute_works<A: Allocator>(
     if p.path().same(q.path()) {
         return commute_at_one_path(p, q);
     }
-    if !may_change_places(&p, &q) {
-        return None;
-    }
     p.tells_valid();
     q.tells_valid();
-    Some((q, p))
+    let change = may_change_places(&p, &q);
+    swapped(p, q, change)
 }
 
 /// Work at one path: of it only hunks commute.

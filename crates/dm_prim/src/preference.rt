@@ -9,11 +9,21 @@ use std::marker::Model;
 use thiserror::Error;
 
 /// Another value for the preference of a name. Preferences aren't in the tree.
-#[derive(Drop)]
 pub struct Preference<A: Allocator> {
     name: Vec<u8, A>,
     old: Vec<u8, A>,
     new: Vec<u8, A>,
+}
+
+// By hand, so that this is called where one goes. What is derived stands there in full.
+impl<A: Allocator> Drop for Preference<A> {
+    fn drop(self) {
+        let Preference {
+            name: _,
+            old: _,
+            new: _,
+        } = self;
+    }
 }
 
 impl<A: Allocator> Model for Preference<A> {
@@ -92,10 +102,11 @@ impl<A: Allocator> Preference<A> {
     pub(crate) fn inverse(self) -> Preference<A>
         ensures { result ≡ record self { old = self.new; new = self.old } }
     {
+        let Preference { name, old, new } = self;
         Preference {
-            name: self.name,
-            old: self.new,
-            new: self.old,
+            name,
+            old: new,
+            new: old,
         }
     }
 }

@@ -15,7 +15,6 @@ use std::alloc::{AllocError, Allocator};
 
 /// A primitive patch: a change of a tree at one path, the move of all that is at or under the first
 /// path to the second, or another value for a preference.
-#[derive(Drop)]
 pub enum Primitive<A: Allocator> {
     AddFile(Path<A>),
     RmFile(Path<A>),
@@ -26,6 +25,23 @@ pub enum Primitive<A: Allocator> {
     Binary(Binary<A>),
     Replace(Replace<A>),
     ChangePref(Preference<A>),
+}
+
+// By hand, so that this is called where one goes. What is derived stands there in full.
+impl<A: Allocator> Drop for Primitive<A> {
+    fn drop(self) {
+        match self {
+            Primitive::AddFile(_) => {}
+            Primitive::RmFile(_) => {}
+            Primitive::AddDir(_) => {}
+            Primitive::RmDir(_) => {}
+            Primitive::Move(_, _) => {}
+            Primitive::Hunk(_) => {}
+            Primitive::Binary(_) => {}
+            Primitive::Replace(_) => {}
+            Primitive::ChangePref(_) => {}
+        }
+    }
 }
 
 impl<A: Allocator> Primitive<A> {
@@ -49,6 +65,23 @@ impl<A: Allocator> Primitive<A> {
             Primitive::Binary(binary) => Ok(Primitive::Binary(binary.copy_into(alloc)?)),
             Primitive::Replace(replace) => Ok(Primitive::Replace(replace.copy_into(alloc)?)),
             Primitive::ChangePref(change) => Ok(Primitive::ChangePref(change.copy_into(alloc)?)),
+        }
+    }
+
+    /// The primitive that undoes it. Takes no memory.
+    pub(crate) fn inverse(self) -> Primitive<A>
+        ensures { prim_of result ≡ primitives.inv (prim_of self) }
+    {
+        match self {
+            Primitive::AddFile(path) => Primitive::RmFile(path),
+            Primitive::RmFile(path) => Primitive::AddFile(path),
+            Primitive::AddDir(path) => Primitive::RmDir(path),
+            Primitive::RmDir(path) => Primitive::AddDir(path),
+            Primitive::Move(from, to) => Primitive::Move(to, from),
+            Primitive::Hunk(hunk) => Primitive::Hunk(hunk.inverse()),
+            Primitive::Binary(binary) => Primitive::Binary(binary.inverse()),
+            Primitive::Replace(replace) => Primitive::Replace(replace.inverse()),
+            Primitive::ChangePref(change) => Primitive::ChangePref(change.inverse()),
         }
     }
 
@@ -206,15 +239,15 @@ impl<A: Allocator> Primitive<A> {
             (λ hunk. prim_of self ≡ hunk_of hunk) }
     {
         match self {
-            Primitive::AddFile(_) => None,
-            Primitive::RmFile(_) => None,
-            Primitive::AddDir(_) => None,
-            Primitive::RmDir(_) => None,
-            Primitive::Move(_, _) => None,
+            Primitive::AddFile(_path) => None,
+            Primitive::RmFile(_path) => None,
+            Primitive::AddDir(_path) => None,
+            Primitive::RmDir(_path) => None,
+            Primitive::Move(_from, _to) => None,
             Primitive::Hunk(hunk) => Some(hunk),
-            Primitive::Binary(_) => None,
-            Primitive::Replace(_) => None,
-            Primitive::ChangePref(_) => None,
+            Primitive::Binary(_binary) => None,
+            Primitive::Replace(_replace) => None,
+            Primitive::ChangePref(_change) => None,
         }
     }
 

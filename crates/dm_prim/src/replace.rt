@@ -11,10 +11,16 @@ use std::marker::Model;
 /// A change of one file: in all its lines the new token stands in place of the old one. Where the new
 /// one stood before, and isn't the old one, nobody could turn it back, so the replace doesn't fit. Nor
 /// does it fit a file of more than [`MOST_TURNED`](crate::MOST_TURNED) bytes, before or after.
-#[derive(Drop)]
 pub struct Replace<A: Allocator> {
     path: Path<A>,
     tokens: Tokens<A>,
+}
+
+// By hand, so that this is called where one goes. What is derived stands there in full.
+impl<A: Allocator> Drop for Replace<A> {
+    fn drop(self) {
+        let Replace { path: _, tokens: _ } = self;
+    }
 }
 
 impl<A: Allocator> Model for Replace<A> {
@@ -71,19 +77,16 @@ impl<A: Allocator> Replace<A> {
     pub(crate) fn inverse(self) -> Replace<A>
         ensures { result ≡ record self { words = record self.words { old = self.words.new; new = self.words.old } } }
     {
-        Replace {
-            path: self.path,
-            tokens: self.tokens.inverse(),
-        }
+        let Replace { path, tokens } = self;
+        let tokens = tokens.inverse();
+        Replace { path, tokens }
     }
 
     /// The same replace at another path.
     pub(crate) fn at(self, path: Path<A>) -> Replace<A>
         ensures { result ≡ record self { path = path } }
     {
-        Replace {
-            path,
-            tokens: self.tokens,
-        }
+        let Replace { path: _, tokens } = self;
+        Replace { path, tokens }
     }
 }

@@ -30,13 +30,24 @@ use std::alloc::Global;
 
 /// A repository that lasts. After an error of [`Store::take`], [`Store::checkpoint`] or [`Store::replace`], open the file again:
 /// it may keep another repository than the one in memory.
-#[derive(Drop)]
 pub struct Store<D: Device> {
     journal: Journal<D>,
     repo: Repo<Global>,
     // For what is tried.
     arena: Bump,
     growth: Growth,
+}
+
+// By hand, so that this is called where one goes. What is derived stands there in full.
+impl<D: Device + Drop> Drop for Store<D> {
+    fn drop(self) {
+        let Store {
+            journal: _,
+            repo: _,
+            arena: _,
+            growth: _,
+        } = self;
+    }
 }
 
 impl<D: Device> Store<D> {
@@ -109,7 +120,13 @@ impl<D: Device> Store<D> {
     pub fn into_device(self) -> D
         ensures { result ≡ self.journal.device }
     {
-        self.journal.device
+        let Store {
+            journal,
+            repo: _,
+            arena: _,
+            growth: _,
+        } = self;
+        journal.device
     }
 
     /// The device, and the repository.
@@ -117,7 +134,13 @@ impl<D: Device> Store<D> {
         ensures device { result.0 ≡ self.journal.device }
         ensures repo { result.1 ≡ self.repo }
     {
-        (self.journal.device, self.repo)
+        let Store {
+            journal,
+            repo,
+            arena: _,
+            growth: _,
+        } = self;
+        (journal.device, repo)
     }
 
     /// The repository.

@@ -21,6 +21,3 @@ returns-in-Hunk g c = rw c.in-Hunk.is refl
 
 pub returns-in-Binary : goal.returns-in-Binary
 returns-in-Binary g c = rw c.in-Binary.is (λ h. h)
-
-pub returns : goal.returns
-returns g c = rw c.in-ChangePref.is (λ h. h)
