@@ -9,8 +9,7 @@ ghost use Rattle.dm_begin.specs.Bases.{IsBeforeBase, KnowsBase};
 use crate::base::base_len;
 use dm_bundle::Bundle;
 use dm_info::Info;
-use dm_named::Named;
-use dm_repo::Repo;
+use dm_repo::{Repo, copy_names};
 use std::alloc::{AllocError, Allocator};
 
 /// Whether all of these names are held.
@@ -80,20 +79,6 @@ fn copies_of<A: Allocator + Copy, B: Allocator>(
     Ok(copies)
 }
 
-/// Copies of the names of patches, under another allocator.
-fn names_of<A: Allocator + Copy, B: Allocator>(
-    own: A,
-    patches: &[Named<B>],
-) -> Result<Vec<Info<A>, A>, AllocError>
-    ensures { IfOk result (λ names. names.items ≡ infos_of patches.now) }
-{
-    let mut names = Vec::with_capacity(own, patches.len())?;
-    for patch in patches {
-        names.push(patch.info().copy_into(own)?)?;
-    }
-    Ok(names)
-}
-
 /// Whether somebody who holds patches of these names, and whatever else, has the whole base of the repository: by name, or by
 /// way of dependencies. So it is with every list of names where the repository doesn't begin at a tag.
 pub fn knows_base<A: Allocator + Copy, B: Allocator + Copy>(
@@ -129,7 +114,7 @@ pub fn is_before_base<A: Allocator + Copy, B: Allocator + Copy>(
     if !are_held(repo, &context) {
         return Ok(false);
     }
-    let new = names_of(own, bundle.new_patches())?;
+    let new = copy_names(own, bundle.new_patches())?;
     let nothing_new = are_held(repo, &new);
     if nothing_new {
         return Ok(false);

@@ -40,6 +40,7 @@ mod weighed;
 
 pub use clash::{Clash, find_clash};
 pub use misfit::{Misfit, find_misfit};
+pub use names::copy_names;
 pub use orders::law_both_orders;
 pub use overflow::{Overflow, find_overflow};
 pub use parted::{Parted, split};

@@ -55,7 +55,7 @@ pub(crate) fn index_of<A: Allocator + Copy>(
 }
 
 /// Copies of the names of patches, under another allocator.
-pub(crate) fn copy_names<A: Allocator, B: Allocator + Copy>(
+pub fn copy_names<A: Allocator, B: Allocator + Copy>(
     alloc: B,
     patches: &[Named<A>],
 ) -> Result<Vec<Info<B>, B>, AllocError>

@@ -1,5 +1,5 @@
 //! A repository: its patches, oldest first, their names, and the tree that they make.
-ghost use Rattle.std.specs.Prelude.{◌≡◌, ◌↔◌, ◌<◌, ◌≤◌, [], ◌++◌, length, IfOk, IsTrue, slice_get, Some, MatchOption};
+ghost use Rattle.std.specs.Prelude.{◌≡◌, ◌↔◌, ◌<◌, ◌≤◌, [], ◌++◌, length, IfOk, OnOk, IsTrue, slice_get, Some, MatchOption};
 ghost use Rattle.dm_bundle.specs.Patches.{infos_of};
 ghost use Rattle.dm_repo.specs.Repositories.{Holds, IsRepo, IsTreeOf, KeepsTree};
 
@@ -20,11 +20,21 @@ use std::marker::Model;
 ///
 /// The hash of the index has no seed: whoever picks the names can make them collide in it, and a look-up then
 /// compares as many of them as a walk over the patches would.
-#[derive(Drop)]
 pub struct Repo<A: Allocator> {
     patches: Vec<Named<A>, A>,
     names: Names<A>,
     tree: Tree<A>,
+}
+
+// By hand, so that this is called where one goes. What is derived stands there in full.
+impl<A: Allocator> Drop for Repo<A> {
+    fn drop(self) {
+        let Repo {
+            patches: _,
+            names: _,
+            tree: _,
+        } = self;
+    }
 }
 
 impl<A: Allocator> Model for Repo<A> {
@@ -188,17 +198,18 @@ impl<A: Allocator + Copy> Repo<A> {
         ensures tree { IfOk result (λ ready. ready.tree ≡ merged.now.tree) }
         ensures room { IfOk result (λ ready. length ready.patches ≤ self.new.room) }
     {
-        let alloc = *self.patches.allocator();
-        let patches = copy_patches(alloc, &merged.patches)?;
-        let names = copy_names(alloc, &patches)?;
-        let tree = merged.tree.copy_into(alloc)?;
-        self.patches.reserve(patches.len())?;
-        self.names.reserve(patches.len())?;
-        Ok(Ready {
-            patches,
-            names,
-            tree,
-        })
+        self.make_room(merged.patches.len())?;
+        copy_merged(*self.patches.allocator(), merged)
+    }
+
+    /// Makes the room for as many patches more. The repository reads as before.
+    fn make_room(&mut self, count: usize) -> Result<(), AllocError>
+        ensures same { self.new.patches ≡ self.old.patches }
+        ensures room { OnOk result (count ≤ self.new.room) }
+    {
+        self.patches.reserve(count)?;
+        self.names.reserve(count)?;
+        Ok(())
     }
 
     /// The same as [`Repo::prepare`] of what was merged in the repository's own memory and is given up: its patches and its
@@ -209,16 +220,31 @@ impl<A: Allocator + Copy> Repo<A> {
         ensures tree { IfOk result (λ ready. ready.tree ≡ merged.tree) }
         ensures room { IfOk result (λ ready. length ready.patches ≤ self.new.room) }
     {
-        let alloc = *self.patches.allocator();
-        let names = copy_names(alloc, &merged.patches)?;
-        self.patches.reserve(names.len())?;
-        self.names.reserve(names.len())?;
+        self.make_room(merged.patches.len())?;
+        let names = copy_names(*self.patches.allocator(), &merged.patches)?;
         Ok(Ready {
             patches: merged.patches,
             names,
             tree: merged.tree,
         })
     }
+}
+
+/// Copies of the merged patches, and of the tree after them.
+fn copy_merged<A: Allocator + Copy, B: Allocator>(
+    alloc: A,
+    merged: &Merged<B>,
+) -> Result<Ready<A>, AllocError>
+    ensures { IfOk result (λ ready. (ready.patches ≡ merged.now.patches.items) × (ready.tree ≡ merged.now.tree)) }
+{
+    let patches = copy_patches(alloc, &merged.patches)?;
+    let names = copy_names(alloc, &patches)?;
+    let tree = merged.tree.copy_into(alloc)?;
+    Ok(Ready {
+        patches,
+        names,
+        tree,
+    })
 }
 
 /// Copies of patches, under another allocator.

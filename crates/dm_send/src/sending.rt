@@ -11,7 +11,7 @@ use crate::shared::split_for;
 use dm_bundle::Bundle;
 use dm_info::Info;
 use dm_named::Named;
-use dm_repo::{Policy, Refusal, Repo, Weighed, weigh, weigh_owned};
+use dm_repo::{Policy, Refusal, Repo, Weighed, copy_names, weigh, weigh_owned};
 use std::alloc::{AllocError, Allocator};
 
 /// The patches without their places.
@@ -35,10 +35,7 @@ pub(crate) fn names_of<B: Allocator + Copy>(
 ) -> Result<Vec<Info<B>, B>, AllocError>
     ensures { IfOk result (λ names. names.items ≡ reverse (infos_of list.now)) }
 {
-    let mut names = Vec::with_capacity(alloc, list.len())?;
-    for patch in list {
-        names.push(patch.info().copy_into(alloc)?)?;
-    }
+    let mut names = copy_names(alloc, list)?;
     names.reverse();
     Ok(names)
 }

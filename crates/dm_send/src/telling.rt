@@ -7,6 +7,7 @@ ghost use Rattle.dm_send.specs.Telling.{IsNamesFault, TellsNames, headed, named_
 use dm_bundle::{Bundle, read_bundle_within};
 use dm_info::Info;
 use dm_named::{FaultKind, Limits, ReadFault};
+use dm_repo::copy_names;
 use std::alloc::{AllocError, Allocator};
 
 /// The heading of a bundle.
@@ -19,10 +20,7 @@ fn names_in<A: Allocator + Copy>(
 ) -> Result<Vec<Info<A>, A>, AllocError>
     ensures { IfOk result (λ names. names.items ≡ named_in bundle.now) }
 {
-    let mut names = Vec::new(alloc);
-    for patch in bundle.new_patches() {
-        names.push(patch.info().copy_into(alloc)?)?;
-    }
+    let mut names = copy_names(alloc, bundle.new_patches())?;
     for name in bundle.context() {
         names.push(name.copy_into(alloc)?)?;
     }

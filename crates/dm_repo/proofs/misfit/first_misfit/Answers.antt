@@ -21,14 +21,6 @@ returns-in-Err g c = λ s e.
       is_told = c.in_ok-refused-in-Err.ensures.1;
     })
 
-pub loop-place-preserved-in-Ok : goal.loop-place-preserved-in-Ok
-loop-place-preserved-in-Ok g c = record {
-  can_next = tt;
-  is_finite = tt;
-  leads = λ s e. let r = c.loop-place.invariant.leads s e in let t = rw c.named.ensures at (c.in-Ok.ensures r.0 r.1) in (t.0, t.1, leads_also c.loop-place.yielded (c.in-Some.place, c.in-Some.patch) r.2 t.2);
-  whole = c.loop-place.invariant.whole ∙ ap (λ l. c.loop-place.yielded ++ l) c.in-Some.ensures.steps.0 ∙ sym (append_assoc c.loop-place.yielded ((c.in-Some.place, c.in-Some.patch) ∷ []) c.next.new.self.rest.items);
-}
-
 pub loop-place-preserved : goal.loop-place-preserved
 loop-place-preserved g c = record {
   can_next = tt;

@@ -6,21 +6,8 @@ use Rattle.dm_repo.proofs.SkipLemmas.{completes_merged, completes_skipped, none_
 use Rattle.dm_repo.proofs.Splits.{whole}
 use Rattle.dm_repo.proofs.sifting.sift.Goals as goal
 
-pub loop-patch-preserved-in_ok-push-in-Ok : goal.loop-patch-preserved-in_ok-push-in-Ok
-loop-patch-preserved-in_ok-push-in-Ok g c =
-    let w = rw c.in-Some.ensures.steps.0 at c.loop-patch.invariant.completes in
-    let kept = whole c.merge_over.new.skipped (drop (length c.merge_over.new.skipped) c.loop-patch.skipped.items) c.loop-patch.skipped.len (search rules) in
-    let kept_rest = whole c.merge_over.new.rest (drop (length c.merge_over.new.rest) c.loop-patch.rest.items) c.loop-patch.rest.len (search rules) in
-    record {
-      can_next = search rules;
-      is_finite = tt;
-      completes = rw (kept, kept_rest) (completes_merged (map undone c.args.rest.items) c.args.new.items c.loop-patch.merged.items c.loop-patch.skips.items w
-          (rw (c.as_mut_slice.ensures.value, c.as_mut_slice-in-loop-patch.ensures.value) at (rw c.in-Ok.is at c.in_ok-over.ensures)) c.in_ok-push-in-Ok.ensures.items);
-      same_rest = λ e. absurd (push_some c.loop-patch.merged.items c.in-Ok.over (sym c.in_ok-push-in-Ok.ensures.items ∙ e));
-    }
-
-pub loop-patch-preserved-in_ok-push-in-Ok-2 : goal.loop-patch-preserved-in_ok-push-in-Ok-2
-loop-patch-preserved-in_ok-push-in-Ok-2 g c =
+pub loop-patch-preserved-in-Ok-1 : goal.loop-patch-preserved-in-Ok-1
+loop-patch-preserved-in-Ok-1 g c =
     let w = rw c.in-Some.ensures.steps.0 at c.loop-patch.invariant.completes in
     let kept = whole c.merge_over.new.skipped (drop (length c.merge_over.new.skipped) c.loop-patch.skipped.items) c.loop-patch.skipped.len (search rules) in
     let kept_rest = whole c.merge_over.new.rest (drop (length c.merge_over.new.rest) c.loop-patch.rest.items) c.loop-patch.rest.len (search rules) in

@@ -2,8 +2,5 @@ use Rattle.std.proofs.Common.{◌≡◌, ◌++◌, take}
 use Rattle.dm_bundle.specs.Patches.{infos_of}
 use Rattle.dm_send.proofs.telling.names_in.Given as goal
 
-abbrev pub invariant-loop-patch : goal.invariant-loop-patch
-invariant-loop-patch g l = l.names.items ≡ infos_of (take l.patch-index l.bundle.patches)
-
 abbrev pub invariant-loop-name : goal.invariant-loop-name
 invariant-loop-name g l = l.names.items ≡ infos_of l.bundle.patches ++ take l.name-index l.bundle.context

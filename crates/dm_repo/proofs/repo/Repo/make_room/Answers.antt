@@ -1,0 +1,10 @@
+use Rattle.std.proofs.Common.{refl, ap, ◌∙◌}
+use Rattle.std.proofs.lemmas.Result.{err_from_is_err_and}
+use Rattle.dm_repo.specs.Repositories.{Repository}
+use Rattle.dm_repo.proofs.repo.Repo.make_room.Goals as goal
+
+pub invariant_of-self : goal.invariant_of-self
+invariant_of-self g c = rw c.reserve.ensures.items c.self.invariant
+
+pub invariant_of-self-2 : goal.invariant_of-self-2
+invariant_of-self-2 g c = rw (c.reserve.ensures.items, c.reserve-2.ensures.keys) c.self.invariant

@@ -1,6 +1,0 @@
-use Rattle.std.proofs.Common.{◌≡◌, take}
-use Rattle.dm_bundle.specs.Patches.{infos_of}
-use Rattle.dm_send.proofs.sending.names_of.Given as goal
-
-abbrev pub invariant-loop-patch : goal.invariant-loop-patch
-invariant-loop-patch g l = l.names.items ≡ infos_of (take l.patch-index l.list)
