@@ -12,8 +12,19 @@ impl<'a> Building<'a> {
     /// A command of this name without words, and what its help says before and behind them.
     pub fn new(alloc: Global, name: &'a str, about: &'a str, after: &'a str) -> Building<'a> {
         let command = Command::new(alloc, name).about(about).after_help(after);
+        Building::of(Ok(command))
+    }
+
+    /// This command, if there was memory for it.
+    pub fn of(command: Result<Command<'a>, AllocError>) -> Building<'a> {
+        Building { command }
+    }
+
+    /// Adds a command below this one, if there was memory for it.
+    pub fn try_command(self, below: Result<Command<'a>, AllocError>) -> Building<'a> {
+        let Building { command } = self;
         Building {
-            command: Ok(command),
+            command: with_command(command, below),
         }
     }
 
@@ -56,4 +67,11 @@ fn with_group<'a>(
     group: Result<ArgGroup<'a>, AllocError>,
 ) -> Result<Command<'a>, AllocError> {
     command?.group(group?)
+}
+
+fn with_command<'a>(
+    command: Result<Command<'a>, AllocError>,
+    below: Result<Command<'a>, AllocError>,
+) -> Result<Command<'a>, AllocError> {
+    command?.subcommand(below?)
 }

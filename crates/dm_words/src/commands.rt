@@ -165,22 +165,29 @@ fn send_words<'a>(alloc: Global) -> Result<Command<'a>, AllocError> {
         .done()
 }
 
+/// The program's own words, without its commands.
+fn own_words<'a>(alloc: Global) -> Result<Command<'a>, AllocError> {
+    let command = Command::new(alloc, "dm").bin_name("dm")?;
+    let command = command.version(VERSION).about(help::DM);
+    let command = command.after_help(help::AFTER_ALL);
+    Ok(
+        command
+            .subcommand_required(true)
+            .arg_required_else_help(true),
+    )
+}
+
 /// The commands and their words.
 pub fn program<'a>(alloc: Global) -> Result<Command<'a>, AllocError> {
-    Command::new(alloc, "dm")
-        .bin_name("dm")?
-        .version(VERSION)
-        .about(help::DM)
-        .after_help(help::AFTER_ALL)
-        .subcommand_required(true)
-        .arg_required_else_help(true)
-        .subcommand(apply_words(alloc)?)?
-        .subcommand(check_words(alloc)?)?
-        .subcommand(checkout_words(alloc)?)?
-        .subcommand(init_words(alloc)?)?
-        .subcommand(log_words(alloc)?)?
-        .subcommand(obliterate_words(alloc)?)?
-        .subcommand(rollback_words(alloc)?)?
-        .subcommand(run_words(alloc)?)?
-        .subcommand(send_words(alloc)?)
+    Building::of(own_words(alloc))
+        .try_command(apply_words(alloc))
+        .try_command(check_words(alloc))
+        .try_command(checkout_words(alloc))
+        .try_command(init_words(alloc))
+        .try_command(log_words(alloc))
+        .try_command(obliterate_words(alloc))
+        .try_command(rollback_words(alloc))
+        .try_command(run_words(alloc))
+        .try_command(send_words(alloc))
+        .done()
 }
