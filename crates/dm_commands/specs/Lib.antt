@@ -7,3 +7,4 @@ pub mod Naming
 pub mod Sending
 pub mod Obliterating
 pub mod Beginning
+pub mod Mirrors

@@ -1,20 +1,16 @@
 //! The mirror that a device keeps, or a new one where it keeps none.
-ghost use Rattle.std.specs.Prelude.{◌≡◌, ◌≢◌, ◌⊎◌, ℕ, List, [], Err, IfOk, IsTrue, OnOk};
-ghost use Rattle.dm_journal.specs.Device.{IsDurable};
-ghost use Rattle.dm_journal.specs.Hidden.{Hides};
-ghost use Rattle.dm_journal.specs.Faults.{HasFault};
-ghost use Rattle.dm_journal.specs.declared.fault.Fault.{Fault as FileFault};
-ghost use Rattle.dm_journal.specs.declared.fault.OpenError.TheVariants.{File as OpeningFile};
+ghost use Rattle.std.specs.Prelude.{◌≡◌, ◌≢◌, ◌↔◌, ◌⊎◌, ◌<◌, [], IfErr, IfOk, IsTrue};
+ghost use Rattle.dm_journal.specs.Device.{IsDurable, LeavesOnly};
+ghost use Rattle.dm_journal.specs.Ready.{IsUntouched};
+ghost use Rattle.dm_journal.specs.declared.device.DeviceError.TheVariants.{Failed};
+ghost use Rattle.dm_journal.specs.declared.fault.OpenError.TheVariants.{Device as OpeningDevice};
 ghost use Rattle.dm_journal.specs.declared.fault.WriteError.{WriteError};
-ghost use Rattle.dm_named.specs.declared.limits.Kinds.{Kinds};
-ghost use Rattle.dm_named.specs.Patches.{Patch};
-ghost use Rattle.dm_store.specs.Keeping.{IsStored, KeepsRepo};
+ghost use Rattle.dm_store.specs.Keeping.{IsOrKeeps, IsStored};
 ghost use Rattle.dm_store.specs.Kinds.{kinds_in};
-ghost use Rattle.dm_store.specs.Opening.{HasBadEntry};
-ghost use Rattle.dm_store.specs.declared.fault.StoreError.TheVariants.{Journal as OpeningJournal, BadEntry};
-ghost use Rattle.dm_commands.specs.declared.mirror.MirrorFault.{MirrorFault};
-ghost use Rattle.dm_commands.specs.declared.mirror.MirrorFault.TheVariants.{Bad, Hidden};
-ghost use Rattle.dm_commands.specs.declared.mirror.Unbegun.TheVariants.{IsThere, Kept, Unwritten};
+ghost use Rattle.dm_store.specs.declared.fault.StoreError.TheVariants.{Journal as OpeningJournal};
+ghost use Rattle.dm_commands.specs.Mirrors.{FailsToBegin, HasMirrorFault, IsInTheWay, IsMirrorOf, IsUnwritten};
+ghost use Rattle.dm_commands.specs.declared.mirror.MirrorFault.TheVariants.{Bad};
+ghost use Rattle.dm_commands.specs.declared.mirror.Unbegun.TheVariants.{IsThere, Unwritten};
 
 use dm_journal::{Device, WriteError};
 use dm_named::Kinds;
@@ -25,38 +21,41 @@ use std::alloc::Global;
 /// Why what a device has can't be used as a mirror.
 #[derive(Clone, Copy, Debug)]
 pub enum MirrorFault {
-    /// It is no mirror.
+    /// It is no mirror, or can't be read.
     Bad(StoreError),
     /// It is one, and the closed latch at this place hides bundles behind it.
     Hidden(usize),
 }
 
 /// Why no mirror was begun.
-pub enum Unbegun<D> {
+#[derive(Clone, Copy, Debug)]
+pub enum Unbegun {
     /// The device has bytes, and keeps no mirror that can be used.
     Kept(MirrorFault),
     /// The device keeps a mirror, where a new one was to be made.
     IsThere,
-    /// The new mirror could not be written to this device.
-    Unwritten(WriteError, D),
+    /// The new mirror could not be written.
+    Unwritten(WriteError),
 }
 
-/// The mirror that a device keeps. One in which a changed byte hides bundles isn't opened.
-pub fn kept_mirror<D: Device + Drop>(alloc: Global, device: D) -> Result<Store<D>, MirrorFault>
+/// The mirror that a device keeps. One in which a changed byte hides bundles isn't opened. Nothing is written, and at an error the
+/// device comes back.
+pub fn kept_mirror<D: Device>(alloc: Global, device: D) -> Result<Store<D>, (MirrorFault, D)>
     requires { IsDurable D.seen D.may_leave D.file_may_leave device }
     ensures stored { IfOk result (IsStored D.seen D.may_leave D.file_may_leave) }
-    ensures keeps { IfOk result (λ store. KeepsRepo (kinds_in store) (D.seen device) store.repo.patches) }
-    ensures hides_none { OnOk result ((at : ℕ) → ¬ Hides (D.seen device) at) }
-    ensures hidden { (at : ℕ) → result ≡ Err (Hidden at) → Hides (D.seen device) at }
-    ensures bad_file { (fault : FileFault) → result ≡ Err (Bad (OpeningJournal (OpeningFile fault))) → HasFault (D.seen device) fault }
-    ensures bad_entry { (number : ℕ) → result ≡ Err (Bad (BadEntry number)) → HasBadEntry (D.seen device) number }
+    ensures keeps { IfOk result (λ store. IsMirrorOf (kinds_in store) (D.seen device) store.repo.patches) }
+    ensures untouched { IfOk result (λ store. IsUntouched D.seen D.may_leave D.file_may_leave D.moment D.left_since device store.journal.device) }
+    ensures untouched_err { IfErr result (λ e. IsUntouched D.seen D.may_leave D.file_may_leave D.moment D.left_since device e.1) }
+    ensures fault { IfErr result (λ e. HasMirrorFault (D.seen device) e.0) }
+    ensures failed { IfErr result (λ e. e.0 ≡ Bad (OpeningJournal (OpeningDevice Failed)) → D.faults device < D.faults e.1) }
 {
-    match Store::open(alloc, device) {
-        Ok(store) => match store.hidden() {
-            None => Ok(store),
-            Some(at) => Err(MirrorFault::Hidden(at)),
-        },
-        Err((fault, _)) => Err(MirrorFault::Bad(fault)),
+    let store = match Store::open(alloc, device) {
+        Ok(store) => store,
+        Err((fault, device)) => return Err((MirrorFault::Bad(fault), device)),
+    };
+    match store.hidden() {
+        None => Ok(store),
+        Some(at) => Err((MirrorFault::Hidden(at), store.into_device())),
     }
 }
 
@@ -66,68 +65,78 @@ fn first_mirror<D: Device>(
     device: D,
     start: Repo<Global>,
     kinds: Kinds,
-) -> Result<Store<D>, Unbegun<D>>
+) -> Result<Store<D>, (Unbegun, D)>
     requires durable { IsDurable D.seen D.may_leave D.file_may_leave device }
     requires empty { D.seen device ≡ [] }
     ensures stored { IfOk result (IsStored D.seen D.may_leave D.file_may_leave) }
     ensures kinds { IfOk result (λ store. kinds_in store ≡ kinds) }
     ensures same { IfOk result (λ store. store.repo ≡ start) }
-    ensures unwritten { result ≢ Err IsThere }
-    ensures no_kept { (fault : MirrorFault) → result ≢ Err (Kept fault) }
+    ensures any_moment { IfOk result (λ store. LeavesOnly D.moment D.left_since device store.journal.device (IsOrKeeps kinds [] start.patches)) }
+    ensures is_unwritten { IfErr result (λ e. IsUnwritten e.0) }
+    ensures unwritten { IfErr result (λ e. (error : WriteError) → e.0 ≡ Unwritten error → FailsToBegin D.moment D.left_since D.faults kinds start.patches device e.1 error) }
 {
     match Store::create(alloc, device, start, kinds) {
         Ok(store) => Ok(store),
-        Err((fault, device)) => Err(Unbegun::Unwritten(fault, device)),
+        Err((error, device)) => Err((Unbegun::Unwritten(error), device)),
     }
 }
 
-/// A new mirror of these kinds that begins with this repository. A device that isn't known to be empty gets none, and stays as it is.
-pub fn new_mirror<D: Device + Drop>(
+/// A new mirror of these kinds that begins with this repository. A device that isn't known to be empty gets none, and stays as it
+/// is. At an error the device comes back.
+pub fn new_mirror<D: Device>(
     alloc: Global,
     device: D,
     is_empty: bool,
     start: Repo<Global>,
     kinds: Kinds,
-) -> Result<Store<D>, Unbegun<D>>
+) -> Result<Store<D>, (Unbegun, D)>
     requires durable { IsDurable D.seen D.may_leave D.file_may_leave device }
     requires empty { IsTrue is_empty → D.seen device ≡ [] }
     ensures stored { IfOk result (IsStored D.seen D.may_leave D.file_may_leave) }
     ensures kinds { IfOk result (λ store. kinds_in store ≡ kinds) }
     ensures begun { IfOk result (λ store. (D.seen device ≡ []) × (store.repo ≡ start)) }
-    ensures is_there { result ≡ Err IsThere → (kinds : Kinds) × (repo : List Patch) × KeepsRepo kinds (D.seen device) repo }
-    ensures unusable { (fault : MirrorFault) → result ≡ Err (Kept fault) → IsTrue is_empty → ⊥ }
-    ensures unwritten { (fault : WriteError) (back : D) → result ≡ Err (Unwritten fault back) → IsTrue is_empty }
+    ensures any_moment { IfOk result (λ store. LeavesOnly D.moment D.left_since device store.journal.device (IsOrKeeps kinds [] start.patches)) }
+    ensures in_the_way { IfErr result (λ e. IsInTheWay (D.seen device) e.0) }
+    ensures only_unwritten { IfErr result (λ e. IsTrue is_empty ↔ IsUnwritten e.0) }
+    ensures untouched { IfErr result (λ e. ¬ IsUnwritten e.0 → IsUntouched D.seen D.may_leave D.file_may_leave D.moment D.left_since device e.1) }
+    ensures unwritten { IfErr result (λ e. (error : WriteError) → e.0 ≡ Unwritten error → FailsToBegin D.moment D.left_since D.faults kinds start.patches device e.1 error) }
 {
     if is_empty {
         return first_mirror(alloc, device, start, kinds);
     }
     match kept_mirror(alloc, device) {
-        Ok(_) => Err(Unbegun::IsThere),
-        Err(fault) => Err(Unbegun::Kept(fault)),
+        Ok(store) => Err((Unbegun::IsThere, store.into_device())),
+        Err((fault, device)) => Err((Unbegun::Kept(fault), device)),
     }
 }
 
-/// The mirror that a device keeps, or where that is empty a new one of these kinds, which begins with this repository.
-pub fn kept_or_new_mirror<D: Device + Drop>(
+/// The mirror that a device keeps, or where that is empty a new one of these kinds, which begins with this repository. At an error
+/// the device comes back; it was written only if it was empty.
+pub fn kept_or_new_mirror<D: Device>(
     alloc: Global,
     device: D,
     is_empty: bool,
     start: Repo<Global>,
     kinds: Kinds,
-) -> Result<Store<D>, Unbegun<D>>
+) -> Result<Store<D>, (Unbegun, D)>
     requires durable { IsDurable D.seen D.may_leave D.file_may_leave device }
     requires empty { IsTrue is_empty → D.seen device ≡ [] }
     ensures stored { IfOk result (IsStored D.seen D.may_leave D.file_may_leave) }
-    ensures kept { IfOk result (λ store. KeepsRepo (kinds_in store) (D.seen device) store.repo.patches
+    ensures kept { IfOk result (λ store. IsMirrorOf (kinds_in store) (D.seen device) store.repo.patches
         ⊎ ((D.seen device ≡ []) × (store.repo ≡ start) × (kinds_in store ≡ kinds))) }
-    ensures no_other { result ≢ Err IsThere }
-    ensures unusable { (fault : MirrorFault) → result ≡ Err (Kept fault) → IsTrue is_empty → ⊥ }
-    ensures unwritten { (fault : WriteError) (back : D) → result ≡ Err (Unwritten fault back) → IsTrue is_empty }
+    ensures untouched { IfOk result (λ store. IsTrue is_empty
+        ⊎ IsUntouched D.seen D.may_leave D.file_may_leave D.moment D.left_since device store.journal.device) }
+    ensures any_moment { IfOk result (λ store. LeavesOnly D.moment D.left_since device store.journal.device (IsOrKeeps kinds (D.seen device) start.patches)) }
+    ensures no_other { IfErr result (λ e. e.0 ≢ IsThere) }
+    ensures in_the_way { IfErr result (λ e. IsInTheWay (D.seen device) e.0) }
+    ensures only_unwritten { IfErr result (λ e. IsTrue is_empty ↔ IsUnwritten e.0) }
+    ensures untouched_err { IfErr result (λ e. ¬ IsUnwritten e.0 → IsUntouched D.seen D.may_leave D.file_may_leave D.moment D.left_since device e.1) }
+    ensures unwritten { IfErr result (λ e. (error : WriteError) → e.0 ≡ Unwritten error → FailsToBegin D.moment D.left_since D.faults kinds start.patches device e.1 error) }
 {
     if !is_empty {
         return match kept_mirror(alloc, device) {
             Ok(store) => Ok(store),
-            Err(fault) => Err(Unbegun::Kept(fault)),
+            Err((fault, device)) => Err((Unbegun::Kept(fault), device)),
         };
     }
     first_mirror(alloc, device, start, kinds)

@@ -6,6 +6,12 @@ use Rattle.dm_repo.specs.declared.policy.Policy.{Policy}
 use Rattle.dm_deliver.specs.declared.answers.Answer.{Answer}
 use Rattle.dm_deliver.specs.declared.hash_rule.HashRule.{HashRule}
 use Rattle.dm_deliver.specs.Answering.{AnswersEach, IsAcceptedAnswer}
+use Rattle.dm_commands.specs.Mirrors.{HasMirrorFault, IsInTheWay}
+use Rattle.dm_commands.specs.declared.mirror.MirrorFault.TheVariants.{Bad}
+use Rattle.dm_commands.specs.declared.mirror.MirrorFault.TheVariants.{Hidden as Hiding}
+use Rattle.dm_commands.specs.declared.mirror.Unbegun.TheVariants.{IsThere}
+use Rattle.dm_files.specs.declared.word_fault.WordFault.{WordFault}
+use Rattle.dm_files.specs.declared.word_fault.WordFault.TheVariants.{BadMirror, Hidden, MirrorIsThere, Unwritten, Failed, Unsynced}
 use Rattle.dm_files.specs.declared.delivering.Stop.{Stop}
 use Rattle.dm_files.specs.declared.delivering.Stop.TheVariants.{Mirror, Beside}
 
@@ -24,3 +30,13 @@ AnyTexts texts = Unit {0}
 abbrev pub MayGoOn : Stop → Type 0
 MayGoOn (Mirror why) = ⊥
 MayGoOn (Beside why) = Unit {0}
+
+-- the fault tells what is in a mirror's file, or that it can't be written, and nothing else
+abbrev pub TellsOf : List ℕ → WordFault → Type 0
+TellsOf file (BadMirror name fault) = HasMirrorFault file (Bad fault)
+TellsOf file (Hidden name at) = HasMirrorFault file (Hiding at)
+TellsOf file (MirrorIsThere name) = IsInTheWay file IsThere
+TellsOf file (Unwritten name error) = Unit {0}
+TellsOf file (Failed name error) = Unit {0}
+TellsOf file (Unsynced name error) = Unit {0}
+TellsOf file other = ⊥

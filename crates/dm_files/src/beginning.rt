@@ -1,10 +1,12 @@
 //! How a mirror begins: `dm init`, and `dm apply --mirror` where there is none yet.
-ghost use Rattle.std.specs.Prelude.{◌≡◌, ◌⊎◌, [], IfOk};
-ghost use Rattle.dm_disk.specs.States.{seen, may_leave, file_may_leave};
-ghost use Rattle.dm_journal.specs.Device.{IsDurable};
-ghost use Rattle.dm_store.specs.Keeping.{IsStored, KeepsRepo};
+ghost use Rattle.std.specs.Prelude.{◌≡◌, ◌⊎◌, ℕ, List, [], length, IfErr, IfOk};
+ghost use Rattle.dm_disk.specs.States.{seen, may_leave, file_may_leave, left_since};
+ghost use Rattle.dm_journal.specs.Device.{IsDurable, LeavesOnly};
+ghost use Rattle.dm_store.specs.Keeping.{IsOrKeeps, IsStored};
 ghost use Rattle.dm_store.specs.Kinds.{kinds_in};
 ghost use Rattle.dm_named.specs.declared.limits.Kinds.TheVariants.{Six};
+ghost use Rattle.dm_commands.specs.Mirrors.{IsInTheWay, IsMirrorOf};
+ghost use Rattle.dm_files.specs.Mirrors.{TellsOf};
 
 use crate::base_tag::say_begun;
 use crate::files::{BaseFile, base_of, read_base};
@@ -72,11 +74,13 @@ fn read_start<'a>(
 }
 
 /// Why no mirror began in the file at a path, with what the system said.
-fn of_unbegun<'a>(path: &'a str, fault: Unbegun<DiskFile>) -> WordFault<'a> {
+fn of_unbegun<'a>(path: &'a str, fault: Unbegun, file: &DiskFile) -> WordFault<'a>
+    ensures { (bytes : List ℕ) → IsInTheWay bytes fault → TellsOf bytes result }
+{
     match fault {
         Unbegun::Kept(fault) => of_kept(path, fault),
         Unbegun::IsThere => WordFault::MirrorIsThere(path),
-        Unbegun::Unwritten(fault, file) => blame(WordFault::Unwritten(path, fault), &file),
+        Unbegun::Unwritten(fault) => blame(WordFault::Unwritten(path, fault), file),
     }
 }
 
@@ -89,13 +93,15 @@ fn store_of<'a>(
 ) -> Result<Store<DiskFile>, WordFault<'a>>
     requires { IsDurable seen may_leave file_may_leave file }
     ensures stored { IfOk result (IsStored seen may_leave file_may_leave) }
-    ensures kept { IfOk result (λ store. KeepsRepo (kinds_in store) (seen file) store.repo.patches
+    ensures kept { IfOk result (λ store. IsMirrorOf (kinds_in store) (seen file) store.repo.patches
         ⊎ ((seen file ≡ []) × (store.repo ≡ start) × (kinds_in store ≡ Six))) }
+    ensures any_moment { IfOk result (λ store. LeavesOnly length left_since file store.journal.device (IsOrKeeps Six (seen file) start.patches)) }
+    ensures tells { IfErr result (TellsOf (seen file)) }
 {
     let is_empty = file.is_empty();
     match kept_or_new_mirror(rt.alloc(), file, is_empty, start, Kinds::Six) {
         Ok(store) => Ok(store),
-        Err(fault) => Err(of_unbegun(path, fault)),
+        Err((fault, file)) => Err(of_unbegun(path, fault, &file)),
     }
 }
 
@@ -197,11 +203,13 @@ fn begin_store<'a>(
     ensures stored { IfOk result (IsStored seen may_leave file_may_leave) }
     ensures kinds { IfOk result (λ store. kinds_in store ≡ kinds) }
     ensures begun { IfOk result (λ store. (seen file ≡ []) × (store.repo ≡ start)) }
+    ensures any_moment { IfOk result (λ store. LeavesOnly length left_since file store.journal.device (IsOrKeeps kinds [] start.patches)) }
+    ensures tells { IfErr result (TellsOf (seen file)) }
 {
     let is_empty = file.is_empty();
     match new_mirror(rt.alloc(), file, is_empty, start, kinds) {
         Ok(store) => Ok(store),
-        Err(fault) => Err(of_unbegun(path, fault)),
+        Err((fault, file)) => Err(of_unbegun(path, fault, &file)),
     }
 }
 

@@ -1,10 +1,12 @@
 //! The file of a mirror: how it is opened, and what is told where it isn't.
-ghost use Rattle.std.specs.Prelude.{ℕ, IfOk, IfSome, OnOk};
+ghost use Rattle.std.specs.Prelude.{ℕ, List, IfErr, IfOk, IfSome};
 ghost use Rattle.dm_disk.specs.States.{seen, may_leave, file_may_leave};
 ghost use Rattle.dm_journal.specs.Device.{IsDurable};
-ghost use Rattle.dm_journal.specs.Hidden.{Hides};
-ghost use Rattle.dm_store.specs.Keeping.{IsStored, KeepsRepo};
+ghost use Rattle.dm_journal.specs.Ready.{IsUntouched};
+ghost use Rattle.dm_store.specs.Keeping.{IsStored};
 ghost use Rattle.dm_store.specs.Kinds.{kinds_in};
+ghost use Rattle.dm_commands.specs.Mirrors.{HasMirrorFault, IsMirrorOf};
+ghost use Rattle.dm_files.specs.Mirrors.{TellsOf};
 
 use crate::word_fault::WordFault;
 use clap::ArgMatches;
@@ -59,7 +61,9 @@ pub fn open_file<'a>(
 }
 
 /// Why the file at a path isn't the mirror that was asked for.
-pub fn of_kept<'a>(path: &'a str, fault: MirrorFault) -> WordFault<'a> {
+pub fn of_kept<'a>(path: &'a str, fault: MirrorFault) -> WordFault<'a>
+    ensures { (file : List ℕ) → HasMirrorFault file fault → TellsOf file result }
+{
     match fault {
         MirrorFault::Bad(fault) => WordFault::BadMirror(path, fault),
         MirrorFault::Hidden(at) => WordFault::Hidden(path, at),
@@ -74,12 +78,13 @@ pub fn open_store<'a, D: Device + Drop>(
 ) -> Result<Store<D>, WordFault<'a>>
     requires { IsDurable D.seen D.may_leave D.file_may_leave device }
     ensures stored { IfOk result (IsStored D.seen D.may_leave D.file_may_leave) }
-    ensures keeps { IfOk result (λ store. KeepsRepo (kinds_in store) (D.seen device) store.repo.patches) }
-    ensures hides_none { OnOk result ((at : ℕ) → ¬ Hides (D.seen device) at) }
+    ensures keeps { IfOk result (λ store. IsMirrorOf (kinds_in store) (D.seen device) store.repo.patches) }
+    ensures untouched { IfOk result (λ store. IsUntouched D.seen D.may_leave D.file_may_leave D.moment D.left_since device store.journal.device) }
+    ensures tells { IfErr result (TellsOf (D.seen device)) }
 {
     match kept_mirror(rt.alloc(), device) {
         Ok(store) => Ok(store),
-        Err(fault) => Err(of_kept(path, fault)),
+        Err((fault, _)) => Err(of_kept(path, fault)),
     }
 }
 
@@ -124,7 +129,9 @@ pub fn find_file<'a>(
 }
 
 /// Tells what the system said, where a file could not be written.
-pub fn blame<'a>(fault: WordFault<'a>, file: &DiskFile) -> WordFault<'a> {
+pub fn blame<'a>(fault: WordFault<'a>, file: &DiskFile) -> WordFault<'a>
+    ensures { (bytes : List ℕ) → TellsOf bytes fault.entry → TellsOf bytes result }
+{
     match (fault, file.error()) {
         (WordFault::Unwritten(path, _), Some(error)) if file.failed_to_sync() => {
             WordFault::Unsynced(path, error)
