@@ -12,7 +12,7 @@ use Rattle.std.specs.Char.{encode_utf8, is_ascii_digit}
 use Rattle.std.specs.Str.{all_scalars, chars, is_utf8}
 use Rattle.dm_info.specs.PatchInfo.{PatchInfo}
 use Rattle.dm_log.specs.Shown.{digits, escape, is_command, is_turn, shown, shown_byte, shown_char}
-use Rattle.dm_log.specs.Dates.{date_text, is_day, is_moment, is_time, moment_text, part}
+use Rattle.dm_log.specs.Dates.{date_text, day_text, is_day, is_moment, is_time, moment_text, part, time_text}
 use Rattle.dm_log.specs.Entries.{begins, entry_text, labelled, line_text, patch_hash, title}
 use Rattle.dm_log.specs.Choices.{chosen, long_entry}
 use Rattle.dm_log.specs.Plain.{EntriesArePlain, IsPlain, LogsArePlain, is_plain}
@@ -149,11 +149,18 @@ module _ (d : List ℕ) (e : list_all is_ascii_digit d ≡ true) where
   from : (i j : ℕ) → IsPlain (part d i j)
   from i j = plain_part (drop i d) (digits_on d e i) (j - i)
 
+  plain_day : IsPlain (day_text d)
+  plain_day =
+      plain_append _ (codes " ") (plain_append _ (part d 6 8) (plain_append _ (codes "-") (plain_append _ (part d 4 6) (plain_append (part d 0 4) (codes "-") (from 0 4) (plain_bytes (codes "-") refl)) (from 4 6))
+      (plain_bytes (codes "-") refl)) (from 6 8)) (plain_bytes (codes " ") refl)
+
+  plain_time : IsPlain (time_text d)
+  plain_time =
+      plain_append _ (codes " UTC") (plain_append _ (part d 12 14) (plain_append _ (codes ":") (plain_append _ (part d 10 12) (plain_append (part d 8 10) (codes ":") (from 8 10) (plain_bytes (codes ":") refl)) (from 10 12))
+      (plain_bytes (codes ":") refl)) (from 12 14)) (plain_bytes (codes " UTC") refl)
+
   plain_moment : IsPlain (moment_text d)
-  plain_moment =
-      plain_append _ (codes " UTC") (plain_append _ (part d 12 14) (plain_append _ (codes ":") (plain_append _ (part d 10 12) (plain_append _ (codes ":") (plain_append _ (part d 8 10)
-      (plain_append _ (codes " ") (plain_append _ (part d 6 8) (plain_append _ (codes "-") (plain_append _ (part d 4 6) (plain_append (part d 0 4) (codes "-") (from 0 4) (plain_bytes (codes "-") refl)) (from 4 6))
-      (plain_bytes (codes "-") refl)) (from 6 8)) (plain_bytes (codes " ") refl)) (from 8 10)) (plain_bytes (codes ":") refl)) (from 10 12)) (plain_bytes (codes ":") refl)) (from 12 14)) (plain_bytes (codes " UTC") refl)
+  plain_moment = plain_append (day_text d) (time_text d) plain_day plain_time
 
 plain_date : (d : List ℕ) → IsPlain (date_text d)
 plain_date d =

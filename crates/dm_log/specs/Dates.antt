@@ -36,11 +36,17 @@ is_moment d = (length d == 14) && (list_all is_ascii_digit d && (is_day d && is_
 abbrev pub part : List ℕ → ℕ → ℕ → List ℕ
 part d i j = take (j - i) (drop i d)
 
--- year, month, day, hour, minute and second, in UTC
+-- year, month and day
+abbrev pub day_text : List ℕ → List ℕ
+day_text d = part d 0 4 ++ codes "-" ++ part d 4 6 ++ codes "-" ++ part d 6 8 ++ codes " "
+
+-- hour, minute and second, in UTC
+abbrev pub time_text : List ℕ → List ℕ
+time_text d = part d 8 10 ++ codes ":" ++ part d 10 12 ++ codes ":" ++ part d 12 14 ++ codes " UTC"
+
+-- a date and a time in UTC
 abbrev pub moment_text : List ℕ → List ℕ
-moment_text d =
-    part d 0 4 ++ codes "-" ++ part d 4 6 ++ codes "-" ++ part d 6 8 ++ codes " "
-    ++ part d 8 10 ++ codes ":" ++ part d 10 12 ++ codes ":" ++ part d 12 14 ++ codes " UTC"
+moment_text d = day_text d ++ time_text d
 
 -- a date and a time in UTC, or what stands in place of one
 abbrev pub date_text : List ℕ → List ℕ

@@ -1,8 +1,8 @@
 //! How the date of a patch is shown.
-ghost use Rattle.std.specs.Prelude.{◌≡◌, ◌↔◌, ◌+◌, ◌<◌, ◌++◌, length, IsTrue, OnOk, slice_index};
+ghost use Rattle.std.specs.Prelude.{◌≡◌, ◌↔◌, ◌+◌, ◌<◌, [], ◌∷◌, ◌++◌, length, IsTrue, OnOk, slice_index};
 ghost use Rattle.std.specs.List.{All, list_all};
 ghost use Rattle.std.specs.Char.{IsAsciiDigit, is_ascii_digit};
-ghost use Rattle.dm_log.specs.Dates.{date_text, days_of, is_day, is_leap, is_moment, is_time, moment_text, two_digits};
+ghost use Rattle.dm_log.specs.Dates.{date_text, day_text, days_of, is_day, is_leap, is_moment, is_time, moment_text, time_text, two_digits};
 
 use crate::shown::push_shown;
 use std::alloc::{AllocError, Allocator};
@@ -74,22 +74,41 @@ fn is_moment(date: &[u8]) -> bool
     is_day(date) && is_time(date)
 }
 
+/// Appends a part of a moment, and the mark behind it.
+fn push_part<A: Allocator>(digits: &[u8], mark: u8, out: &mut Vec<u8, A>) -> Result<(), AllocError>
+    ensures { OnOk result (out.new.items ≡ out.old.items ++ (digits.now ++ (mark ∷ []))) }
+{
+    out.extend_from_slice(digits)?;
+    out.push(mark)?;
+    Ok(())
+}
+
+fn push_day<A: Allocator>(date: &[u8], out: &mut Vec<u8, A>) -> Result<(), AllocError>
+    requires { length date.now ≡ 14 }
+    ensures { OnOk result (out.new.items ≡ out.old.items ++ day_text date.now) }
+{
+    push_part(&date[..4], b'-', out)?;
+    push_part(&date[4..6], b'-', out)?;
+    push_part(&date[6..8], b' ', out)
+}
+
+fn push_time<A: Allocator>(date: &[u8], out: &mut Vec<u8, A>) -> Result<(), AllocError>
+    requires { length date.now ≡ 14 }
+    ensures { OnOk result (out.new.items ≡ out.old.items ++ time_text date.now) }
+{
+    push_part(&date[8..10], b':', out)?;
+    push_part(&date[10..12], b':', out)?;
+    out.extend_from_slice(&date[12..14])?;
+    out.extend_from_slice(b" UTC")?;
+    Ok(())
+}
+
 fn push_moment<A: Allocator>(date: &[u8], out: &mut Vec<u8, A>) -> Result<(), AllocError>
     requires { length date.now ≡ 14 }
     ensures { OnOk result (out.new.items ≡ out.old.items ++ moment_text date.now) }
 {
-    out.extend_from_slice(&date[..4])?;
-    out.push(b'-')?;
-    out.extend_from_slice(&date[4..6])?;
-    out.push(b'-')?;
-    out.extend_from_slice(&date[6..8])?;
-    out.push(b' ')?;
-    out.extend_from_slice(&date[8..10])?;
-    out.push(b':')?;
-    out.extend_from_slice(&date[10..12])?;
-    out.push(b':')?;
-    out.extend_from_slice(&date[12..14])?;
-    out.extend_from_slice(b" UTC")?;
+    push_day(date, out)?;
+    push_time(date, out)?;
     Ok(())
 }
 

@@ -21,7 +21,9 @@ pub fn repository<'a>(alloc: Global) -> Result<Arg<'a>, AllocError>
     ensures name { IfOk result (λ arg. IsNamed arg (codes "repository")) }
     ensures excludes { IfOk result (λ arg. Excludes arg (codes "base")) }
 {
-    file(alloc, "repository", help::REPOSITORY).conflicts_with("base")
+    let bare = file(alloc, "repository", help::REPOSITORY);
+    let alone = bare.conflicts_with("base")?;
+    Ok(alone)
 }
 
 /// The word that asks for a bundle.
@@ -154,9 +156,9 @@ pub fn stream<'a>(alloc: Global) -> Result<Arg<'a>, AllocError>
     ensures wants { IfOk result (λ arg. Wants arg (codes "mirror")) }
     ensures excludes { IfOk result (λ arg. Excludes arg (codes "bundles")) }
 {
-    let alone = flag(alloc, "stream", help::STREAM);
-    let arg = alone.conflicts_with("bundles")?;
-    let arg = arg.requires_arg("mirror")?;
+    let bare = flag(alloc, "stream", help::STREAM);
+    let alone = bare.conflicts_with("bundles")?;
+    let arg = alone.requires_arg("mirror")?;
     Ok(arg)
 }
 
@@ -243,9 +245,9 @@ fn names_beside_repository<'a>(alloc: Global) -> Result<Arg<'a>, AllocError>
     ensures wants { IfOk result (λ arg. Wants arg (codes "folder")) }
     ensures excludes { IfOk result (λ arg. Excludes arg (codes "base")) }
 {
-    let alone = text(alloc, "names", "NAMES", help::NAMES);
-    let arg = alone.conflicts_with("base")?;
-    let arg = arg.requires_arg("folder")?;
+    let bare = text(alloc, "names", "NAMES", help::NAMES);
+    let alone = bare.conflicts_with("base")?;
+    let arg = alone.requires_arg("folder")?;
     Ok(arg)
 }
 
@@ -254,7 +256,9 @@ pub fn skip_special<'a>(alloc: Global) -> Result<Arg<'a>, AllocError>
     ensures name { IfOk result (λ arg. IsNamed arg (codes "skip-special")) }
     ensures wants { IfOk result (λ arg. Wants arg (codes "names")) }
 {
-    flag(alloc, "skip-special", help::SKIP_SPECIAL).requires_arg("names")
+    let bare = flag(alloc, "skip-special", help::SKIP_SPECIAL);
+    let arg = bare.requires_arg("names")?;
+    Ok(arg)
 }
 
 /// A word that stands for itself, by its place.
@@ -278,9 +282,9 @@ fn folder_beside_repository<'a>(alloc: Global) -> Result<Arg<'a>, AllocError>
     ensures wants { IfOk result (λ arg. Wants arg (codes "names")) }
     ensures excludes { IfOk result (λ arg. Excludes arg (codes "base")) }
 {
-    let alone = place(alloc, "folder", "FOLDER", help::FOLDER);
-    let arg = alone.conflicts_with("base")?;
-    let arg = arg.requires_arg("names")?;
+    let bare = place(alloc, "folder", "FOLDER", help::FOLDER);
+    let alone = bare.conflicts_with("base")?;
+    let arg = alone.requires_arg("names")?;
     Ok(arg)
 }
 

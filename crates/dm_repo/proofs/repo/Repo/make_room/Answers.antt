@@ -1,6 +1,3 @@
-use Rattle.std.proofs.Common.{refl, ap, ◌∙◌}
-use Rattle.std.proofs.lemmas.Result.{err_from_is_err_and}
-use Rattle.dm_repo.specs.Repositories.{Repository}
 use Rattle.dm_repo.proofs.repo.Repo.make_room.Goals as goal
 
 pub invariant_of-self : goal.invariant_of-self

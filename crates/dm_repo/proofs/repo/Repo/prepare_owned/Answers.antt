@@ -1,1 +1,0 @@
-use Rattle.dm_repo.proofs.repo.Repo.prepare_owned.Goals as goal
