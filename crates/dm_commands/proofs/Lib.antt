@@ -1,6 +1,7 @@
 pub mod CheckLemmas
 pub mod AnswerLemmas
 pub mod RunLemmas
+pub mod AlikeLemmas
 pub mod SendLemmas
 pub mod TakenOut
 pub mod BeginLemmas

@@ -3,6 +3,7 @@ pub mod Printing
 pub mod Checking
 pub mod Applying
 pub mod Running
+pub mod Alike
 pub mod Naming
 pub mod Sending
 pub mod Obliterating

@@ -31,7 +31,7 @@ HasMirrorFault file (Bad (Journal (File fault))) = HasFault file fault
 HasMirrorFault file (Bad (Journal (Device error))) = Unit {0}
 HasMirrorFault file (Bad NoMemory) = Unit {0}
 
--- the file has a mirror, or the fault, for which none was begun. A failed write tells nothing of it
+-- what stands where a mirror was to begin: a mirror, or what the fault tells. A failed write tells nothing of the file
 abbrev pub IsInTheWay : List ℕ → Unbegun → Type 0
 IsInTheWay file IsThere = (kinds : Kinds) × (repo : List Patch) × IsMirrorOf kinds file repo
 IsInTheWay file (Kept fault) = HasMirrorFault file fault

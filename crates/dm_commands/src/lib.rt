@@ -14,6 +14,7 @@
 //! `dm log --context` prints of it.
 #![tactic(auto)]
 
+mod alike;
 mod apply;
 mod base;
 mod beginning;
@@ -30,6 +31,7 @@ mod status;
 mod streams;
 mod tag;
 
+pub use alike::{Mirrors, run_mirrors};
 pub use apply::{Applied, apply_in, apply_over};
 pub use base::{Base, repo_of, repo_of_base};
 pub use beginning::{StartFault, repo_at_tag};

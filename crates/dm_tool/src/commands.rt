@@ -201,6 +201,72 @@ fn say_why<R: Runtime + AllocGlobal>(rt: &R, error: &Error) -> u8 {
     if error.use_stderr() { NO_ANSWER } else { 0 }
 }
 
+/// A command of the program.
+#[derive(Clone, Copy)]
+enum Command {
+    Apply,
+    Check,
+    Checkout,
+    Init,
+    Log,
+    Obliterate,
+    Rollback,
+    Run,
+    Send,
+}
+
+impl Command {
+    /// The command of this name.
+    fn of_name(name: &str) -> Option<Command> {
+        match name {
+            "apply" => Some(Command::Apply),
+            "check" => Some(Command::Check),
+            "checkout" => Some(Command::Checkout),
+            "init" => Some(Command::Init),
+            "log" => Some(Command::Log),
+            "obliterate" => Some(Command::Obliterate),
+            "rollback" => Some(Command::Rollback),
+            "run" => Some(Command::Run),
+            "send" => Some(Command::Send),
+            _ => None,
+        }
+    }
+
+    /// How the command says why there is no answer.
+    fn manner(self, words: &ArgMatches<'_>) -> Manner {
+        match self {
+            Command::Apply if words.get_str("mirror").is_none() => fixed_manner(words),
+            Command::Check | Command::Run => fixed_manner(words),
+            _ => Manner::Full,
+        }
+    }
+}
+
+/// Runs a command, and returns its exit status where it gives an answer.
+fn answer<'a, R: Runtime + AllocGlobal + Threads + Wait + Sync>(
+    rt: &R,
+    host: &HostRuntime,
+    is_terminal: bool,
+    command: Command,
+    words: &ArgMatches<'a>,
+) -> Result<u8, WordFault<'a>> {
+    let colour = colour_of(rt, is_terminal);
+    match command {
+        Command::Apply => match words.get_str("mirror") {
+            Some(path) => apply_to_mirror(host, colour, words, path, is_terminal),
+            None => apply(host, colour, words),
+        },
+        Command::Check => check(host, colour, words),
+        Command::Checkout => check_out(host, words, is_terminal),
+        Command::Init => init(host, colour, words, is_terminal),
+        Command::Log => log(host, words, is_terminal),
+        Command::Obliterate => obliterate_chosen(host, colour, words, is_terminal),
+        Command::Rollback => undo_chosen(host, words, is_terminal),
+        Command::Run => run_plan(rt, host, colour, words),
+        Command::Send => send(host, colour, words, is_terminal),
+    }
+}
+
 /// Runs the command that was named, and returns the exit status.
 fn start<R: Runtime + AllocGlobal + Threads + Wait + Sync>(
     rt: &R,
@@ -208,37 +274,14 @@ fn start<R: Runtime + AllocGlobal + Threads + Wait + Sync>(
     is_terminal: bool,
     matches: &ArgMatches<'_>,
 ) -> u8 {
-    let colour = colour_of(rt, is_terminal);
-    let full = Manner::Full;
-    match matches.subcommand() {
-        Some(("apply", words)) => match words.get_str("mirror") {
-            Some(path) => exit_status(
-                rt,
-                full,
-                apply_to_mirror(host, colour, words, path, is_terminal),
-            ),
-            None => exit_status(rt, fixed_manner(words), apply(host, colour, words)),
-        },
-        Some(("check", words)) => {
-            exit_status(rt, fixed_manner(words), check(host, colour, words))
-        }
-        Some(("checkout", words)) => exit_status(rt, full, check_out(host, words, is_terminal)),
-        Some(("init", words)) => exit_status(rt, full, init(host, colour, words, is_terminal)),
-        Some(("log", words)) => exit_status(rt, full, log(host, words, is_terminal)),
-        Some(("obliterate", words)) => exit_status(
-            rt,
-            full,
-            obliterate_chosen(host, colour, words, is_terminal),
-        ),
-        Some(("rollback", words)) => {
-            exit_status(rt, full, undo_chosen(host, words, is_terminal))
-        }
-        Some(("run", words)) => {
-            exit_status(rt, fixed_manner(words), run_plan(rt, host, colour, words))
-        }
-        Some(("send", words)) => exit_status(rt, full, send(host, colour, words, is_terminal)),
-        _ => NO_ANSWER,
-    }
+    let Some((name, words)) = matches.subcommand() else {
+        return NO_ANSWER;
+    };
+    let Some(command) = Command::of_name(name) else {
+        return NO_ANSWER;
+    };
+    let answered = answer(rt, host, is_terminal, command, words);
+    exit_status(rt, command.manner(words), answered)
 }
 
 /// Runs the command that these words name, and returns the exit status.

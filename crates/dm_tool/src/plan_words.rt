@@ -1,19 +1,12 @@
 //! The words of `dm run`, and what they start.
-ghost use Rattle.std.specs.Prelude.{◌≡◌, ◌⊎◌, IfErr, IfOk};
-ghost use Rattle.dm_mirror.specs.declared.plan.PlanFault.{PlanFault};
-ghost use Rattle.dm_tool.specs.Runs.{HasFaultAs, IsRanAs};
-ghost use Rattle.dm_commands.specs.declared.fault.ToolFault.TheVariants as ToolFault;
-ghost use Rattle.dm_commands.specs.Running.{texts_in};
-
 use clap::ArgMatches;
-use dm_commands::{Base, Bases, Ran, ToolFault, run_over};
+use dm_commands::{Base, Mirrors, ToolFault, run_mirrors};
 use dm_files::{
     BaseFile, Manner, NO_ANSWER, WordFault, fixed_manner, policy_of, read_base, read_file, tell,
 };
 use dm_mirror::PlanFault;
 use dm_named::Limits;
 use dm_remarks::{Colour, Reading, explain_agreement, explain_base, explain_run};
-use dm_repo::Policy;
 use dm_scratch::Verdict;
 use indexmap::IndexMap;
 use memchr::memchr;
@@ -22,22 +15,6 @@ use std::io;
 use std::rt::Runtime;
 use std::sync::Wait;
 use std::thread::Threads;
-
-/// The most bases that are handed in, one more than any plan takes.
-const MOST_BASES: u32 = 9;
-
-/// The mirrors of a run, as the words ask for them.
-#[derive(Clone, Copy, Debug)]
-pub struct Mirrors<'a> {
-    /// What each begins with.
-    pub base: Base<'a>,
-    /// What each does with patches that conflict.
-    pub policy: Policy,
-    /// How many there are.
-    pub count: u32,
-    /// How many mails may wait at each.
-    pub bound: u32,
-}
 
 /// Posters in the order in which they were first named, each with its texts.
 type Posters<'a> = IndexMap<&'a str, Vec<Vec<u8>>>;
@@ -114,31 +91,6 @@ fn named_lists<'n, 'l, 't>(
     Ok(named)
 }
 
-/// Runs the plan of these posters and of the mirrors that the words ask for, but at most one more than any plan takes.
-fn run_named<R: Runtime + AllocGlobal + Threads + Wait + Sync>(
-    rt: &R,
-    posters: &[(&str, &[&[u8]])],
-    mirrors: Mirrors<'_>,
-) -> Result<Ran, ToolFault>
-    ensures told { IfOk result (IsRanAs (texts_in posters.now) mirrors.entry) }
-    ensures bad_plan { IfErr result (λ e. (fault : PlanFault) → e ≡ ToolFault.BadPlan fault → HasFaultAs (texts_in posters.now) mirrors.entry fault) }
-    ensures fault { IfErr result (λ e. ((fault : PlanFault) × (e ≡ ToolFault.BadPlan fault))
-        ⊎ ((e ≡ ToolFault.NoThread) ⊎ ((e ≡ ToolFault.NoMemory) ⊎ (e ≡ ToolFault.Write)))) }
-{
-    let alloc = rt.alloc();
-    let base = mirrors.base;
-    let count = mirrors.count.min(MOST_BASES) as usize;
-    let texts = vec![in alloc; base.text; count]?;
-    let policies = vec![in alloc; mirrors.policy; count]?;
-    let bases = Bases {
-        texts: &texts,
-        limits: base.limits,
-    };
-    let bound = mirrors.bound as usize;
-    let mut writer = io::writer(rt);
-    run_over(rt, alloc, posters, bases, &policies, bound, &mut writer)
-}
-
 /// Runs the plan of these posters, each with its texts, and of these mirrors, and explains what it left where that is asked
 /// for. Returns the exit status.
 fn run_texts<'a, R: Runtime + AllocGlobal + Threads + Wait + Sync>(
@@ -150,7 +102,7 @@ fn run_texts<'a, R: Runtime + AllocGlobal + Threads + Wait + Sync>(
     let alloc = rt.alloc();
     let lists = lists_of(alloc, posters)?;
     let named = named_lists(alloc, &lists)?;
-    let ran = run_named(rt, &named, mirrors)?;
+    let ran = run_mirrors(rt, alloc, &named, mirrors, &mut io::writer(rt))?;
     if let Some(colour) = explained {
         let base = mirrors.base;
         explain_run(rt, colour, &ran.outcome, taken(base), mirrors.policy);

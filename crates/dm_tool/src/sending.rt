@@ -2,8 +2,8 @@
 use clap::ArgMatches;
 use dm_commands::{Base, Sent, ToolFault, repo_of, send_over};
 use dm_files::{
-    Manner, NO_ANSWER, WordFault, base_of, kinds_of, read_base, read_file, read_repo, refuse_kinds,
-    tell,
+    Manner, NO_ANSWER, NamesFault, WordFault, base_of, kinds_of, read_base, read_file, read_repo,
+    refuse_kinds, tell,
 };
 use dm_named::Limits;
 use dm_remarks::{Colour, Reading, explain_base, explain_theirs};
@@ -75,7 +75,11 @@ fn send_from<'a>(
         }
         Err(ToolFault::BadNames(fault)) => {
             let name = words.get_str("to").unwrap_or("");
-            tell(rt, Manner::Full, WordFault::BadNames(name, fault));
+            tell(
+                rt,
+                Manner::Full,
+                WordFault::Names(NamesFault::BadNames(name, fault)),
+            );
             if let (true, Some(text)) = (words.get_flag("explain"), &file) {
                 explain_theirs(rt, colour, reading, text, fault);
             }
