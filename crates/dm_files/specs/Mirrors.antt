@@ -31,6 +31,12 @@ abbrev pub MayGoOn : Stop → Type 0
 MayGoOn (Mirror why) = ⊥
 MayGoOn (Beside why) = Unit {0}
 
+-- the fault tells why the file isn't opened as a mirror, and nothing else
+abbrev pub TellsUnkept : List ℕ → WordFault → Type 0
+TellsUnkept file (BadMirror name fault) = HasMirrorFault file (Bad fault)
+TellsUnkept file (Hidden name at) = HasMirrorFault file (Hiding at)
+TellsUnkept file other = ⊥
+
 -- the fault tells what is in a mirror's file, or that it can't be written, and nothing else
 abbrev pub TellsOf : List ℕ → WordFault → Type 0
 TellsOf file (BadMirror name fault) = HasMirrorFault file (Bad fault)

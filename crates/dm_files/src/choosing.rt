@@ -6,6 +6,7 @@ ghost use Rattle.dm_log.specs.declared.finding.Found.{Found as FoundOne};
 ghost use Rattle.dm_files.specs.Choosing.{ChoiceFails, Chooses};
 ghost use Rattle.dm_files.specs.declared.choosing.Unchosen.TheVariants.{NoMemory, Word};
 
+use crate::take_back_fault::TakeBackFault;
 use crate::word_fault::WordFault;
 use clap::ArgMatches;
 use dm_commands::ToolFault;
@@ -86,10 +87,10 @@ fn refuse_choice<'a>(
         Unchosen::NoMemory => return Ok(WordFault::Tool(ToolFault::NoMemory)),
     };
     let Found::Several(first, second) = found else {
-        return Ok(WordFault::UnknownPatch(word));
+        return Ok(WordFault::TakeBack(TakeBackFault::UnknownPatch(word)));
     };
     if first >= repo.len() || second >= repo.len() {
-        return Ok(WordFault::UnknownPatch(word));
+        return Ok(WordFault::TakeBack(TakeBackFault::UnknownPatch(word)));
     }
     let first = label_of(rt.alloc(), repo.patch(first).info())?;
     let second = label_of(rt.alloc(), repo.patch(second).info())?;

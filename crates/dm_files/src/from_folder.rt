@@ -1,5 +1,6 @@
 //! How a mirror begins at a tag: with the names of a file, and the tree of a folder.
 use crate::files::read_file;
+use crate::names_fault::NamesFault;
 use crate::word_fault::WordFault;
 use clap::ArgMatches;
 use dm_begin::BeginFault;
@@ -20,7 +21,7 @@ fn read_covered<'a>(rt: &HostRuntime, name: &'a str) -> Result<Vec<Info<Global>>
     let text = read_file(rt, name, limits)?;
     if let Ok(bundle) = read_bundle_within(rt.alloc(), &text, limits) {
         if bundle.new_patches().len() > 1 {
-            return Err(WordFault::NoContext(name));
+            return Err(WordFault::Names(NamesFault::NoContext(name)));
         }
     }
     match read_names(rt.alloc(), &text, limits) {
@@ -29,7 +30,7 @@ fn read_covered<'a>(rt: &HostRuntime, name: &'a str) -> Result<Vec<Info<Global>>
             Ok(names)
         }
         Err(fault) => match ToolFault::of_names(fault) {
-            ToolFault::BadNames(fault) => Err(WordFault::BadNames(name, fault)),
+            ToolFault::BadNames(fault) => Err(WordFault::Names(NamesFault::BadNames(name, fault))),
             fault => Err(WordFault::Tool(fault)),
         },
     }
@@ -75,14 +76,14 @@ fn refuse_start<'a>(
     fault: StartFault,
 ) -> WordFault<'a> {
     match fault {
-        StartFault::NoTag => WordFault::NoTag(name),
-        StartFault::NoEntry => WordFault::EmptyFolder(folder),
+        StartFault::NoTag => WordFault::Names(NamesFault::NoTag(name)),
+        StartFault::NoEntry => WordFault::Names(NamesFault::EmptyFolder(folder)),
         StartFault::Beginning(BeginFault::NoMemory) => WordFault::Tool(ToolFault::NoMemory),
         // The file tells the newest first, and is counted from 1.
         StartFault::Beginning(BeginFault::NameTwice(place)) => {
-            WordFault::NameTwice(name, count.saturating_sub(place))
+            WordFault::Names(NamesFault::NameTwice(name, count.saturating_sub(place)))
         }
-        StartFault::Beginning(fault) => WordFault::NoBeginning(name, fault),
+        StartFault::Beginning(fault) => WordFault::Names(NamesFault::NoBeginning(name, fault)),
     }
 }
 

@@ -7,6 +7,15 @@ use std::io::{self, Read};
 /// The name of standard input.
 pub const INPUT: &str = "-";
 
+/// The name of a file for a reader.
+pub(crate) fn said<'a>(name: &'a str) -> &'a str {
+    if name == INPUT {
+        "standard input"
+    } else {
+        name
+    }
+}
+
 /// What the file of a mirror begins with, in each version (`dm_journal`).
 const MIRROR: [u8; 11] = *b"dm journal ";
 

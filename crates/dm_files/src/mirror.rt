@@ -6,7 +6,7 @@ ghost use Rattle.dm_journal.specs.Ready.{IsUntouched};
 ghost use Rattle.dm_store.specs.Keeping.{IsStored};
 ghost use Rattle.dm_store.specs.Kinds.{kinds_in};
 ghost use Rattle.dm_commands.specs.Mirrors.{HasMirrorFault, IsMirrorOf};
-ghost use Rattle.dm_files.specs.Mirrors.{TellsOf};
+ghost use Rattle.dm_files.specs.Mirrors.{TellsOf, TellsUnkept};
 
 use crate::word_fault::WordFault;
 use clap::ArgMatches;
@@ -62,7 +62,8 @@ pub fn open_file<'a>(
 
 /// Why the file at a path isn't the mirror that was asked for.
 pub fn of_kept<'a>(path: &'a str, fault: MirrorFault) -> WordFault<'a>
-    ensures { (file : List ℕ) → HasMirrorFault file fault → TellsOf file result }
+    ensures unkept { (file : List ℕ) → HasMirrorFault file fault → TellsUnkept file result }
+    ensures tells { (file : List ℕ) → HasMirrorFault file fault → TellsOf file result }
 {
     match fault {
         MirrorFault::Bad(fault) => WordFault::BadMirror(path, fault),
@@ -80,7 +81,7 @@ pub fn open_store<'a, D: Device + Drop>(
     ensures stored { IfOk result (IsStored D.seen D.may_leave D.file_may_leave) }
     ensures keeps { IfOk result (λ store. IsMirrorOf (kinds_in store) (D.seen device) store.repo.patches) }
     ensures untouched { IfOk result (λ store. IsUntouched D.seen D.may_leave D.file_may_leave D.moment D.left_since device store.journal.device) }
-    ensures tells { IfErr result (TellsOf (D.seen device)) }
+    ensures tells { IfErr result (TellsUnkept (D.seen device)) }
 {
     match kept_mirror(rt.alloc(), device) {
         Ok(store) => Ok(store),

@@ -13,6 +13,7 @@ ghost use Rattle.dm_commands.specs.Obliterating.{TakesOut};
 use crate::base_tag::refuse_before_base;
 use crate::choosing::{chosen_names, label_of};
 use crate::mirror::{blame, open_file, open_store, unopened};
+use crate::take_back_fault::TakeBackFault;
 use crate::word_fault::WordFault;
 use clap::ArgMatches;
 use dm_bundle::Bundle;
@@ -37,7 +38,7 @@ fn open_kept<'a>(rt: &HostRuntime, name: &'a str) -> Result<DiskFile, WordFault<
 {
     match DiskFile::open(rt, name, Access::Create, Lock::Try) {
         Ok(file) if file.is_empty() => Ok(file),
-        Ok(_) => Err(WordFault::OutputIsThere(name)),
+        Ok(_) => Err(WordFault::TakeBack(TakeBackFault::OutputIsThere(name))),
         Err(fault) => Err(unopened(name, fault)),
     }
 }
@@ -47,7 +48,7 @@ fn finish<'a>(done: bool, path: &'a str) -> Result<(), WordFault<'a>> {
     if done {
         Ok(())
     } else {
-        Err(WordFault::TooLargeToStay(path))
+        Err(WordFault::TakeBack(TakeBackFault::TooLargeToStay(path)))
     }
 }
 
@@ -176,7 +177,7 @@ fn kept_text<'a>(
 {
     match text_of(rt.alloc(), kinds, bundle) {
         Ok(text) => Ok(text),
-        Err(ToolFault::TooManyToSend) => Err(WordFault::TooManyToTakeOut),
+        Err(ToolFault::TooManyToSend) => Err(WordFault::TakeBack(TakeBackFault::TooManyToTakeOut)),
         Err(fault) => Err(WordFault::Tool(fault)),
     }
 }
@@ -243,7 +244,7 @@ fn take_out<'a>(
 {
     let Obliterated { repo, bundle, .. } = out;
     if bundle.new_patches().is_empty() {
-        return Err(WordFault::NothingToUndo);
+        return Err(WordFault::TakeBack(TakeBackFault::NothingToUndo));
     }
     match kept_bundle(rt.alloc(), store.repo(), &repo, bundle) {
         Ok(kept) => keep_or_show(rt, words, path, store, &kept, repo),

@@ -3,6 +3,7 @@ use crate::base_tag::refuse_before_base;
 use crate::choosing::chosen_names;
 use crate::mirror::read_repo;
 use crate::obliterating::{refuse, refuse_bound};
+use crate::take_back_fault::TakeBackFault;
 use crate::word_fault::WordFault;
 use clap::ArgMatches;
 use dm_commands::{names_base, rest_on_tag, text_of, write_text};
@@ -39,12 +40,12 @@ fn read_clock(rt: &HostRuntime) -> Option<DateTime> {
 fn date_of<'a>(rt: &HostRuntime, words: &ArgMatches<'a>) -> Result<String, WordFault<'a>> {
     if let Some(date) = words.get_str("date") {
         if date.len() != 14 || !date.bytes().all(|byte| byte.is_ascii_digit()) {
-            return Err(WordFault::BadDate(date));
+            return Err(WordFault::TakeBack(TakeBackFault::BadDate(date)));
         }
         return Ok(format!(in rt.alloc(); "{date}")?);
     }
     let Some(now) = read_clock(rt) else {
-        return Err(WordFault::NoClock);
+        return Err(WordFault::TakeBack(TakeBackFault::NoClock));
     };
     let DateTime { date, time } = now;
     let (year, month, day) = (date.year, date.month, date.day);
@@ -93,15 +94,15 @@ fn info_of<'a>(
         &lines,
     ) {
         Ok(info) => Ok(info),
-        Err(fault) => Err(WordFault::BadInfo(fault)),
+        Err(fault) => Err(WordFault::TakeBack(TakeBackFault::BadInfo(fault))),
     }
 }
 
 /// Why no patch undoes the chosen ones: a line, or no answer.
 fn refuse_undoing<'a>(rt: &HostRuntime, fault: UndoFault<Global>) -> Result<u8, WordFault<'a>> {
     match fault {
-        UndoFault::Held => Err(WordFault::NameIsHeld),
-        UndoFault::ChangesNothing => Err(WordFault::NothingToUndo),
+        UndoFault::Held => Err(WordFault::TakeBack(TakeBackFault::NameIsHeld)),
+        UndoFault::ChangesNothing => Err(WordFault::TakeBack(TakeBackFault::NothingToUndo)),
         UndoFault::Refused(why) => refuse(rt, why),
         UndoFault::Bound(bound) => {
             let status = refuse_bound(rt, &bound)?;

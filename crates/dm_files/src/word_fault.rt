@@ -1,13 +1,12 @@
 //! Why the words of a command start nothing, or why what they started gives no answer.
-use crate::input::INPUT;
-use dm_begin::BeginFault;
+use crate::input::said;
+use crate::names_fault::NamesFault;
+use crate::take_back_fault::TakeBackFault;
 use dm_commands::ToolFault;
 use dm_deliver::{AnswerError, DeliverError, FrameFault, FrameFaultKind};
 use dm_disk::OpenFault;
-use dm_info::InfoFault;
 use dm_journal::WriteError;
 use dm_mirror::PlanFault;
-use dm_named::ReadFault;
 use dm_scratch::Verdict;
 use dm_store::StoreError;
 use std::alloc::{AllocError, AllocFailed};
@@ -32,9 +31,6 @@ pub enum WordFault<'a> {
     /// The base of this name isn't taken into an empty repository.
     #[error("base {1}")]
     BadBase(&'a str, Verdict),
-    /// The text of what somebody holds, of this name, tells no names.
-    #[error("{}: malformed {} {}", said(.0), .1.kind.word(), .1.at)]
-    BadNames(&'a str, ReadFault),
     /// There is no plan of so many posters, mirrors, waiting mails or bundles.
     #[error("{0}")]
     BadPlan(PlanFault, usize),
@@ -53,21 +49,6 @@ pub enum WordFault<'a> {
     /// The mirror of this name begins at a tag, and was to be printed as a bundle.
     #[error("{0} begins at a tag, and can't be printed as a bundle; copy the file")]
     BeginsAtTag(&'a str),
-    /// The file of this name has new patches, where the names behind a tag were due.
-    #[error("{}: a context is wanted, as darcs log --context prints it", said(.0))]
-    NoContext(&'a str),
-    /// The first name in the file of this name isn't that of a tag.
-    #[error("{}: the first name isn't that of a tag", said(.0))]
-    NoTag(&'a str),
-    /// So many names into the file of this name is one that stands there before.
-    #[error("{}: name {} stands there twice", said(.0), .1)]
-    NameTwice(&'a str, usize),
-    /// No mirror begins with the names in the file of this name.
-    #[error("{}: {}", said(.0), .1)]
-    NoBeginning(&'a str, BeginFault),
-    /// The folder of this name was to be the tree at a tag, and has nothing in it.
-    #[error("nothing is in {0}")]
-    EmptyFolder(&'a str),
     /// The mirror of this name can't be written. What was answered before stands; of the last bundle nobody knows until the mirror
     /// is opened again.
     #[error("cannot write {0}: {1}")]
@@ -84,48 +65,18 @@ pub enum WordFault<'a> {
     /// The kinds of primitives were named beside a mirror.
     #[error("a mirror remembers which kinds it reads; --all-kinds goes with dm init")]
     KindsOfMirror,
-    /// No patch of the mirror has this name, nor a hash that begins so.
-    #[error("the mirror holds no patch {0}: a name or the first seven digits of a hash are wanted, as dm log prints them")]
-    UnknownPatch(&'a str),
-    /// The file of this name was to be made, and has bytes.
-    #[error("{0} is there already")]
-    OutputIsThere(&'a str),
-    /// What goes is past the limits of one bundle.
-    #[error("the bundle of these patches, with the names of all that stay, is past the limits of one; roll back instead")]
-    TooManyToTakeOut,
-    /// What would stay in the mirror of this name is past the limits of a repository of one's own.
-    #[error("what stays is too large for {0}")]
-    TooLargeToStay(&'a str),
-    /// A date isn't fourteen digits.
-    #[error("bad date {0}: fourteen digits are wanted, as 20261127093000, in UTC")]
-    BadDate(&'a str),
-    /// The system's clock can't be read.
-    #[error("cannot read the clock; give --date")]
-    NoClock,
-    /// No patch can have this name, author, date and log.
+    /// Names in a file tell nothing, or no mirror begins with them.
     #[error("{0}")]
-    BadInfo(InfoFault),
-    /// The mirror holds a patch of this name, author, date and log.
-    #[error("the mirror holds a patch of this name, author, date and log already")]
-    NameIsHeld,
-    /// The chosen patches change nothing.
-    #[error("these patches change nothing that could be undone")]
-    NothingToUndo,
+    Names(NamesFault<'a>),
+    /// Patches aren't taken out of a mirror, or not undone.
+    #[error("{0}")]
+    TakeBack(TakeBackFault<'a>),
     /// The command gives no answer.
     #[error("{0}")]
     Tool(ToolFault),
     /// There is no answer, and it was said why.
     #[error("no answer")]
     Said,
-}
-
-/// The name of a file for a reader.
-fn said<'a>(name: &'a str) -> &'a str {
-    if name == INPUT {
-        "standard input"
-    } else {
-        name
-    }
 }
 
 impl<'a> WordFault<'a> {
