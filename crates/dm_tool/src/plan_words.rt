@@ -1,4 +1,11 @@
 //! The words of `dm run`, and what they start.
+ghost use Rattle.std.specs.Prelude.{◌≡◌, ◌⊎◌, IfErr, IfOk};
+ghost use Rattle.dm_mirror.specs.declared.plan.PlanFault.{PlanFault};
+ghost use Rattle.dm_commands.specs.declared.fault.ToolFault.TheVariants as ToolFault;
+ghost use Rattle.dm_commands.specs.declared.running.Ran.{Ran};
+ghost use Rattle.dm_commands.specs.Alike.{HasFaultAs, IsRanAs};
+ghost use Rattle.dm_commands.specs.Running.{texts_in};
+
 use clap::ArgMatches;
 use dm_commands::{Base, Mirrors, ToolFault, run_mirrors};
 use dm_files::{
@@ -91,24 +98,39 @@ fn named_lists<'n, 'l, 't>(
     Ok(named)
 }
 
-/// Runs the plan of these posters, each with its texts, and of these mirrors, and explains what it left where that is asked
-/// for. Returns the exit status.
+/// Runs the plan of these posters and mirrors on standard output, and explains what it left where that is asked for. Returns the
+/// exit status.
+fn run_lists<R: Runtime + AllocGlobal + Threads + Wait + Sync>(
+    rt: &R,
+    posters: &[(&str, &[&[u8]])],
+    mirrors: Mirrors<'_>,
+    explained: Option<Colour>,
+) -> Result<u8, ToolFault>
+    ensures status { IfOk result (λ status. (ran : Ran) × IsRanAs (texts_in posters.now) mirrors.entry ran × (ran.status ≡ status)) }
+    ensures bad_plan { IfErr result (λ e. (fault : PlanFault) → e ≡ ToolFault.BadPlan fault → HasFaultAs (texts_in posters.now) mirrors.entry fault) }
+    ensures fault { IfErr result (λ e. ((fault : PlanFault) × (e ≡ ToolFault.BadPlan fault))
+        ⊎ ((e ≡ ToolFault.NoThread) ⊎ ((e ≡ ToolFault.NoMemory) ⊎ (e ≡ ToolFault.Write)))) }
+{
+    let mut writer = io::writer(rt);
+    let ran = run_mirrors(rt, rt.alloc(), posters, mirrors, &mut writer)?;
+    if let Some(colour) = explained {
+        let base = mirrors.base;
+        explain_run(rt, colour, &ran.outcome, taken(base), mirrors.policy);
+        explain_agreement(rt, colour, posters, base, &ran);
+    }
+    Ok(ran.status)
+}
+
+/// Runs the plan of these posters, each with its texts, and of these mirrors. Returns the exit status.
 fn run_texts<'a, R: Runtime + AllocGlobal + Threads + Wait + Sync>(
     rt: &R,
     posters: &Posters<'a>,
     mirrors: Mirrors<'_>,
     explained: Option<Colour>,
 ) -> Result<u8, ToolFault> {
-    let alloc = rt.alloc();
-    let lists = lists_of(alloc, posters)?;
-    let named = named_lists(alloc, &lists)?;
-    let ran = run_mirrors(rt, alloc, &named, mirrors, &mut io::writer(rt))?;
-    if let Some(colour) = explained {
-        let base = mirrors.base;
-        explain_run(rt, colour, &ran.outcome, taken(base), mirrors.policy);
-        explain_agreement(rt, colour, &named, base, &ran);
-    }
-    Ok(ran.status)
+    let lists = lists_of(rt.alloc(), posters)?;
+    let named = named_lists(rt.alloc(), &lists)?;
+    run_lists(rt, &named, mirrors, explained)
 }
 
 /// The base that a file is, or an empty text.
@@ -166,6 +188,29 @@ pub fn refuse_base(
     NO_ANSWER
 }
 
+/// Why a plan isn't run, or not to its end: of a base that isn't taken, it is said at once.
+fn refuse_run<'a>(
+    rt: &HostRuntime,
+    colour: Colour,
+    words: &ArgMatches<'_>,
+    file: &Option<BaseFile<'_>>,
+    posters: &Posters<'_>,
+    mirrors: Mirrors<'_>,
+    fault: ToolFault,
+) -> Result<u8, WordFault<'a>> {
+    match (fault, file) {
+        (ToolFault::BadPlan(PlanFault::BadBase(_, verdict)), Some(file)) => {
+            let reading = Reading::of_run();
+            Ok(refuse_base(rt, colour, reading, words, file, verdict))
+        }
+        (ToolFault::BadPlan(fault), _) => {
+            let count = count_of(fault, posters, mirrors);
+            Err(WordFault::BadPlan(fault, count))
+        }
+        (fault, _) => Err(WordFault::Tool(fault)),
+    }
+}
+
 /// Runs the plan that the words name: the base is read first, then the files in the order of the words. Returns the exit
 /// status.
 pub fn run_plan<'a, R: Runtime + AllocGlobal + Threads + Wait + Sync>(
@@ -188,16 +233,8 @@ pub fn run_plan<'a, R: Runtime + AllocGlobal + Threads + Wait + Sync>(
     } else {
         None
     };
-    match (run_texts(rt, &posters, mirrors, explained), &file) {
-        (Ok(status), _) => Ok(status),
-        (Err(ToolFault::BadPlan(PlanFault::BadBase(_, verdict))), Some(file)) => {
-            let reading = Reading::of_run();
-            Ok(refuse_base(host, colour, reading, words, file, verdict))
-        }
-        (Err(ToolFault::BadPlan(fault)), _) => {
-            let count = count_of(fault, &posters, mirrors);
-            Err(WordFault::BadPlan(fault, count))
-        }
-        (Err(fault), _) => Err(WordFault::Tool(fault)),
+    match run_texts(rt, &posters, mirrors, explained) {
+        Ok(status) => Ok(status),
+        Err(fault) => refuse_run(host, colour, words, &file, &posters, mirrors, fault),
     }
 }
