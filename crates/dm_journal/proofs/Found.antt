@@ -9,7 +9,8 @@ use Rattle.std.specs.List.{starts_with}
 use Rattle.std.proofs.lemmas.Bool.{false≢true}
 use Rattle.std.proofs.lemmas.Bool.Decides.{Decides-eqb}
 use Rattle.std.proofs.lemmas.Slice.Eq.{starts_is}
-use Rattle.dm_journal.specs.declared.format.Format.TheVariants.{First, Second, Third}
+use Rattle.dm_journal.specs.declared.format.Format.TheVariants.{First, Second, Third, Fields}
+use Rattle.dm_journal.specs.declared.format.KindsField.TheVariants.{Six, All}
 use Rattle.dm_journal.specs.Faults.{HasOtherChecksum, EndsInHeader, BeginsWith}
 use Rattle.dm_journal.specs.Hidden.{AreTwoBlocks}
 use Rattle.dm_journal.specs.Reading.{IsHeaded, IsWhole, StandsBehind, StandsAt}
@@ -18,7 +19,7 @@ use Rattle.dm_journal.specs.declared.texts.Range.{Range}
 use Rattle.dm_journal.specs.declared.reading.Step.{Step}
 use Rattle.dm_journal.specs.declared.reading.Step.TheVariants.{End, Whole, Cut, Damaged}
 use Rattle.dm_journal.proofs.Blocks.{flat, begins_push, link_push}
-use Rattle.dm_journal.proofs.Once.{length-line, same_block, length-checksum, short_has_none, other_has_none, HasNone, closed_has_none, early_has_none, damaged_has_none}
+use Rattle.dm_journal.proofs.Once.{same_block, length-checksum, short_has_none, other_has_none, HasNone, closed_has_none, early_has_none, damaged_has_none}
 
 -- whether a list begins with another
 pub begins_so : (s p : List ℕ) (r : Bool) → r ≡ starts_with nat_eq s p → r ≡ true → BeginsWith p s
@@ -27,26 +28,32 @@ begins_so s p r is so = (drop (length p) s, (starts_is Decides-eqb s p r is).0 s
 pub begins_otherwise : (s p : List ℕ) (r : Bool) → r ≡ starts_with nat_eq s p → r ≡ false → BeginsWith p s → ⊥
 begins_otherwise s p r is not w = absurd (false≢true (sym not ∙ (starts_is Decides-eqb s p r is).1 w.0 w.1))
 
-pub of_none : (file : List ℕ) → (BeginsWith (line First) file → ⊥) → (BeginsWith (line Second) file → ⊥) → (BeginsWith (line Third) file → ⊥) → (format : Format) → BeginsWith (line format) file → ⊥
-of_none file first second third First = first
-of_none file first second third Second = second
-of_none file first second third Third = third
+-- it begins with none of the headers
+abbrev pub HasNot : List ℕ → Format → Type 0
+HasNot file format = ¬ BeginsWith (line format) file
 
-pub cut_header : (format : Format) (file : List ℕ) (at : ℕ) → at ≡ filled format 13 → length file < at → BeginsWith (line format) file → EndsInHeader file at
-cut_header format file at is ends w =
-    record { format = format; more = w.0; is = w.1; place = omega (arith, is, length-line format, ap (filling format) (length-line format)); ends = ends }
+pub of_none : (file : List ℕ) → HasNot file First → HasNot file Second → HasNot file Third → HasNot file (Fields Six) → HasNot file (Fields All) → (format : Format) → HasNot file format
+of_none file first second third six all First = first
+of_none file first second third six all Second = second
+of_none file first second third six all Third = third
+of_none file first second third six all (Fields Six) = six
+of_none file first second third six all (Fields All) = all
 
-pub header_here : (format : Format) (file : List ℕ) (at : ℕ) → at ≡ filled format 13 → at ≤ length file → BeginsWith (line format) file → IsHeaded file format at
+pub cut_header : (format : Format) (file : List ℕ) (at : ℕ) → at ≡ filled format (length (line format)) → length file < at → BeginsWith (line format) file → EndsInHeader file at
+cut_header format file at is ends w = record { format = format; more = w.0; is = w.1; place = is; ends = ends }
+
+pub header_here : (format : Format) (file : List ℕ) (at : ℕ) → at ≡ filled format (length (line format)) → at ≤ length file → BeginsWith (line format) file → IsHeaded file format at
 header_here format file at is reaches w =
-    let k = filling format 13 in
+    let n = length (line format) in
+    let k = filling format n in
     let behind : drop k w.0 ≡ drop at file =
-    ap (drop k) (sym (drop_at (line format) w.0 13 (length-line format)) ∙ ap (drop 13) (sym w.1)) ∙ drop-drop k 13 file ∙ ap (λ (i : ℕ). drop i file) (sym is) in
-    let long : k ≤ length w.0 = omega (arith, is, reaches, ap length w.1, length-append (line format) w.0, length-line format) in
+    ap (drop k) (sym (drop_at (line format) w.0 n refl) ∙ ap (drop n) (sym w.1)) ∙ drop-drop k n file ∙ ap (λ (i : ℕ). drop i file) (sym is) in
+    let long : k ≤ length w.0 = omega (arith, is, reaches, ap length w.1, length-append (line format) w.0) in
     record {
       reaches = reaches;
       begins = record {
         fill = take k w.0;
-        filled = length-take-le k w.0 long ∙ ap (filling format) (sym (length-line format));
+        filled = length-take-le k w.0 long;
         bytes = drop at file;
         is = w.1 ∙ ap (λ (l : List ℕ). line format ++ l) (sym (take-append-drop k w.0) ∙ ap (λ (l : List ℕ). take k w.0 ++ l) behind);
         blocks = refl;

@@ -2,9 +2,11 @@ mod Blocks
 mod Crash
 mod Found
 mod Kept
+mod Known
 mod Made
 mod Moments
 mod Once
 mod OneAnswer
 mod Untouched
+mod Turned
 mod Units

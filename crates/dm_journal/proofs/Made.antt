@@ -9,16 +9,17 @@ use Rattle.dm_journal.specs.Reading.{staged, IsPushed, IsReading, IsWholeFile, E
 use Rattle.dm_journal.specs.Texts.{ranges_of}
 use Rattle.dm_journal.specs.declared.reading.Reading.{Reading}
 use Rattle.dm_journal.proofs.Blocks.{length-block, file_front, begins_push, link_push, end_more}
-use Rattle.dm_journal.proofs.Once.{length-line}
 
-pub header_made : (format : Format) (bytes : List ℕ) → bytes ≡ line format ++ replicate (filling format 13) 0 → Begins format bytes [] []
-header_made format bytes is = record {
-  fill = replicate (filling format 13) 0;
-  filled = length-replicate (filling format 13) 0 ∙ ap (filling format) (sym (length-line format));
-  bytes = [];
-  is = is ∙ ap (λ (l : List ℕ). line format ++ l) (sym (append-nil (replicate (filling format 13) 0)));
-  blocks = refl;
-}
+pub header_made : (format : Format) (bytes : List ℕ) → bytes ≡ line format ++ replicate (filling format (length (line format))) 0 → Begins format bytes [] []
+header_made format bytes is =
+    let k = filling format (length (line format)) in
+    record {
+      fill = replicate k 0;
+      filled = length-replicate k 0;
+      bytes = [];
+      is = is ∙ ap (λ (l : List ℕ). line format ++ l) (sym (append-nil (replicate k 0)));
+      blocks = refl;
+    }
 
 pub closed_made : (format : Format) (file new : List ℕ) (texts : List (List ℕ)) (more : List ℕ) → Begins format file texts [] → new ≡ file ++ more → Begins format new texts more
 closed_made format file new texts more b is = subst (λ (l : List ℕ). Begins format l texts more) (sym is) (end_more format file texts more b)

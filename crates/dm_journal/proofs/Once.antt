@@ -1,10 +1,11 @@
 -- Where the blocks of a file end there is one answer.
-use Rattle.std.proofs.Common.{◌≡◌, inl, inr, ℕ, ◌+◌, ◌<◌, ◌^◌, List, [], ◌∷◌, ◌++◌, length, get_or, take, drop, refl, sym, ◌∙◌, ap, subst, arith, length-append}
+use Rattle.std.proofs.Common.{◌≡◌, inl, inr, ℕ, ◌+◌, ◌<◌, ◌^◌, List, [], ◌∷◌, ◌++◌, length, get_or, take, drop, nat_eq, cond, refl, sym, ◌∙◌, ap, subst, arith, length-append}
 use Rattle.std.specs.Int.{w64, to_le_bytes}
 use Rattle.std.proofs.lemmas.List.{take_at}
 use Rattle.sha2.proofs.Facts256.{length-sha256}
 use Rattle.dm_journal.specs.declared.format.Format.{Format}
-use Rattle.dm_journal.specs.declared.format.Format.TheVariants.{First, Second, Third}
+use Rattle.dm_journal.specs.declared.format.Format.TheVariants.{First, Second, Third, Fields}
+use Rattle.dm_journal.specs.declared.format.KindsField.TheVariants.{Six, All}
 use Rattle.dm_journal.specs.Format.{family, line, filling}
 use Rattle.dm_journal.specs.Journal.{block, checksum_of, next_link, link_after, IsLatch, IsBlock, IsNext, AreBlocks, Begins}
 use Rattle.dm_journal.specs.Faults.{IsShort, EndsEarly, HasOtherChecksum, IsDamaged, BeginsWith}
@@ -26,30 +27,29 @@ same_blocks s t m u v n ls lu lt lv same =
 pub length-checksum : (link text : List ℕ) → length (checksum_of link text) ≡ 32
 length-checksum link text = length-sha256 (link ++ text)
 
--- what the line of a format begins with
+-- what the header of a format begins with
 pub in_family : (format : Format) (more : List ℕ) → BeginsWith family (line format ++ more)
 unfolding line
-in_family First more = (49 ∷ 10 ∷ more, refl)
-in_family Second more = (50 ∷ 10 ∷ more, refl)
-in_family Third more = (52 ∷ 10 ∷ more, refl)
+in_family First more = (drop 11 (line First) ++ more, refl)
+in_family Second more = (drop 11 (line Second) ++ more, refl)
+in_family Third more = (drop 11 (line Third) ++ more, refl)
+in_family (Fields Six) more = (drop 11 (line (Fields Six)) ++ more, refl)
+in_family (Fields All) more = (drop 11 (line (Fields All)) ++ more, refl)
 
-pub length-line : (format : Format) → length (line format) ≡ 13
-unfolding line
-length-line First = refl
-length-line Second = refl
-length-line Third = refl
+-- the format of a file, by two bytes of its header
+told : List ℕ → Format
+told file = cond (nat_eq (get_or file 11 0) 49) First (cond (nat_eq (get_or file 11 0) 50) Second (cond (nat_eq (get_or file 11 0) 52) Third (cond (nat_eq (get_or file 24 0) 115) (Fields Six) (Fields All))))
+
+told_line : (format : Format) (more : List ℕ) → told (line format ++ more) ≡ format
+unfolding line told
+told_line First more = refl
+told_line Second more = refl
+told_line Third more = refl
+told_line (Fields Six) more = refl
+told_line (Fields All) more = refl
 
 pub one_line : (f g : Format) (m n : List ℕ) → line f ++ m ≡ line g ++ n → f ≡ g
-unfolding line
-one_line First First m n same = refl
-one_line First Second m n same = let h : 49 ≡ 50 = ap (λ (l : List ℕ). get_or l 11 0) same in absurd (omega (arith, h))
-one_line First Third m n same = let h : 49 ≡ 52 = ap (λ (l : List ℕ). get_or l 11 0) same in absurd (omega (arith, h))
-one_line Second First m n same = let h : 50 ≡ 49 = ap (λ (l : List ℕ). get_or l 11 0) same in absurd (omega (arith, h))
-one_line Second Second m n same = refl
-one_line Second Third m n same = let h : 50 ≡ 52 = ap (λ (l : List ℕ). get_or l 11 0) same in absurd (omega (arith, h))
-one_line Third First m n same = let h : 52 ≡ 49 = ap (λ (l : List ℕ). get_or l 11 0) same in absurd (omega (arith, h))
-one_line Third Second m n same = let h : 52 ≡ 50 = ap (λ (l : List ℕ). get_or l 11 0) same in absurd (omega (arith, h))
-one_line Third Third m n same = refl
+one_line f g m n same = sym (told_line f m) ∙ ap told same ∙ told_line g n
 
 module _ (format : Format) where
   pub same_latch : (g h : ℕ) (a b bytes : List ℕ) → IsLatch format g a bytes → IsLatch format h b bytes → (g ≡ h) × (a ≡ b)

@@ -2,7 +2,7 @@
 use Rattle.std.proofs.Common.{◌≡◌, ℕ, ◌+◌, ◌-◌, ◌*◌, ◌/◌, ◌%◌, List, [], ◌∷◌, ◌++◌, length, ◌∙◌, ap, arith, length-append}
 use Rattle.std.proofs.Math.Nat.{add-mul}
 use Rattle.dm_journal.specs.declared.format.Format.{Format}
-use Rattle.dm_journal.specs.declared.format.Format.TheVariants.{First, Second, Third}
+use Rattle.dm_journal.specs.declared.format.Format.TheVariants.{First, Second, Third, Fields}
 use Rattle.dm_journal.specs.Format.{line, unit, filling}
 use Rattle.dm_journal.specs.Journal.{checksum_of, next_link, IsNext, AreBlocks}
 use Rattle.dm_journal.specs.Laws.{LatchsBeginUnits, UnitsAreFilled}
@@ -14,6 +14,7 @@ unfolding unit filling
 units_filled First n = (omega arith, (n, omega arith))
 units_filled Second n = (omega arith, (n / 4096 + 1 - (4096 - n % 4096) / 4096, omega arith))
 units_filled Third n = (omega arith, (n / 4096 + 1 - (4096 - n % 4096) / 4096, omega arith))
+units_filled (Fields kinds) n = (omega arith, (n / 4096 + 1 - (4096 - n % 4096) / 4096, omega arith))
 
 -- one unit and more
 sum_of_units : (u a b rest : ℕ) → u + (a * u + (b * u + rest)) ≡ (1 + (a + b)) * u + rest

@@ -4,7 +4,7 @@ use Rattle.std.proofs.Math.ListN.{replicate}
 use Rattle.std.specs.Int.{w64, to_le_bytes}
 use Rattle.sha2.specs.Sha256.{sha256}
 use Rattle.dm_journal.specs.declared.format.Format.{Format}
-use Rattle.dm_journal.specs.declared.format.Format.TheVariants.{First, Second, Third}
+use Rattle.dm_journal.specs.declared.format.Format.TheVariants.{First, Second, Third, Fields}
 use Rattle.dm_journal.specs.Format.{line, unit, filling}
 
 -- a text's length in 8 bytes, this checksum, and the text
@@ -20,6 +20,7 @@ unfoldable pub next_link : Format → List ℕ → List ℕ
 next_link First checksum = []
 next_link Second checksum = checksum
 next_link Third checksum = checksum
+next_link (Fields kinds) checksum = checksum
 
 -- what a block follows on that stands behind blocks of these texts
 abbrev pub link_after : Format → List ℕ → List (List ℕ) → List ℕ
@@ -62,7 +63,7 @@ AreBlocks format link bytes [] rest = bytes ≡ rest
 AreBlocks format link bytes (text ∷ texts) rest =
     (more : List ℕ) × IsNext format link text more bytes × AreBlocks format (next_link format (checksum_of link text)) more texts rest
 
--- the file is the line of the format, whatever fills its unit, a block of each text in turn, and the rest
+-- the file is the header of the format, whatever fills its unit, a block of each text in turn, and the rest
 pub record Begins (format : Format) (file : List ℕ) (texts : List (List ℕ)) (rest : List ℕ) : Type 0 where
   pub fill : List ℕ
   pub filled : length fill ≡ filling format (length (line format))

@@ -1,5 +1,6 @@
 pub mod Device
 pub mod Faults
+pub mod Fields
 pub mod Format
 pub mod Hidden
 pub mod Journal

@@ -14,7 +14,7 @@ pub enum Fault {
     /// It doesn't begin as a journal does.
     #[error("not a journal")]
     NotAJournal,
-    /// It begins as a journal does, and is of no version that is known here.
+    /// It begins as a journal does, and with no header that is known here.
     #[error("the journal was written by another version of dm")]
     Unknown,
     /// The file ends inside the block whose latch is at this byte, or before or where this latch is due.

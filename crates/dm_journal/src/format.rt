@@ -1,5 +1,5 @@
 //! The formats of a journal's file, and what differs between them.
-ghost use Rattle.std.specs.Prelude.{◌≡◌, ◌≤◌, ◌<◌, ◌+◌, ◌^◌};
+ghost use Rattle.std.specs.Prelude.{◌≡◌, ◌≤◌, ◌<◌, ◌+◌, ◌^◌, length};
 ghost use Rattle.dm_journal.specs.Format.{line, unit, filling, filled, renewed};
 ghost use Rattle.dm_journal.specs.Journal.{checksum_of, next_link, link_bytes};
 
@@ -8,27 +8,43 @@ use sha2::{Digest, Sha256};
 /// How the bytes of a journal's file are laid out.
 #[derive(Clone, Copy, Debug, PartialEq, Eq)]
 pub enum Format {
-    /// The parts stand right behind one another, and each checksum is that of its text alone.
+    /// Version 1: the parts stand right behind one another, and each checksum is that of its text alone.
     First,
-    /// Each part begins a unit of 4,096 bytes, and each checksum follows on the one before it.
+    /// Version 2: each part begins a unit of 4,096 bytes, and each checksum follows on the one before it.
     Second,
-    /// As the second, with another line: version 4, since a turned bit makes 3 of 2.
+    /// Version 4: as the second, with another line. There is no version 3, since a turned bit makes 3 of 2.
     Third,
+    /// As the second, with a header of named fields, of which `kinds` has one of two values.
+    Fields(KindsField),
+}
+
+/// What the field `kinds` says: which kinds of primitives the texts may have. A journal reads no text.
+#[derive(Clone, Copy, Debug, PartialEq, Eq)]
+pub enum KindsField {
+    Six,
+    All,
 }
 
 /// What the next block follows on: a checksum, or nothing.
 pub type Link = Option<[u8; 32]>;
 
 impl Format {
-    /// The line that a file of the format begins with.
+    /// The header that a file of the format begins with, without what fills it up: one line, or several and an empty one.
     #[tactic(auto, unfolding(crate::specs::Format::line))]
-    pub fn line(self) -> [u8; 13]
-        ensures { result ≡ line self }
+    pub fn line(self) -> &'static [u8]
+        ensures is { result.now ≡ line self }
+        ensures few { length result.now < 2 ^ 6 }
     {
         match self {
-            Format::First => *b"dm journal 1\n",
-            Format::Second => *b"dm journal 2\n",
-            Format::Third => *b"dm journal 4\n",
+            Format::First => b"dm journal 1\n",
+            Format::Second => b"dm journal 2\n",
+            Format::Third => b"dm journal 4\n",
+            Format::Fields(KindsField::Six) => {
+                b"dm journal fields\nkinds six\nchecksum sha256\nbase counted\n\n"
+            }
+            Format::Fields(KindsField::All) => {
+                b"dm journal fields\nkinds all\nchecksum sha256\nbase counted\n\n"
+            }
         }
     }
 
@@ -41,7 +57,7 @@ impl Format {
     {
         match self {
             Format::First => 1,
-            Format::Second | Format::Third => 1 << 12,
+            Format::Second | Format::Third | Format::Fields(_) => 1 << 12,
         }
     }
 
@@ -63,7 +79,7 @@ impl Format {
     {
         match self {
             Format::First => None,
-            Format::Second | Format::Third => Some(checksum),
+            Format::Second | Format::Third | Format::Fields(_) => Some(checksum),
         }
     }
 
@@ -73,8 +89,9 @@ impl Format {
         ensures { result ≡ renewed self }
     {
         match self {
-            Format::First | Format::Second => Format::Second,
-            Format::Third => Format::Third,
+            Format::First | Format::Second => Format::Fields(KindsField::Six),
+            Format::Third => Format::Fields(KindsField::All),
+            Format::Fields(kinds) => Format::Fields(kinds),
         }
     }
 }

@@ -175,8 +175,8 @@ impl<D: Device> Journal<D> {
     }
 
     /// Puts these texts in the place of those that the journal has. At `Ok` they are acknowledged: from then on each crash
-    /// leaves a file that has just these. At [`WriteError::Beside`] the journal can go on as it was. The new file has the old
-    /// one's format, or the second in place of the first.
+    /// leaves a file that has just these. At [`WriteError::Beside`] the journal can go on as it was. The new file has a header of
+    /// named fields.
     pub fn replace(&mut self, alloc: Global, texts: &[&[u8]]) -> Result<(), WriteError>
         requires { IsDurable D.seen D.may_leave D.file_may_leave self.old.device }
         ensures acknowledged { OnOk result (HasTexts D.seen D.may_leave D.file_may_leave self.new (map (λ text. text.now) texts.now)) }

@@ -1,5 +1,5 @@
 //! Laws of the definitions alone. A call of them does nothing.
-ghost use Rattle.dm_journal.specs.Laws.{StandsForOneList, FilesHaveOneFormat, JournalsHaveNoFault, FilesHaveOneFault, LatchsBeginUnits, UnitsAreFilled};
+ghost use Rattle.dm_journal.specs.Laws.{StandsForOneList, FilesHaveOneFormat, JournalsHaveNoFault, FilesHaveOneFault, LatchsBeginUnits, UnitsAreFilled, TurnedFieldsAreTold, NoneTurnsIntoFields, FilesHaveOneUnknownField, KnownHeadersHaveNone};
 
 /// A file has at most one answer: the texts that it stands for and its format, or one fault.
 pub fn a_file_has_one_answer()
@@ -13,4 +13,17 @@ pub fn a_file_has_one_answer()
 pub fn parts_begin_units()
     ensures latches { LatchsBeginUnits }
     ensures filled { UnitsAreFilled }
+{}
+
+/// A header of fields in which one byte has turned is no header that is known. Nor does one byte that turns make any header one
+/// of fields.
+pub fn a_turned_header_is_told()
+    ensures fields { TurnedFieldsAreTold }
+    ensures none { NoneTurnsIntoFields }
+{}
+
+/// A file has at most one unknown field that is the first, and none if its header is known.
+pub fn one_field_is_named()
+    ensures one { FilesHaveOneUnknownField }
+    ensures none { KnownHeadersHaveNone }
 {}

@@ -5,14 +5,15 @@
 //! or the new ones, and [`Journal::open`] writes nothing. The [`laws`] say that a file has one answer: the texts that it
 //! stands for, or one fault.
 //!
-//! A file has one of three formats ([`Format`]): all are read and appended to. A new file is given its format. One that takes
-//! the place of a journal has the journal's own, or the second in place of the first.
+//! A file begins with a header, which tells its format ([`Format`]): all are read and appended to. A new file is given its
+//! format. One that takes the place of a journal has a header of named fields.
 //!
 //! The crate knows the disk as a [`Device`], and [`Memory`] is one. No contract can say that a real file is such a device.
 #![tactic(auto)]
 
 mod device;
 mod fault;
+mod fields;
 mod format;
 mod journal;
 pub mod laws;
@@ -23,8 +24,10 @@ mod writing;
 
 pub use device::{Device, DeviceError};
 pub use fault::{Fault, OpenError, WriteError};
-pub use format::Format;
+pub use fields::unknown_field;
+pub use format::{Format, KindsField};
 pub use journal::Journal;
 pub use memory::Memory;
+pub use reading::read_length;
 pub use texts::Texts;
 pub use writing::{MOST_BYTES, replace_file};

@@ -9,15 +9,12 @@ ghost use Rattle.dm_journal.specs.Journal.{link_bytes};
 ghost use Rattle.dm_journal.specs.Reading.{IsHeaded, IsReading, IsFaultOf, StandsAt, StandsBehind};
 
 use crate::fault::{Fault, OpenError};
-use crate::format::{Format, Link, checksum};
+use crate::format::{Format, KindsField, Link, checksum};
 use crate::texts::Range;
 use std::alloc::Global;
 
 // What a file of any version begins with.
 const FAMILY: [u8; 11] = *b"dm journal ";
-
-/// The bytes of a format's line.
-pub const HEADER: usize = 13;
 
 /// The bytes of a length and a checksum.
 pub const FRONT: usize = 40;
@@ -107,28 +104,41 @@ fn read_header(bytes: &[u8]) -> Result<(Format, usize), Fault>
             Fault::NotAJournal
         });
     };
-    let at = format.filled(HEADER);
+    let at = format.filled(format.line().len());
     if bytes.len() < at {
         return Err(Fault::Cut(at));
     }
     Ok((format, at))
 }
 
-// The format whose line the file begins with.
+// The format whose header the file begins with.
 fn known_format(bytes: &[u8]) -> Option<Format>
     ensures some { IfSome result (λ format. BeginsWith (line format) bytes.now) }
     ensures none { IfNone result ((format : JournalFormat) → ¬ BeginsWith (line format) bytes.now) }
 {
-    if bytes.starts_with(&Format::First.line()) {
+    if begins_with(bytes, Format::First) {
         return Some(Format::First);
     }
-    if bytes.starts_with(&Format::Second.line()) {
+    if begins_with(bytes, Format::Second) {
         return Some(Format::Second);
     }
-    if bytes.starts_with(&Format::Third.line()) {
+    if begins_with(bytes, Format::Third) {
         return Some(Format::Third);
     }
+    if begins_with(bytes, Format::Fields(KindsField::Six)) {
+        return Some(Format::Fields(KindsField::Six));
+    }
+    if begins_with(bytes, Format::Fields(KindsField::All)) {
+        return Some(Format::Fields(KindsField::All));
+    }
     None
+}
+
+fn begins_with(bytes: &[u8], format: Format) -> bool
+    ensures yes { result ≡ true → BeginsWith (line format) bytes.now }
+    ensures no { result ≡ false → ¬ BeginsWith (line format) bytes.now }
+{
+    bytes.starts_with(format.line())
 }
 
 fn read_block(format: Format, link: Link, bytes: &[u8]) -> Step
@@ -190,8 +200,8 @@ fn hides(format: Format, link: Link, bytes: &[u8]) -> bool
     }
 }
 
-// A number of 8 bytes, the lowest first, and what stands behind it.
-fn read_length(bytes: &[u8]) -> Option<(u64, &[u8])>
+/// A number of 8 bytes, the lowest first, and what stands behind it; `None` where there are fewer bytes.
+pub fn read_length(bytes: &[u8]) -> Option<(u64, &[u8])>
     ensures some { IfSome result (λ r. bytes.now ≡ to_le_bytes w64 r.0 ++ r.1.now) }
     ensures none { IfNone result (length bytes.now < 8) }
 {

@@ -12,7 +12,7 @@ ghost use Rattle.std.proofs.Math.ListN.{replicate};
 use crate::device::{Device, DeviceError};
 use crate::fault::WriteError;
 use crate::format::{Format, Link, checksum};
-use crate::reading::{FRONT, HEADER};
+use crate::reading::FRONT;
 use std::alloc::Global;
 
 /// The most bytes of a text that is written.
@@ -63,8 +63,9 @@ fn write_whole(
     ensures err { IfErr result (λ e. (e ≡ WritingDevice Memory) ⊎ (e ≡ TooLong)) }
     ensures too_long { IsErrOf result TooLong → Any IsTooLong (map (λ text. text.now) texts.now) }
 {
-    let mut bytes = format.line().to_vec(alloc)?;
-    fill_up(&mut bytes, format, HEADER)?;
+    let line = format.line();
+    let mut bytes = line.to_vec(alloc)?;
+    fill_up(&mut bytes, format, line.len())?;
     let mut link = None;
     for text in texts {
         if text.len() > MOST_BYTES {

@@ -8,4 +8,6 @@ mod asking;
 #[cfg(test)]
 mod chains;
 #[cfg(test)]
+mod fields;
+#[cfg(test)]
 mod files;

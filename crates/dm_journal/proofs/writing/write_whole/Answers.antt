@@ -1,4 +1,4 @@
-use Rattle.std.proofs.Common.{rules, ◌≡◌, ◌++◌, [], List, ℕ, take, map, refl, ◌∙◌, ap, subst}
+use Rattle.std.proofs.Common.{rules, ◌≡◌, ◌++◌, [], List, ℕ, length, take, map, refl, ◌∙◌, ap, subst}
 use Rattle.std.proofs.Math.ListN.{replicate}
 use Rattle.std.proofs.lemmas.List.{take_all}
 use Rattle.dm_journal.specs.Format.{filling}
@@ -8,8 +8,10 @@ use Rattle.dm_journal.proofs.writing.write_whole.Goals as goal
 
 pub loop-text-init : goal.loop-text-init
 loop-text-init c =
-    let copied : c.in_ok-bytes.bytes.items ≡ c.line.result = search rules in
-    let is = c.in_ok-fill_up.ensures.bytes ∙ ap (λ (l : List ℕ). l ++ replicate (filling c.args.format 13) 0) (copied ∙ c.line.ensures) in
+    let line = c.line-line.result.now in
+    let copied : c.in_ok-bytes.bytes.items ≡ line = search rules in
+    let filled = ap (λ (l : List ℕ). l ++ replicate (filling c.args.format (length line)) 0) copied in
+    let is = c.in_ok-fill_up.ensures.bytes ∙ filled ∙ ap (λ (l : List ℕ). l ++ replicate (filling c.args.format (length l)) 0) c.line-line.ensures.is in
     record { begins = header_made c.args.format c.fill_up.new.bytes.items is; linked = refl }
 
 pub loop-text-preserved : goal.loop-text-preserved
