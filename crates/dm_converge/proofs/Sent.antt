@@ -19,7 +19,7 @@ use Rattle.dm_repo.proofs.Placed.{patches_placed}
 use Rattle.dm_repo.proofs.Staircases.{runs_part}
 use Rattle.dm_send.specs.Sending.{IsDivided, IsShared, behind}
 use Rattle.dm_send.proofs.Parting.{in_reverse, to_reverse, are_apart, no_doubles}
-use Rattle.dm_send.proofs.Stairs.{Stair, nothing, stays, yields, heads, Steps, steps, in_stair, names_needed, rect_infos}
+use Rattle.dm_send.proofs.Stairs.{Stair, nothing, stays, yields, heads, Steps, steps_behind, in_stair, names_needed, rect_infos}
 use Rattle.dm_facts.specs.Nodes.{NodeMap}
 use Rattle.dm_converge.specs.Meanings.{Meaning, LeadsAs, Runs, root_of, Builds, MeansSo}
 use Rattle.dm_converge.specs.Networks.{IsSentBy}
@@ -142,7 +142,7 @@ module _ (I : Type 0) (m : Meaning I) where
 
     pub sent_meant : (b : Contents) → IsSentBy repo b → IsMeantBy repo b
     sent_meant b (theirs, most, inl w) = rw w.is_sent (whole theirs most w.shared w.new w.divided)
-    sent_meant b (theirs, most, inr w) = rw w.is_sent (minimal theirs most w.shared w.new w.needed w.sent w.gone w.divided (steps w.minimizes))
+    sent_meant b (theirs, most, inr (base, w)) = rw w.is_sent (minimal theirs most w.shared w.new w.kept w.sent w.gone w.divided (steps_behind w.minimizes))
 
 module _ (I : Type 0) where
   pub sent_means_so : laws.SentMeansSo I

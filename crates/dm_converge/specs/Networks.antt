@@ -13,9 +13,9 @@ use Rattle.dm_scratch.specs.Taking.{TakesWithin}
 use Rattle.dm_send.specs.Sending.{Sends, SendsMinimal}
 use Rattle.dm_converge.specs.Pools.{HasBundleIn, AreAmong}
 
--- the repository sends the bundle to somebody who holds patches of some names
+-- the repository sends the bundle to somebody who holds patches of some names: a minimal one keeps some of its first patches
 abbrev pub IsSentBy : List Patch → Contents → Type 0
-IsSentBy repo b = (theirs : List PatchInfo) × (most : ℕ) × (Sends repo theirs most b ⊎ SendsMinimal repo theirs most b)
+IsSentBy repo b = (theirs : List PatchInfo) × (most : ℕ) × (Sends repo theirs most b ⊎ ((base : ℕ) × SendsMinimal repo base theirs most b))
 
 -- the text stands for a bundle that was sent, whose primitives are of these kinds
 abbrev pub StandsForSent : Kinds → List Contents → List ℕ → Type 0

@@ -22,7 +22,7 @@ use Rattle.dm_repo.proofs.Members.{here, one_of, none_of, infos_of-append}
 use Rattle.dm_repo.proofs.Squares.{named_back, named_runs}
 use Rattle.dm_repo.proofs.Staircases.{runs_on, runs_part, split_back, split_in, split_out, split_runs}
 use Rattle.dm_send.specs.Leaving.{Leaves, nothing, goes, stays, follows}
-use Rattle.dm_send.specs.Minimizing.{Minimizes}
+use Rattle.dm_send.specs.Minimizing.{MinimizesBehind}
 use Rattle.dm_send.specs.Obliterating.{Obliterates, RefusesToObliterate}
 use Rattle.dm_send.specs.Sending.{Accepts, IsRefusedAs, Parts, RefusesThere, behind, just, no_names, inside, outside}
 use Rattle.dm_send.proofs.Minimal as minimal
@@ -145,30 +145,30 @@ module _ (repo : List Patch) (chosen : List PatchInfo) (stay go : List Patch) (b
   go_new i c h = apart l distinct h c
 
   -- what stays, or the bundle, is refused
-  pub refuses_stay : (why told : Refusal) → (why ≡ NoMemory → told ≡ NoMemory) → (why ≢ NoMemory → told ≡ Full) → IsRefusedAs [] (just stay) why → RefusesToObliterate repo chosen told
-  refuses_stay why told memory full r = elim (is_memory why) [ inl e ↦ rw (memory e) tt | inr n ↦ rw (full n) (stay, go, bound, l, inl (why, n, r)) ]
+  pub refuses_stay : (why told : Refusal) → (why ≡ NoMemory → told ≡ NoMemory) → (why ≢ NoMemory → told ≡ Full) → IsRefusedAs [] (just stay) why → (base : ℕ) → RefusesToObliterate repo base chosen told
+  refuses_stay why told memory full r base = elim (is_memory why) [ inl e ↦ rw (memory e) tt | inr n ↦ rw (full n) (stay, go, bound, l, inl (why, n, r)) ]
 
-  module _ (needed sent passed : List Patch) (m : Minimizes NamedCommutes stay go needed sent passed) where
-    pub sent_apart : IsRepo stay → HasNoDoubles sent (reverse (infos_of needed))
-    sent_apart ok = minimal.sent_apart stay go ok go_new needed sent passed m go_apart
+  module _ (kept sent passed : List Patch) {base : ℕ} (m : MinimizesBehind NamedCommutes base stay go kept sent passed) where
+    pub sent_apart : IsRepo stay → HasNoDoubles sent (reverse (infos_of kept))
+    sent_apart ok = minimal.sent_apart stay go ok go_new kept sent passed m go_apart
 
-    pub obliterates : IsRepo stay → Accepts stay (behind needed sent) → Obliterates repo chosen stay (behind needed sent) bound
+    pub obliterates : IsRepo stay → Accepts stay (behind kept sent) → Obliterates repo base chosen stay (behind kept sent) bound
     obliterates ok a = record {
       go = go;
       leaves = l;
       names = parts;
       is_repo = ok;
-      needed = needed;
+      kept = kept;
       sent = sent;
       passed = passed;
       minimizes = m;
       is_bundle = refl;
-      is_taken = minimal.takes stay go ok go_new needed sent passed m a;
+      is_taken = minimal.takes stay go ok go_new kept sent passed m a;
       same_tree = same_tree;
     }
 
-    pub refuses_bundle : (why : Refusal) → RefusesThere stay (behind needed sent) why → RefusesToObliterate repo chosen why
-    refuses_bundle Full r = (stay, go, bound, l, inr (needed, sent, passed, m, r))
+    pub refuses_bundle : (why : Refusal) → RefusesThere stay (behind kept sent) why → RefusesToObliterate repo base chosen why
+    refuses_bundle Full r = (stay, go, bound, l, inr (kept, sent, passed, m, r))
     refuses_bundle NoMemory r = tt
     refuses_bundle (MissingContext c) r = absurd r
     refuses_bundle (MissingDependency n d) r = absurd r

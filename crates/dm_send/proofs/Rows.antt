@@ -1,14 +1,14 @@
 -- Rows of squares along a slice: the patch on its way passes one more.
-use Rattle.std.proofs.Common.{◌≡◌, ℕ, zero, suc, ◌+◌, ◌-◌, ◌<◌, List, [], ◌∷◌, ◌++◌, length, take, drop, get_or, slice_get, Some, set, Bool, true, false, refl, arith, ◌∙◌}
+use Rattle.std.proofs.Common.{◌≡◌, ℕ, zero, suc, ◌+◌, ◌-◌, ◌<◌, List, [], ◌∷◌, ◌++◌, length, take, drop, get_or, slice_get, Some, set, min, Bool, true, false, refl, arith, ◌∙◌}
 use Rattle.std.specs.Prelude.{MatchBool}
-use Rattle.std.proofs.lemmas.List.{take_more, take_more_set, drop-set-lt}
+use Rattle.std.proofs.lemmas.List.{take_more, take_more_set, drop-set-lt, drop_min, take_min}
 use Rattle.dm_prim.specs.Rectangles.{CellRow, none, next, empty, row}
 use Rattle.dm_prim.proofs.RectangleLemmas.{rectangle_one}
 use Rattle.dm_named.specs.Patches.{Patch}
 use Rattle.dm_named.specs.Commuting.{NamedCommutes}
 use Rattle.dm_repo.proofs.RowSteps.{around, same_at}
 use Rattle.dm_repo.proofs.Staircases.{strip_part}
-use Rattle.dm_send.specs.Minimizing.{IsNeeded, Minimizes, goes, stays, Yields}
+use Rattle.dm_send.specs.Minimizing.{IsNeeded, Minimizes, MinimizesBehind, goes, stays, Yields}
 
 first_of : {P : Type 0} (x y : P) → x ∷ [] ≡ y ∷ [] → x ≡ y
 first_of x y e = cc
@@ -84,3 +84,8 @@ module _ {P : Type 0} (Square : P → P → P → P → Type 0) where
   pub more_stays : (xs : List P) (j : ℕ) (x : P) {new needed sent gone : List P} → 0 < j → slice_get xs (j - 1) ≡ Some x → Minimizes Square (drop j xs) new needed sent gone →
       IsNeeded Square x needed sent → Minimizes Square (drop (j - 1) xs) new (x ∷ needed) sent gone
   more_stays xs j x o e m n = rw (drop_down xs j x o e) (stays m n)
+
+  -- the first ones, as many as there are, are kept
+  pub behind_first : (base k : ℕ) (xs : List P) {new needed sent gone : List P} → k ≡ min base (length xs) → Minimizes Square (drop k xs) new needed sent gone →
+      MinimizesBehind Square base xs new (take k xs ++ needed) sent gone
+  behind_first base k xs {needed = ys} e m = record { needed = ys; minimizes = rw (e, drop_min base xs) at m; is_kept = rw (e, take_min base xs) refl }

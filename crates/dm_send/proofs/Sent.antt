@@ -18,7 +18,7 @@ use Rattle.dm_repo.specs.declared.weighed.Weighed.{Weighed}
 use Rattle.dm_repo.specs.declared.weighed.Weighed.TheVariants.{NothingNew, Merged as merged}
 use Rattle.dm_repo.proofs.Members.{none_of}
 use Rattle.dm_repo.proofs.Placed.{patches_placed}
-use Rattle.dm_send.specs.Minimizing.{Minimizes}
+use Rattle.dm_send.specs.Minimizing.{MinimizesBehind}
 use Rattle.dm_send.specs.Sending.{Accepts, IsDivided, IsRefusedAs, IsSplitFor, MakesSameTree, Parts, RefusesThere, RefusesToDivide, RefusesToSplitFor, RefusesToSend, RefusesToSendMinimal, Sends, SendsMinimal, behind, just}
 use Rattle.dm_send.proofs.Minimal.{is_context, takes}
 use Rattle.dm_send.proofs.Parting.{front_distinct, no_doubles, split_parts, to_reverse}
@@ -58,18 +58,19 @@ module _ (repo : List Patch) (theirs : List PatchInfo) (most : ℕ) (shared new 
   pub sends : Accepts shared (behind shared new) → Sends repo theirs most (behind shared new)
   sends a = record { shared = shared; new = new; divided = d; is_sent = refl; is_taken = takes_whole shared new apart a }
 
-  pub sends_minimal : (needed sent gone : List Patch) → Minimizes NamedCommutes shared new needed sent gone → Accepts shared (behind needed sent) → SendsMinimal repo theirs most (behind needed sent)
-  sends_minimal needed sent gone m a = record {
+  pub sends_minimal : {base : ℕ} (kept sent gone : List Patch) → MinimizesBehind NamedCommutes base shared new kept sent gone → Accepts shared (behind kept sent) →
+      SendsMinimal repo base theirs most (behind kept sent)
+  sends_minimal kept sent gone m a = record {
     shared = shared;
     new = new;
     divided = d;
-    needed = needed;
+    kept = kept;
     sent = sent;
     gone = gone;
     minimizes = m;
     is_sent = refl;
-    is_context = is_context shared new d.is_repo apart needed sent gone m;
-    is_taken = takes shared new d.is_repo apart needed sent gone m a;
+    is_context = is_context shared new d.is_repo apart kept sent gone m;
+    is_taken = takes shared new d.is_repo apart kept sent gone m a;
   }
 
 -- memory ran out, or something else is wrong
@@ -114,15 +115,15 @@ module _ (repo : List Patch) (theirs : List PatchInfo) (most : ℕ) where
   unsent (DoesNotFit n) r = r
   unsent (Conflicts n h) r = r
 
-  pub unsent_minimal : (why : Refusal) → RefusesToDivide repo theirs why → RefusesToSendMinimal repo theirs most why
-  unsent_minimal Full r = inl r
-  unsent_minimal NoMemory r = r
-  unsent_minimal (MissingContext c) r = r
-  unsent_minimal (MissingDependency n d) r = r
-  unsent_minimal (ContextDepends h k) r = r
-  unsent_minimal (HeldDepends h n) r = r
-  unsent_minimal (DoesNotFit n) r = r
-  unsent_minimal (Conflicts n h) r = r
+  pub unsent_minimal : (base : ℕ) (why : Refusal) → RefusesToDivide repo theirs why → RefusesToSendMinimal repo base theirs most why
+  unsent_minimal base Full r = inl r
+  unsent_minimal base NoMemory r = r
+  unsent_minimal base (MissingContext c) r = r
+  unsent_minimal base (MissingDependency n d) r = r
+  unsent_minimal base (ContextDepends h k) r = r
+  unsent_minimal base (HeldDepends h n) r = r
+  unsent_minimal base (DoesNotFit n) r = r
+  unsent_minimal base (Conflicts n h) r = r
 
   -- nor taken
   pub untaken : (shared new : List Patch) → IsDivided repo theirs most shared new → (why : Refusal) → RefusesThere shared (behind shared new) why → RefusesToSend repo theirs most why
@@ -135,13 +136,13 @@ module _ (repo : List Patch) (theirs : List PatchInfo) (most : ℕ) where
   untaken shared new d (DoesNotFit n) r = absurd r
   untaken shared new d (Conflicts n h) r = absurd r
 
-  pub untaken_minimal : (shared new needed sent gone : List Patch) → IsDivided repo theirs most shared new → Minimizes NamedCommutes shared new needed sent gone →
-      (why : Refusal) → RefusesThere shared (behind needed sent) why → RefusesToSendMinimal repo theirs most why
-  untaken_minimal shared new needed sent gone d m Full r = inr (shared, new, needed, sent, gone, d, m, r)
-  untaken_minimal shared new needed sent gone d m NoMemory r = tt
-  untaken_minimal shared new needed sent gone d m (MissingContext c) r = absurd r
-  untaken_minimal shared new needed sent gone d m (MissingDependency n e) r = absurd r
-  untaken_minimal shared new needed sent gone d m (ContextDepends h k) r = absurd r
-  untaken_minimal shared new needed sent gone d m (HeldDepends h n) r = absurd r
-  untaken_minimal shared new needed sent gone d m (DoesNotFit n) r = absurd r
-  untaken_minimal shared new needed sent gone d m (Conflicts n h) r = absurd r
+  pub untaken_minimal : {base : ℕ} (shared new kept sent gone : List Patch) → IsDivided repo theirs most shared new → MinimizesBehind NamedCommutes base shared new kept sent gone →
+      (why : Refusal) → RefusesThere shared (behind kept sent) why → RefusesToSendMinimal repo base theirs most why
+  untaken_minimal shared new kept sent gone d m Full r = inr (shared, new, kept, sent, gone, d, m, r)
+  untaken_minimal shared new kept sent gone d m NoMemory r = tt
+  untaken_minimal shared new kept sent gone d m (MissingContext c) r = absurd r
+  untaken_minimal shared new kept sent gone d m (MissingDependency n e) r = absurd r
+  untaken_minimal shared new kept sent gone d m (ContextDepends h k) r = absurd r
+  untaken_minimal shared new kept sent gone d m (HeldDepends h n) r = absurd r
+  untaken_minimal shared new kept sent gone d m (DoesNotFit n) r = absurd r
+  untaken_minimal shared new kept sent gone d m (Conflicts n h) r = absurd r

@@ -1,6 +1,7 @@
 -- Where patches go that aren't needed: first behind what is needed, then behind what is sent. Names and dependencies stay.
-use Rattle.std.proofs.Common.{◌≡◌, ◌⊎◌, List, [], ◌∷◌, ◌++◌, map, inl, inr, refl, ap₂, ◌∙◌}
+use Rattle.std.proofs.Common.{◌≡◌, ◌⊎◌, ℕ, List, [], ◌∷◌, ◌++◌, take, drop, map, inl, inr, refl, ap₂, ◌∙◌}
 use Rattle.std.specs.List.{Contains}
+use Rattle.std.proofs.lemmas.List.{take-append-drop}
 use Rattle.std.proofs.lemmas.List.Elements.{Contains-append_cases}
 use Rattle.dm_info.specs.PatchInfo.{PatchInfo}
 use Rattle.dm_prim.specs.Rectangles.{CellRow, none, next, Rectangle, empty, row}
@@ -12,7 +13,7 @@ use Rattle.dm_repo.specs.Staircases as staircases
 use Rattle.dm_repo.specs.Staircases.{Split}
 use Rattle.dm_repo.proofs.Members.{here, more, one_of, none_of, in_infos}
 use Rattle.dm_send.specs.Minimizing as minimizing
-use Rattle.dm_send.specs.Minimizing.{Minimizes}
+use Rattle.dm_send.specs.Minimizing.{Minimizes, MinimizesBehind}
 
 -- a split that doesn't say why
 pub data Stair : List Patch → List Patch → List Patch → Type 0 where
@@ -30,6 +31,17 @@ pub steps : {xs new needed sent gone : List Patch} → Minimizes NamedCommutes x
 steps minimizing.nothing = record { between = []; stair = nothing; past = empty }
 steps (minimizing.stays m n) = let s = steps m in record { between = s.between; stair = stays s.stair; past = s.past }
 steps (minimizing.goes m y) = let s = steps m in record { between = y.between ∷ s.between; stair = yields s.stair y.past_needed; past = row s.past y.past_sent }
+
+-- the first ones stay where they are
+stays_first : (first : List Patch) {xs needed gone : List Patch} → Stair xs needed gone → Stair (first ++ xs) (first ++ needed) gone
+stays_first [] s = s
+stays_first (x ∷ first) s = stays (stays_first first s)
+
+pub steps_behind : {base : ℕ} {shared new kept sent gone : List Patch} → MinimizesBehind NamedCommutes base shared new kept sent gone → Steps shared new kept sent gone
+steps_behind {base} {shared} m =
+    let s = steps m.minimizes in
+    let whole : Stair (take base shared ++ drop base shared) (take base shared ++ m.needed) s.between = stays_first (take base shared) s.stair in
+    record { between = s.between; stair = rw m.is_kept (rw (take-append-drop base shared) at whole); past = s.past }
 
 pub row_infos : {x x' : Patch} {ys ys' : List Patch} → CellRow NamedCommutes x ys ys' x' → (infos_of ys' ≡ infos_of ys) × (x'.info ≡ x.info)
 row_infos none = (refl, refl)

@@ -1,5 +1,5 @@
 -- A patch that undoes others: the trees, and the bundle.
-use Rattle.std.proofs.Common.{◌≡◌, ◌↔◌, List, [], ◌∷◌, ◌++◌, reverse, inl, inr, refl, sym, ap, ◌∙◌}
+use Rattle.std.proofs.Common.{◌≡◌, ◌↔◌, ℕ, List, [], ◌∷◌, ◌++◌, reverse, inl, inr, refl, sym, ap, ◌∙◌}
 use Rattle.std.specs.List.{Contains}
 use Rattle.dm_info.specs.PatchInfo.{PatchInfo}
 use Rattle.dm_prim.specs.InTurn.{InTurn, done, step}
@@ -18,7 +18,7 @@ use Rattle.dm_repo.proofs.Members.{none_of, one_of}
 use Rattle.dm_repo.proofs.Staircases.{runs_on, runs_part}
 use Rattle.dm_repo.proofs.Trees.{fold_one, grows_fold}
 use Rattle.dm_send.specs.Leaving.{Leaves}
-use Rattle.dm_send.specs.Minimizing.{Minimizes}
+use Rattle.dm_send.specs.Minimizing.{MinimizesBehind}
 use Rattle.dm_send.specs.Sending.{Accepts, RefusesThere, behind}
 use Rattle.dm_send.specs.Undoing.{RefusesUndoing, RollsBack, Undoes, prims_in}
 use Rattle.dm_send.proofs.Left.{same_tree}
@@ -82,24 +82,24 @@ module _ (repo : List Patch) (chosen : List PatchInfo) (name : PatchInfo) (undo 
   doubles : HasNoDoubles (undo ∷ []) (reverse (infos_of repo))
   doubles = record { distinct = ((λ c. none_of c), tt); apart = λ i c h. apart i c (in_reverse (infos_of repo) h) }
 
-  module _ (needed sent passed : List Patch) (m : Minimizes NamedCommutes repo (undo ∷ []) needed sent passed) where
-    pub undo_apart : HasNoDoubles sent (reverse (infos_of needed))
-    undo_apart = sent_apart repo (undo ∷ []) ok apart needed sent passed m doubles
+  module _ (kept sent passed : List Patch) {base : ℕ} (m : MinimizesBehind NamedCommutes base repo (undo ∷ []) kept sent passed) where
+    pub undo_apart : HasNoDoubles sent (reverse (infos_of kept))
+    undo_apart = sent_apart repo (undo ∷ []) ok apart kept sent passed m doubles
 
-    pub rolls_back : Accepts repo (behind needed sent) → RollsBack repo chosen name (behind needed sent)
+    pub rolls_back : Accepts repo (behind kept sent) → RollsBack repo base chosen name (behind kept sent)
     rolls_back a = record {
       undo = undo;
       undoes = u;
-      needed = needed;
+      kept = kept;
       sent = sent;
       passed = passed;
       minimizes = m;
       is_bundle = refl;
-      is_taken = takes repo (undo ∷ []) ok apart needed sent passed m a;
+      is_taken = takes repo (undo ∷ []) ok apart kept sent passed m a;
     }
 
-    pub refuses_undoing : (why : Refusal) → RefusesThere repo (behind needed sent) why → RefusesUndoing repo chosen name why
-    refuses_undoing Full r = (undo, needed, sent, passed, u, m, r)
+    pub refuses_undoing : (why : Refusal) → RefusesThere repo (behind kept sent) why → RefusesUndoing repo base chosen name why
+    refuses_undoing Full r = (undo, kept, sent, passed, u, m, r)
     refuses_undoing NoMemory r = tt
     refuses_undoing (MissingContext c) r = absurd r
     refuses_undoing (MissingDependency n d) r = absurd r

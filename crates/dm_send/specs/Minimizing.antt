@@ -1,5 +1,5 @@
 -- What new patches need of those before them (`darcs send --minimize`). `Square x y y' x'` says that x then y are y' then x'.
-use Rattle.std.specs.Prelude.{List, [], ◌∷◌}
+use Rattle.std.specs.Prelude.{◌≡◌, ℕ, List, [], ◌∷◌, ◌++◌, take, drop}
 use Rattle.dm_prim.specs.Rectangles.{CellRow}
 
 -- x passes what is needed, and then what is sent: so it stands behind both
@@ -20,3 +20,10 @@ pub data Minimizes {P : Type 0} (Square : P → P → P → P → Type 0) : List
       Minimizes Square (x ∷ xs) new (x ∷ needed) sent gone
   goes : {x x' : P} {xs new needed needed' sent sent' gone : List P} → Minimizes Square xs new needed sent gone →
       Yields Square x needed sent needed' sent' x' → Minimizes Square (x ∷ xs) new needed' sent' (x' ∷ gone)
+
+-- `MinimizesBehind Square base shared new kept sent gone`: the first `base` of the shared ones are kept, whatever they could pass, and then those of the
+-- others that are needed
+pub record MinimizesBehind {P : Type 0} (Square : P → P → P → P → Type 0) (base : ℕ) (shared new kept sent gone : List P) : Type 0 where
+  pub needed : List P
+  pub minimizes : Minimizes Square (drop base shared) new needed sent gone
+  pub is_kept : kept ≡ take base shared ++ needed

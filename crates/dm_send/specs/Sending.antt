@@ -17,7 +17,7 @@ use Rattle.dm_repo.specs.Squares.{Placed, placed, patches, PlacedCommutes}
 use Rattle.dm_repo.specs.Staircases.{Split, SplitStops}
 use Rattle.dm_repo.specs.Stops.{AtPlaces}
 use Rattle.dm_repo.specs.Weighing.{IsMergeOf, IsNothingNew, RefusesBundle}
-use Rattle.dm_send.specs.Minimizing.{Minimizes}
+use Rattle.dm_send.specs.Minimizing.{MinimizesBehind}
 
 -- both hold the patch: theirs has its name, or names it by way of dependencies
 abbrev pub IsShared : List Patch → List PatchInfo → Placed → Type 0
@@ -96,17 +96,17 @@ pub record Sends (repo : List Patch) (theirs : List PatchInfo) (most : ℕ) (b :
   -- the repository of just these, in this order, takes it as it is
   pub is_taken : TakesAs shared b new
 
--- a bundle for the same, that names of the shared patches only those that can't pass what is behind them
-pub record SendsMinimal (repo : List Patch) (theirs : List PatchInfo) (most : ℕ) (b : Contents) : Type 0 where
+-- a bundle for the same, that names of the shared patches the first `base`, and of the others only those that can't pass what is behind them
+pub record SendsMinimal (repo : List Patch) (base : ℕ) (theirs : List PatchInfo) (most : ℕ) (b : Contents) : Type 0 where
   pub shared : List Patch
   pub new : List Patch
   pub divided : IsDivided repo theirs most shared new
-  pub needed : List Patch
+  pub kept : List Patch
   pub sent : List Patch
   pub gone : List Patch
-  pub minimizes : Minimizes NamedCommutes shared new needed sent gone
-  pub is_sent : b ≡ behind needed sent
-  -- what is needed is shared
+  pub minimizes : MinimizesBehind NamedCommutes base shared new kept sent gone
+  pub is_sent : b ≡ behind kept sent
+  -- what is kept is shared
   pub is_context : (i : PatchInfo) → Contains b.context i → Contains (infos_of shared) i
   -- the repository of all that is shared, in this order, takes it, and has then the same patches behind that
   pub is_taken : TakesAs shared b new
@@ -123,10 +123,10 @@ RefusesToSend repo theirs most Full =
     ((shared : List Patch) × (new : List Patch) × IsDivided repo theirs most shared new × IsRefused shared (behind shared new))
 RefusesToSend repo theirs most why = RefusesToDivide repo theirs why
 
--- so it is where the bundle rests on no more than it needs
-abbrev pub RefusesToSendMinimal : List Patch → List PatchInfo → ℕ → Refusal → Type 0
-RefusesToSendMinimal repo theirs most Full =
+-- so it is where the bundle rests on the first `base` of the shared patches, and else on no more than it needs
+abbrev pub RefusesToSendMinimal : List Patch → ℕ → List PatchInfo → ℕ → Refusal → Type 0
+RefusesToSendMinimal repo base theirs most Full =
     RefusesToDivide repo theirs Full ⊎
-    ((shared : List Patch) × (new : List Patch) × (needed : List Patch) × (sent : List Patch) × (gone : List Patch) × IsDivided repo theirs most shared new ×
-    Minimizes NamedCommutes shared new needed sent gone × IsRefused shared (behind needed sent))
-RefusesToSendMinimal repo theirs most why = RefusesToDivide repo theirs why
+    ((shared : List Patch) × (new : List Patch) × (kept : List Patch) × (sent : List Patch) × (gone : List Patch) × IsDivided repo theirs most shared new ×
+    MinimizesBehind NamedCommutes base shared new kept sent gone × IsRefused shared (behind kept sent))
+RefusesToSendMinimal repo base theirs most why = RefusesToDivide repo theirs why

@@ -1,19 +1,22 @@
 //! What new patches need of the shared ones.
-ghost use Rattle.std.specs.Prelude.{◌≡◌, List, IfOk, IsTrue, MatchBool};
+ghost use Rattle.std.specs.Prelude.{◌≡◌, ◌++◌, List, reverse, IfOk, IsTrue, MatchBool};
 ghost use Rattle.dm_prim.specs.Rectangles.{CellRow};
 ghost use Rattle.dm_named.specs.Patches.{Patch};
 ghost use Rattle.dm_named.specs.Commuting.{NamedCommutes};
-ghost use Rattle.dm_send.specs.Minimizing.{IsNeeded, Minimizes, Yields};
+ghost use Rattle.dm_bundle.specs.Patches.{infos_of};
+ghost use Rattle.dm_send.specs.Minimizing.{IsNeeded, MinimizesBehind, Yields};
 
+use dm_info::Info;
 use dm_named::{Named, Passing, are_apart, commute_named_in_place};
-use dm_repo::Repo;
+use dm_repo::{Repo, copy_names};
 use std::alloc::{AllocError, Allocator};
 
-/// New patches, and what they need.
+/// New patches, and what is kept of the shared ones.
 #[derive(Drop)]
 pub(crate) struct Minimal<A: Allocator> {
-    /// The shared patches that can't pass what is needed behind them and the new ones, as they stand alone.
-    pub(crate) needed: Vec<Named<A>, A>,
+    /// The names of the shared patches that are kept, the newest first: of those behind the base, only the ones that can't pass
+    /// what is needed behind them and the new ones.
+    pub(crate) names: Vec<Info<A>, A>,
     /// The new patches, as they stand behind these.
     pub(crate) sent: Vec<Named<A>, A>,
 }
@@ -190,26 +193,46 @@ pub(crate) fn named_all<A: Allocator + Copy>(
     Ok(named)
 }
 
-/// What new patches need of those of a repository, and these as they then stand: of its patches, the last first, each goes that
-/// passes all that is needed behind it and the new ones.
+/// The names of patches and of those needed behind them, the newest first.
+fn names_of_both<A: Allocator + Copy>(
+    alloc: A,
+    base: &[Named<A>],
+    needed: &[Named<A>],
+) -> Result<Vec<Info<A>, A>, AllocError>
+    ensures { IfOk result (λ names. names.items ≡ reverse (infos_of (base.now ++ needed.now))) }
+{
+    let mut names = copy_names(alloc, base)?;
+    let mut later = copy_names(alloc, needed)?;
+    names.append(&mut later)?;
+    names.reverse();
+    Ok(names)
+}
+
+/// What new patches need of those of a repository, and these as they then stand: its first `base` patches are kept; of the others,
+/// the last first, each goes that passes all that is needed behind it and the new ones.
 pub(crate) fn minimize<A: Allocator + Copy>(
     alloc: A,
     shared: &Repo<A>,
+    base: usize,
     new: Vec<Named<A>, A>,
 ) -> Result<Minimal<A>, AllocError>
-    ensures { IfOk result (λ minimal. (gone : List Patch) × Minimizes NamedCommutes shared.now.patches new.items minimal.needed.items minimal.sent.items gone) }
+    ensures { IfOk result (λ minimal. (kept : List Patch) × (gone : List Patch) × (minimal.names.items ≡ reverse (infos_of kept)) ×
+        MinimizesBehind NamedCommutes base shared.now.patches new.items kept minimal.sent.items gone) }
 {
+    let first = base.min(shared.len());
     let mut needed = Vec::new(alloc);
     let mut sent = passing_all(alloc, new)?;
-    for k in (0..shared.len()).rev() {
+    for k in (first..shared.len()).rev() {
         let patch = shared.patch(k);
         if yields(alloc, patch, needed.as_mut_slice(), sent.as_mut_slice())? {
             continue;
         }
         needed.insert(0, copy_of(alloc, patch)?)?;
     }
+    let needed = named_all(alloc, needed)?;
+    let names = names_of_both(alloc, &shared.patches()[..first], &needed)?;
     Ok(Minimal {
-        needed: named_all(alloc, needed)?,
+        names,
         sent: named_all(alloc, sent)?,
     })
 }

@@ -4,7 +4,7 @@ ghost use Rattle.dm_send.specs.Obliterating.{Obliterates, RefusesToObliterate};
 
 use crate::leaving::part;
 use crate::minimizing::{minimize, named_all};
-use crate::sending::{accepted, is_lawful, names_of, refused_there, repo_of};
+use crate::sending::{accepted, is_lawful, refused_there, repo_of};
 use dm_bundle::Bundle;
 use dm_info::Info;
 use dm_repo::{Refusal, Repo};
@@ -15,7 +15,7 @@ use std::alloc::Allocator;
 pub struct Obliterated<A: Allocator> {
     /// What stays.
     pub repo: Repo<A>,
-    /// What goes, behind those that stay and that it can't pass: its context names these, and no others.
+    /// What goes, behind those that stay and that it can't pass: its context names these, the base, and no others.
     pub bundle: Bundle<A>,
     /// The names of those that go though they weren't chosen, in their order. Each stands with the name of one that it can't do
     /// without: the last of those that stop it.
@@ -25,18 +25,19 @@ pub struct Obliterated<A: Allocator> {
 /// Takes the patches of these names out of a repository, and with them each patch that can't do without one that goes. A name that
 /// isn't held is passed over. The repository stays as it was.
 ///
-/// The bundle's context names those of what stays that what goes can't pass, and what these need (`darcs obliterate -o` does so).
-/// What stays takes the bundle.
+/// The bundle's context names the first `base` patches of what stays, and of the others those that what goes can't pass, and what
+/// these need (`darcs obliterate -o` does so). What stays takes the bundle.
 ///
 /// It refuses with [`Refusal::Full`] where a repository of what stays can't be made, or refuses the bundle. The contract doesn't
 /// say why it would; the one cause that we know is a path of too many names.
 pub fn obliterate<A: Allocator, B: Allocator + Copy>(
     alloc: B,
     repo: &Repo<A>,
+    base: usize,
     chosen: &[Info<A>],
 ) -> Result<Obliterated<B>, Refusal>
-    ensures obliterates { IfOk result (λ o. Obliterates repo.now.patches chosen.now o.repo.patches o.bundle o.bound.items) }
-    ensures refusal { IfErr result (RefusesToObliterate repo.now.patches chosen.now) }
+    ensures obliterates { IfOk result (λ o. Obliterates repo.now.patches base chosen.now o.repo.patches o.bundle o.bound.items) }
+    ensures refusal { IfErr result (RefusesToObliterate repo.now.patches base chosen.now) }
 {
     is_lawful(repo);
     let parting = part(alloc, repo, chosen)?;
@@ -47,9 +48,12 @@ pub fn obliterate<A: Allocator, B: Allocator + Copy>(
         Err(why) => return Err(refused_there(why)),
     };
     is_lawful(&stays);
-    let minimal = minimize(alloc, &stays, gone)?;
-    let names = names_of(alloc, &minimal.needed)?;
-    let bundle = accepted(alloc, &stays, Bundle::without_doubles(minimal.sent, names))?;
+    let minimal = minimize(alloc, &stays, base, gone)?;
+    let bundle = accepted(
+        alloc,
+        &stays,
+        Bundle::without_doubles(minimal.sent, minimal.names),
+    )?;
     Ok(Obliterated {
         repo: stays,
         bundle,

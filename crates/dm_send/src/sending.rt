@@ -29,10 +29,7 @@ fn without_places<B: Allocator + Copy>(
 }
 
 /// The names of patches, the newest first.
-pub(crate) fn names_of<B: Allocator + Copy>(
-    alloc: B,
-    list: &[Named<B>],
-) -> Result<Vec<Info<B>, B>, AllocError>
+fn names_of<B: Allocator + Copy>(alloc: B, list: &[Named<B>]) -> Result<Vec<Info<B>, B>, AllocError>
     ensures { IfOk result (λ names. names.items ≡ reverse (infos_of list.now)) }
 {
     let mut names = copy_names(alloc, list)?;
@@ -154,25 +151,27 @@ pub fn send<A: Allocator + Copy, B: Allocator + Copy>(
     Ok(accepted)
 }
 
-/// The same bundle, with no more context than it needs (`darcs send --minimize`): of the shared patches, from the last to the
-/// first, each is left out that passes those kept behind it and the new ones. One that any of these names as a dependency
-/// passes none of them, so it is kept. The new patches are as they stand behind what is kept.
+/// The same bundle, with no more context than it needs (`darcs send --minimize`): of the shared patches behind the first `base`,
+/// the last first, each is left out that passes those kept behind it and the new ones. One that any of these names as a
+/// dependency passes none of them, so it is kept. The new patches are as they stand behind what is kept.
+///
+/// The first `base` patches are always kept: those with which a mirror begins at a tag, or none.
 ///
 /// It refuses as [`send`] does.
 pub fn send_minimal<A: Allocator + Copy, B: Allocator + Copy>(
     alloc: B,
     repo: &Repo<A>,
+    base: usize,
     theirs: &[Info<A>],
     most: usize,
 ) -> Result<Bundle<B>, Refusal>
-    ensures sent { IfOk result (SendsMinimal repo.now.patches theirs.now most) }
-    ensures refusal { IfErr result (RefusesToSendMinimal repo.now.patches theirs.now most) }
+    ensures sent { IfOk result (SendsMinimal repo.now.patches base theirs.now most) }
+    ensures refusal { IfErr result (RefusesToSendMinimal repo.now.patches base theirs.now most) }
 {
     let divided = divide(alloc, repo, theirs, most)?;
     let new = divided.new;
-    let minimal = minimize(alloc, &divided.shared, new)?;
-    let names = names_of(alloc, &minimal.needed)?;
-    let bundle = Bundle::without_doubles(minimal.sent, names);
+    let minimal = minimize(alloc, &divided.shared, base, new)?;
+    let bundle = Bundle::without_doubles(minimal.sent, minimal.names);
     let accepted = accepted(alloc, &divided.shared, bundle)?;
     Ok(accepted)
 }

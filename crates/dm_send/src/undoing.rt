@@ -1,5 +1,5 @@
 //! A patch that undoes others.
-ghost use Rattle.std.specs.Prelude.{◌≡◌, ◌∷◌, [], IfErr, IfOk, MatchBool};
+ghost use Rattle.std.specs.Prelude.{◌≡◌, ◌∷◌, ℕ, [], IfErr, IfOk, MatchBool};
 ghost use Rattle.dm_prim.specs.Primitives.{inv_all};
 ghost use Rattle.dm_prim.specs.Prims.{prims_of};
 ghost use Rattle.dm_repo.specs.Repositories.{Holds};
@@ -9,7 +9,7 @@ ghost use Rattle.dm_send.specs.Undoing.{IsUndoFault, RollsBack, Undoes, prims_in
 
 use crate::leaving::part;
 use crate::minimizing::minimize;
-use crate::sending::{accepted, is_lawful, names_of};
+use crate::sending::{accepted, is_lawful};
 use dm_bundle::Bundle;
 use dm_info::Info;
 use dm_named::{Named, Passing};
@@ -98,7 +98,7 @@ fn undo_of<A: Allocator + Copy>(
     name: Info<A>,
 ) -> Result<Named<A>, UndoFault<A>>
     ensures undoes { IfOk result (Undoes repo.now.patches chosen.now name) }
-    ensures fault { IfErr result (IsUndoFault repo.now.patches chosen.now name) }
+    ensures fault { IfErr result (λ fault. (base : ℕ) → IsUndoFault repo.now.patches base chosen.now name fault) }
 {
     is_lawful(repo);
     let parting = part(alloc, repo, chosen)?;
@@ -114,16 +114,17 @@ fn undo_of<A: Allocator + Copy>(
 }
 
 /// The bundle of a new patch that undoes those of chosen names: it has the inverses of what they do behind all the others. Its
-/// context names the patches that it can't pass, and what these need (`darcs send --minimize`). A name that isn't held is passed
-/// over. The repository stays as it was.
+/// context names the first `base` patches, and of the others those that it can't pass, and what these need (`darcs send
+/// --minimize`). A name that isn't held is passed over. The repository stays as it was.
 pub fn roll_back<A: Allocator + Copy>(
     alloc: A,
     repo: &Repo<A>,
+    base: usize,
     chosen: &[Info<A>],
     name: Info<A>,
 ) -> Result<Bundle<A>, UndoFault<A>>
-    ensures rolls_back { IfOk result (RollsBack repo.now.patches chosen.now name) }
-    ensures fault { IfErr result (IsUndoFault repo.now.patches chosen.now name) }
+    ensures rolls_back { IfOk result (RollsBack repo.now.patches base chosen.now name) }
+    ensures fault { IfErr result (IsUndoFault repo.now.patches base chosen.now name) }
 {
     is_lawful(repo);
     if is_held(repo, &name) {
@@ -131,9 +132,8 @@ pub fn roll_back<A: Allocator + Copy>(
     }
     let undo = undo_of(alloc, repo, chosen, name)?;
     let new = just(alloc, undo)?;
-    let minimal = minimize(alloc, repo, new)?;
-    let names = names_of(alloc, &minimal.needed)?;
-    let bundle = Bundle::without_doubles(minimal.sent, names);
+    let minimal = minimize(alloc, repo, base, new)?;
+    let bundle = Bundle::without_doubles(minimal.sent, minimal.names);
     let accepted = accepted(alloc, repo, bundle)?;
     Ok(accepted)
 }

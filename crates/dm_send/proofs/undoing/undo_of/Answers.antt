@@ -14,7 +14,7 @@ returns-then-is_empty-clause-fault g c =
     let q = c.in_ok-prims.prims in
     let zero2 : q.len ≡ 0 = eqb-true q.len 0 (sym c.is_empty-2.ensures ∙ c.if-is_empty.true) in
     let nothing = empty_of q.items (sym q.ok.0 ∙ zero2) in
-    (p.stay.items, p.go.items, rw none at c.in_ok-parting.ensures, no_inverses (prims_in p.go.items) (sym c.in_ok-prims.ensures ∙ ap prims_of nothing))
+    λ base. (p.stay.items, p.go.items, rw none at c.in_ok-parting.ensures, no_inverses (prims_in p.go.items) (sym c.in_ok-prims.ensures ∙ ap prims_of nothing))
 
 pub returns-clause-undoes : goal.returns-clause-undoes
 returns-clause-undoes g c =
