@@ -110,9 +110,8 @@ bound_answer_alike repo b cut a policy x =
     )
 
 pub cut_answers_alike : CutAnswersAlike
-cut_answers_alike mine repo b cut n r begins c brings knows =
-    let e : c.base ≡ n = base_one c.begins begins in
-    let names : CutsNames (infos_of (take n mine)) b.context cut.context = subst (λ (j : ℕ). CutsNames (infos_of (take j mine)) b.context cut.context) e c.context in
+cut_answers_alike mine repo b cut n r c brings knows =
+    let names : CutsNames (infos_of (take n mine)) b.context cut.context = c.context in
     let d = distinct_take mine n r.distinct in
     bound_answer_alike repo b cut (record {
       patches = c.patches;

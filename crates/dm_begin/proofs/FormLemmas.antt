@@ -1,6 +1,6 @@
 -- A beginning has the form of a base.
-use Rattle.std.proofs.Common.{◌≡◌, ◌≢◌, ◌⊎◌, inl, inr, ◌≤◌, ℕ, List, [], ◌∷◌, ◌++◌, length, refl, sym, ap, ap₂, subst, ◌∙◌, arith, append-nil}
-use Rattle.std.proofs.lemmas.List.{length-append, length-map, same_from_push, take_all, take_at}
+use Rattle.std.proofs.Common.{◌≡◌, ◌≢◌, ◌↔◌, ◌⊎◌, inl, inr, ◌≤◌, ℕ, zero, suc, take, List, [], ◌∷◌, ◌++◌, length, refl, sym, ap, ap₂, subst, ◌∙◌, arith, append-nil}
+use Rattle.std.proofs.lemmas.List.{length-append, length-map, length-take-le, same_from_push, take_all}
 use Rattle.dm_info.specs.PatchInfo.{PatchInfo}
 use Rattle.dm_tree.specs.Paths.{Path}
 use Rattle.dm_tree.specs.Trees.{Dir, Entry, File, Tree}
@@ -8,8 +8,8 @@ use Rattle.dm_prim.specs.Primitives.{Prim}
 use Rattle.dm_named.specs.Patches.{Patch}
 use Rattle.dm_bundle.specs.Patches.{infos_of}
 use Rattle.dm_repo.proofs.Members.{infos_of-append}
-use Rattle.dm_begin.specs.Bases.{BeginsWith, IsBase, IsLast, IsTag}
-use Rattle.dm_begin.specs.BaseLaws.{BeginningIsBase}
+use Rattle.dm_begin.specs.Bases.{BeginsWith, IsBase, IsLast, IsTag, MayHaveBase}
+use Rattle.dm_begin.specs.BaseLaws.{BaseStays, BeginningIsBase}
 use Rattle.dm_begin.specs.Beginnings.{IsBeginning, IsPacked, prims_in}
 use Rattle.dm_begin.specs.Making.{making_all, rows}
 use Rattle.dm_begin.proofs.BaseLemmas.{filled_more}
@@ -78,11 +78,38 @@ module _ (names : List PatchInfo) (tree : Tree) (patches : List Patch) (tag : Pa
     greatest = λ m l c. let n = same_length in omega (arith, n, l);
   }
 
-  begins_later : (later : List Patch) (n : ℕ) → BeginsWith (patches ++ later) n → length names ≤ n
-  begins_later later n c =
-      let l = same_length in
-      let k = length-append patches later in
-      c.greatest (length names) (omega (arith, l, k)) (subst IsBase (sym (take_at patches later (length names) (sym l))) begun)
-
 pub beginning_is_base : BeginningIsBase
-beginning_is_base names tree patches tag b last is_tag some = (begins names tree patches tag b last is_tag some, begins_later names tree patches tag b last is_tag some)
+beginning_is_base names tree patches tag b last is_tag some = begins names tree patches tag b last is_tag some
+
+-- as many of more patches
+take_of_more : (xs ys : List Patch) (n : ℕ) → n ≤ length xs → take n (xs ++ ys) ≡ take n xs
+take_of_more xs ys zero l = refl
+take_of_more [] ys (suc n) l = absurd (omega (arith, l))
+take_of_more (x ∷ xs) ys (suc n) l = ap (λ z. x ∷ z) (take_of_more xs ys n (omega (arith, l)))
+
+pub base_stays : BaseStays
+base_stays repo more base b =
+    let e = take_of_more repo more base b.within in (
+      record {
+        within = let l = b.within in let k = length-append repo more in omega (arith, l, k);
+        is_base = elim b.is_base [ inl z ↦ inl z | inr c ↦ inr (subst IsBase (sym e) c) ];
+      },
+      e,
+    )
+
+-- whether the form goes as far as that
+pub may_be : (repo : List Patch) (base n : ℕ) → (base ≡ 0 → ⊥) → base ≤ length repo → BeginsWith (take base repo) n → (n ≡ base) ↔ MayHaveBase repo base
+may_be repo base n some l b =
+    let t : take base (take base repo) ≡ take base repo = take_all base (take base repo) (let f = length-take-le base repo l in omega (arith, f)) in (
+      λ e. record { within = l; is_base = elim b.is_base [ inl z ↦ absurd (some (sym e ∙ z)) | inr c ↦ inr (rw t at (rw e at c)) ] },
+      λ m. elim m.is_base [
+        | inl z ↦ absurd (some z)
+        | inr c ↦ let f = length-take-le base repo l in let g = b.greatest base (omega (arith, f)) (rw t c) in let w = b.within in omega (arith, f, g, w)
+      ],
+    )
+
+pub no_base : (repo : List Patch) → MayHaveBase repo 0
+no_base repo = record { within = omega arith; is_base = inl refl }
+
+pub form_may : (repo : List Patch) (n : ℕ) → BeginsWith repo n → MayHaveBase repo n
+form_may repo n b = record { within = b.within; is_base = b.is_base }

@@ -11,9 +11,8 @@ use Rattle.dm_repo.specs.CommonSets.{Closed, Common, HasAll, KnowsContext}
 use Rattle.dm_repo.specs.MarkLists.{AddsMarks, AreMarksOf}
 use Rattle.dm_repo.proofs.MarksLemmas.{in_take_at, some_at}
 use Rattle.dm_repo.proofs.Members.{from_at, one_of, none_of}
-use Rattle.dm_begin.specs.Bases.{AreClosed, BeginsWith, IsBeforeBase, KnowsBase}
+use Rattle.dm_begin.specs.Bases.{AreClosed, IsBeforeBase, KnowsBase}
 use Rattle.dm_begin.specs.Sharing.{AreCommon}
-use Rattle.dm_begin.proofs.BaseLemmas.{base_one}
 
 -- one more of the names isn't held, and so nothing is marked for it
 pub also_less : (infos : List PatchInfo) (old marks : List Bool) (list : List PatchInfo) (c : ℕ) (x : PatchInfo) → c < length list → x ≡ get_or list c x → (Contains infos x → ⊥) →
@@ -69,23 +68,21 @@ infos_take : (repo : List Patch) (n : ℕ) → take n (infos_of repo) ≡ infos_
 infos_take repo n = take-map (λ (x : Patch). x.info) n repo
 
 -- whether the base is known
-pub knows : (repo : List Patch) (names : List PatchInfo) (n : ℕ) (marks : List Bool) → BeginsWith repo n → AreMarksOf marks (infos_of repo) (Closed repo names) →
-    All (λ (m : Bool). m ≡ true) (take n marks) ↔ KnowsBase repo names
-knows repo names n marks b m =
+pub knows : (repo : List Patch) (names : List PatchInfo) (n : ℕ) (marks : List Bool) → AreMarksOf marks (infos_of repo) (Closed repo names) →
+    All (λ (m : Bool). m ≡ true) (take n marks) ↔ KnowsBase repo n names
+knows repo names n marks m =
     let f = first_set (infos_of repo) marks n (Closed repo names) m in
     let e = infos_take repo n in (
-      λ a. record { base = n; begins = b; all = rw e at (f.0 a) },
-      λ k. f.1 (rw e (subst (λ (j : ℕ). AreClosed repo names (infos_of (take j repo))) (base_one k.begins b) k.all)),
+      λ a. rw e at (f.0 a),
+      λ k. f.1 (rw e k),
     )
 
 -- where there is no base all know it, and nothing is before it
-pub knows_none : (repo : List Patch) (names : List PatchInfo) (n : ℕ) → n ≡ 0 → BeginsWith repo n → KnowsBase repo names
-knows_none repo names n z b = record { base = n; begins = b; all = subst (λ (j : ℕ). AreClosed repo names (infos_of (take j repo))) (sym z) (λ i c. absurd (none_of c)) }
+pub knows_none : (repo : List Patch) (names : List PatchInfo) (n : ℕ) → n ≡ 0 → KnowsBase repo n names
+knows_none repo names n z = subst (λ (j : ℕ). AreClosed repo names (infos_of (take j repo))) (sym z) (λ i c. absurd (none_of c))
 
-pub before_none : (repo : List Patch) (b : Contents) (n : ℕ) → n ≡ 0 → BeginsWith repo n → IsBeforeBase repo b → ⊥
-before_none repo b n z begins h =
-    let e : h.base ≡ 0 = base_one h.begins begins ∙ z in
-    h.lacks (subst (λ (j : ℕ). AreCommon repo b (infos_of (take j repo))) (sym e) (λ i c. absurd (none_of c)))
+pub before_none : (repo : List Patch) (b : Contents) (n : ℕ) → n ≡ 0 → IsBeforeBase repo n b → ⊥
+before_none repo b n z h = h.lacks (subst (λ (j : ℕ). AreCommon repo b (infos_of (take j repo))) (sym z) (λ i c. absurd (none_of c)))
 
 -- the common set is the closed one, and the new patches that are held
 pub common_marks : (repo : List Patch) (b : Contents) (closed marks : List Bool) → AreMarksOf closed (infos_of repo) (Closed repo b.context) → AddsMarks closed marks (infos_of repo) (infos_of b.patches) →
@@ -99,13 +96,13 @@ common_marks repo b closed marks m a = record {
 }
 
 -- whether the bundle is before the base
-pub before : (repo : List Patch) (b : Contents) (n : ℕ) (marks : List Bool) → BeginsWith repo n → AreMarksOf marks (infos_of repo) (Common repo b) → KnowsContext repo b → (HasAll repo b → ⊥) →
-    (All (λ (m : Bool). m ≡ true) (take n marks) → ⊥) ↔ IsBeforeBase repo b
-before repo b n marks begins m known is_new =
+pub before : (repo : List Patch) (b : Contents) (n : ℕ) (marks : List Bool) → AreMarksOf marks (infos_of repo) (Common repo b) → KnowsContext repo b → (HasAll repo b → ⊥) →
+    (All (λ (m : Bool). m ≡ true) (take n marks) → ⊥) ↔ IsBeforeBase repo n b
+before repo b n marks m known is_new =
     let f = first_set (infos_of repo) marks n (Common repo b) m in
     let e = infos_take repo n in (
-      λ some. record { knows = known; is_new = is_new; base = n; begins = begins; lacks = λ a. some (f.1 (rw e a)) },
-      λ h a. h.lacks (subst (λ (j : ℕ). AreCommon repo b (infos_of (take j repo))) (base_one begins h.begins) (rw e at (f.0 a))),
+      λ some. record { knows = known; is_new = is_new; lacks = λ a. some (f.1 (rw e a)) },
+      λ h a. h.lacks (rw e at (f.0 a)),
     )
 
 -- a test that says no

@@ -1,4 +1,4 @@
--- The base of a repository that begins at a tag, told by its form, and what is taken and sent of it.
+-- The base of a repository that begins at a tag, and what is taken and sent of it.
 use Rattle.std.specs.Prelude.{◌≡◌, ◌≢◌, ◌≤◌, ◌⊎◌, ◌==◌, ℕ, IsTrue, List, [], ◌∷◌, ◌++◌, codes, length, take}
 use Rattle.std.specs.List.{Contains, starts_with}
 use Rattle.dm_info.specs.PatchInfo.{PatchInfo}
@@ -31,18 +31,21 @@ pub record IsBase (patches : List Patch) : Type 0 where
   pub packed : IsPacked patches
   pub tag : EndsInTag patches
 
--- the first n patches are a base, and no more of them are; n is 0 if there is none
+-- the first n patches have the form of a base, and no more of them have; n is 0 if none have
 pub record BeginsWith (repo : List Patch) (n : ℕ) : Type 0 where
   pub within : n ≤ length repo
   pub is_base : (n ≡ 0) ⊎ IsBase (take n repo)
   pub greatest : (m : ℕ) → m ≤ length repo → IsBase (take m repo) → m ≤ n
 
+-- the first patches, so many of them, may be a repository's base: there are none, or they have the form of one
+pub record MayHaveBase (repo : List Patch) (base : ℕ) : Type 0 where
+  pub within : base ≤ length repo
+  pub is_base : (base ≡ 0) ⊎ IsBase (take base repo)
+
 -- the context is held, something is new, and not the whole base is common
-pub record IsBeforeBase (repo : List Patch) (b : Contents) : Type 0 where
+pub record IsBeforeBase (repo : List Patch) (base : ℕ) (b : Contents) : Type 0 where
   pub knows : KnowsContext repo b
   pub is_new : HasAll repo b → ⊥
-  pub base : ℕ
-  pub begins : BeginsWith repo base
   pub lacks : AreCommon repo b (infos_of (take base repo)) → ⊥
 
 -- these names are in the closed set of those
@@ -50,10 +53,8 @@ abbrev pub AreClosed : List Patch → List PatchInfo → List PatchInfo → Type
 AreClosed repo those these = (i : PatchInfo) → Contains these i → Closed repo those i
 
 -- who holds patches of these names has the whole base: by name, or by way of dependencies
-pub record KnowsBase (repo : List Patch) (names : List PatchInfo) : Type 0 where
-  pub base : ℕ
-  pub begins : BeginsWith repo base
-  pub all : AreClosed repo names (infos_of (take base repo))
+abbrev pub KnowsBase : List Patch → ℕ → List PatchInfo → Type 0
+KnowsBase repo base names = AreClosed repo names (infos_of (take base repo))
 
 -- left are those of the names that aren't gone, in their order
 pub data Without (gone : List PatchInfo) : List PatchInfo → List PatchInfo → Type 0 where
@@ -79,8 +80,6 @@ CutsNames base names left =
     LeavesLastAlone base names left ⊎ (((i : PatchInfo) → IsLast base i → Contains names i → ⊥) × (left ≡ names))
 
 -- the same new patches, and a context that names of the base the last alone, where it names that one
-pub record CutsBase (repo : List Patch) (b cut : Contents) : Type 0 where
-  pub base : ℕ
-  pub begins : BeginsWith repo base
+pub record CutsBase (repo : List Patch) (base : ℕ) (b cut : Contents) : Type 0 where
   pub patches : cut.patches ≡ b.patches
   pub context : CutsNames (infos_of (take base repo)) b.context cut.context

@@ -1,7 +1,7 @@
 //! The base of a repository that begins at a tag.
 ghost use Rattle.std.specs.Prelude.{◌≡◌, ◌≢◌, ◌↔◌, [], IsTrue};
 ghost use Rattle.dm_begin.specs.Beginnings.{IsFilled};
-ghost use Rattle.dm_begin.specs.Bases.{BeginsWith, IsTagWithTree};
+ghost use Rattle.dm_begin.specs.Bases.{BeginsWith, IsTagWithTree, MayHaveBase};
 ghost use Rattle.dm_begin.specs.Chains.{last_name};
 
 use dm_named::{Limits, Named};
@@ -55,8 +55,8 @@ fn follows<A: Allocator>(before: &[Named<A>], some: bool, patch: &Named<A>) -> b
     rests_on_last(before, patch)
 }
 
-/// How many patches of a repository are the base that it begins with at a tag: 0 if there is none. It reads as far as a base
-/// could go on; of most repositories two patches.
+/// How many patches a repository begins with that have the form of a base: 0 if none have. It reads as far as a base could go on;
+/// of most repositories two patches. Later patches may have the form too, so only a new mirror asks it.
 pub fn base_len<A: Allocator>(patches: &[Named<A>]) -> usize
     ensures { BeginsWith patches.now result }
 {
@@ -73,4 +73,17 @@ pub fn base_len<A: Allocator>(patches: &[Named<A>]) -> usize
         }
     }
     base
+}
+
+/// Whether the first patches, so many of them, may be the base of a repository: none may always be.
+pub fn may_be_base<A: Allocator>(patches: &[Named<A>], base: usize) -> bool
+    ensures { IsTrue result ↔ MayHaveBase patches.now base }
+{
+    if base == 0 {
+        return true;
+    }
+    if base > patches.len() {
+        return false;
+    }
+    base_len(&patches[..base]) == base
 }

@@ -3,7 +3,6 @@ ghost use Rattle.std.specs.Prelude.{◌≡◌, ◌↔◌, Contains, IfOk, IsTrue
 ghost use Rattle.dm_bundle.specs.Patches.{Distinct, infos_of};
 ghost use Rattle.dm_begin.specs.Bases.{CutsBase, Without};
 
-use crate::base::base_len;
 use dm_bundle::Bundle;
 use dm_info::Info;
 use dm_repo::Repo;
@@ -54,17 +53,18 @@ fn later_names<A: Allocator + Copy, B: Allocator + Copy>(
 }
 
 /// The bundle with a context that names of the base the last patch alone, the tag, where it names the tag at all: who has the
-/// tag has what it covers. Where the repository doesn't begin at a tag, the bundle is as it was. `own` is the repository's
-/// allocator, under which names are looked up.
+/// tag has what it covers. The first patches of the repository, so many of them, are the base; if there are none, the bundle is as
+/// it was. `own` is the repository's allocator, under which names are looked up.
 pub fn cut_base<A: Allocator + Copy, B: Allocator + Copy>(
     own: A,
     alloc: B,
     repo: &Repo<A>,
+    base: usize,
     bundle: Bundle<B>,
 ) -> Result<Bundle<B>, AllocError>
-    ensures { IfOk result (CutsBase repo.now.patches bundle) }
+    ensures { IfOk result (CutsBase repo.now.patches base bundle) }
 {
-    let base = base_len(repo.patches());
+    let base = base.min(repo.len());
     if base == 0 {
         return Ok(bundle);
     }

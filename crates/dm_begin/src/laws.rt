@@ -1,6 +1,6 @@
 //! Laws of the definitions alone. A call of them does nothing.
 ghost use Rattle.dm_begin.specs.Alike.{AnswersAlike, CommonAlike, TreesStayAlike, WeighsAlike, WholeIsTaken};
-ghost use Rattle.dm_begin.specs.BaseLaws.{BaseIsBrought, BeginningIsBase, BoundAnswerAlike, CutAnswersAlike};
+ghost use Rattle.dm_begin.specs.BaseLaws.{BaseIsBrought, BaseStays, BeginningIsBase, BoundAnswerAlike, CutAnswersAlike};
 ghost use Rattle.dm_begin.specs.Spreading.{BeginningIsTaken, SpreadIsBeginning};
 
 /// The primitives that make a tree, spread over distinct names, are a beginning: patches of just these names in this order, each of
@@ -33,15 +33,19 @@ pub fn a_whole_repository_is_taken()
     ensures { WholeIsTaken }
 {}
 
-/// A beginning whose last name is a tag and whose tree has an entry has the form of a base, and so has a repository that stands on it:
-/// it begins with a base of no fewer patches; with just these, where there are no others.
+/// A beginning whose last name is a tag and whose tree has an entry has the form of a base, all of it.
 pub fn a_beginning_is_a_base()
     ensures { BeginningIsBase }
 {}
 
+/// What is taken behind a base leaves it as it is: the same patches may be the base, and no others are the first.
+pub fn a_base_stays()
+    ensures { BaseStays }
+{}
+
 /// Two bundles of the same new patches are answered alike where both contexts are held, with the same in their closed sets. So it is
 /// with a bundle of which the base was cut, in each repository where the last name of the base brings the others with it, as
-/// it does where the repository begins with that base.
+/// it does in the repository whose base it is.
 pub fn cut_contexts_answer_alike()
     ensures bound { BoundAnswerAlike }
     ensures brought { BaseIsBrought }

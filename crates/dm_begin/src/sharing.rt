@@ -6,11 +6,17 @@ ghost use Rattle.dm_repo.specs.CommonSets.{Closed, HoldsAll};
 ghost use Rattle.dm_repo.specs.MarkLists.{AddsMarks, AreMarksOf};
 ghost use Rattle.dm_begin.specs.Bases.{IsBeforeBase, KnowsBase};
 
-use crate::base::base_len;
 use dm_bundle::Bundle;
 use dm_info::Info;
 use dm_repo::{Repo, copy_names};
 use std::alloc::{AllocError, Allocator};
+
+/// That the patches of a repository have distinct names; does nothing.
+fn are_distinct<A: Allocator>(repo: &Repo<A>)
+    ensures { Distinct (infos_of repo.now.patches) }
+{
+    let _ = repo.len();
+}
 
 /// Whether all of these names are held.
 fn are_held<A: Allocator>(repo: &Repo<A>, names: &[Info<A>]) -> bool
@@ -57,11 +63,11 @@ fn reached_marks<A: Allocator, B: Allocator + Copy>(
     Ok(marks)
 }
 
-/// Whether the first marks are all set.
+/// Whether the first marks, so many of them, are all set.
 fn are_first_set(marks: &[bool], count: usize) -> bool
-    requires { count ≤ length marks.now }
     ensures { IsTrue result ↔ All (λ mark. mark ≡ true) (take count marks.now) }
 {
+    let count = count.min(marks.len());
     marks[..count].iter().all(|mark| *mark)
 }
 
@@ -79,16 +85,16 @@ fn copies_of<A: Allocator + Copy, B: Allocator>(
     Ok(copies)
 }
 
-/// Whether somebody who holds patches of these names, and whatever else, has the whole base of the repository: by name, or by
-/// way of dependencies. So it is with every list of names where the repository doesn't begin at a tag.
+/// Whether somebody who holds patches of these names, and whatever else, has the whole base of the repository, its first patches,
+/// so many of them: by name, or by way of dependencies. So it is with every list of names where there is no base.
 pub fn knows_base<A: Allocator + Copy, B: Allocator + Copy>(
     alloc: B,
     repo: &Repo<A>,
+    base: usize,
     names: &[Info<A>],
 ) -> Result<bool, AllocError>
-    ensures { IfOk result (λ yes. IsTrue yes ↔ KnowsBase repo.now.patches names.now) }
+    ensures { IfOk result (λ yes. IsTrue yes ↔ KnowsBase repo.now.patches base names.now) }
 {
-    let base = base_len(repo.patches());
     if base == 0 {
         return Ok(true);
     }
@@ -96,17 +102,17 @@ pub fn knows_base<A: Allocator + Copy, B: Allocator + Copy>(
     Ok(are_first_set(&marks, base))
 }
 
-/// Whether the bundle is refused since it is older than the base with which the repository begins: its context is held and it brings
-/// something new, but not the whole base is common. `own` is the repository's allocator, under which names are looked up.
+/// Whether the bundle is refused since it is older than the base with which the repository begins, its first patches, so many of
+/// them: its context is held and it brings something new, but not the whole base is common. `own` is the repository's allocator, under which names are looked up.
 pub fn is_before_base<A: Allocator + Copy, B: Allocator + Copy>(
     own: A,
     alloc: B,
     repo: &Repo<A>,
+    base: usize,
     bundle: &Bundle<B>,
 ) -> Result<bool, AllocError>
-    ensures { IfOk result (λ yes. IsTrue yes ↔ IsBeforeBase repo.now.patches bundle.now) }
+    ensures { IfOk result (λ yes. IsTrue yes ↔ IsBeforeBase repo.now.patches base bundle.now) }
 {
-    let base = base_len(repo.patches());
     if base == 0 {
         return Ok(false);
     }
@@ -120,6 +126,7 @@ pub fn is_before_base<A: Allocator + Copy, B: Allocator + Copy>(
         return Ok(false);
     }
     let mut marks = reached_marks(alloc, repo, &context)?;
+    are_distinct(repo);
     add_marks(repo, &new, marks.as_mut_slice());
     Ok(!are_first_set(&marks, base))
 }

@@ -11,9 +11,8 @@ use Rattle.dm_named.specs.Patches.{Patch}
 use Rattle.dm_bundle.specs.Patches.{infos_of}
 use Rattle.dm_repo.specs.Staircases.{Passes, PassStops}
 use Rattle.dm_repo.proofs.Members.{here, infos_of-append}
-use Rattle.dm_begin.specs.Bases.{BeginsWith}
 use Rattle.dm_send.specs.Leaving.{Leaves, nothing, goes, stays, follows}
-use Rattle.dm_commands.specs.Obliterating.{KeepsBase, NamesBase}
+use Rattle.dm_commands.specs.Obliterating.{NamesBase}
 
 -- none of these patches is chosen
 abbrev pub Unchosen : List PatchInfo → List Patch → Type 0
@@ -65,7 +64,7 @@ module _ (n : ℕ) (xs : List Patch) (x : Patch) where
     first = k.first ∙ sym (same_first l);
   }
 
-long_enough : (n : ℕ) (xs stay : List Patch) → n ≤ length xs → take n stay ≡ take n xs → n ≤ length stay
+pub long_enough : (n : ℕ) (xs stay : List Patch) → n ≤ length xs → take n stay ≡ take n xs → n ≤ length stay
 long_enough n xs stay l e = elim (cases_lt (length stay) n) [
   | inl s ↦
       let a = length-take-le n xs l in
@@ -101,9 +100,5 @@ module _ (chosen : List PatchInfo) (n : ℕ) where
   ]
 
 -- the base stays where none of its patches is chosen
-pub keeps_base : (chosen : List PatchInfo) (repo stay go : List Patch) (bound : List (PatchInfo × PatchInfo)) (n : ℕ) → BeginsWith repo n → (NamesBase repo chosen → ⊥) → Leaves chosen repo stay go bound → KeepsBase repo stay
-keeps_base chosen repo stay go bound n b never l = record {
-  base = n;
-  begins = b;
-  keeps = (kept chosen n l (λ i c m. never (record { base = n; begins = b; name = i; is_named = c; is_of_base = m }))).first;
-}
+pub keeps_base : (chosen : List PatchInfo) (repo stay go : List Patch) (bound : List (PatchInfo × PatchInfo)) (n : ℕ) → (NamesBase repo n chosen → ⊥) → Leaves chosen repo stay go bound → take n stay ≡ take n repo
+keeps_base chosen repo stay go bound n never l = (kept chosen n l (λ i c m. never (record { name = i; is_named = c; is_of_base = m }))).first

@@ -6,5 +6,5 @@ pub mod SendLemmas
 pub mod TakenOut
 pub mod BeginLemmas
 pub mod KeptLemmas
-pub mod NamingLemmas
+pub mod TagLemmas
 pub mod InBaseLemmas

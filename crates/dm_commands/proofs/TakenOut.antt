@@ -19,7 +19,8 @@ use Rattle.dm_send.proofs.KindLemmas.{leaving_keeps_kinds}
 use Rattle.dm_send.specs.Obliterating.{Obliterates}
 use Rattle.dm_send.specs.Sending.{Accepts, Parts, no_names, inside, outside}
 use Rattle.dm_store.specs.LettingGo.{GivesBack}
-use Rattle.dm_commands.specs.Obliterating.{TakesOut}
+use Rattle.dm_begin.specs.Bases.{MayHaveBase}
+use Rattle.dm_commands.specs.Obliterating.{ObliteratesBehind, TakesOut}
 
 module _ {In : PatchInfo → Type 0} {i : PatchInfo} where
   there : {all those others : List PatchInfo} → Parts In all those others → Contains all i → Contains (those ++ others) i
@@ -47,8 +48,8 @@ some_new [] ys same e none = absurd (true≢false e)
 some_new (x ∷ xs) ys same e none = let never : x ∷ xs ≡ [] = same ∙ none in absurd (cc)
 
 -- what stays takes the bundle of what goes
-pub takes_gone : (repo : List Patch) (chosen : List PatchInfo) (stays : List Patch) (b : Contents) (bound : List (PatchInfo × PatchInfo)) → Obliterates repo chosen stays b bound → b.patches ≢ [] → Accepts stays b
-takes_gone repo chosen stays b bound o some = inr (o.go, 0, o.is_taken Refuse some)
+pub takes_gone : (repo : List Patch) (base : ℕ) (chosen : List PatchInfo) (stays : List Patch) (cut : Contents) (bound : List (PatchInfo × PatchInfo)) → MayHaveBase repo base → (o : ObliteratesBehind repo base chosen stays cut bound) → cut.patches ≢ [] → Accepts stays cut
+takes_gone repo base chosen stays cut bound may o some = inr (o.obliterates.go, 0, o.is_taken may Refuse some)
 
 -- the names of a repository are those of what stays and of what is brought
 abbrev Has : List Patch → List Patch → Contents → Type 0
@@ -70,7 +71,7 @@ module _ (kinds : Kinds) (repo stays : List Patch) (text : List ℕ) (t : TakesO
     ]),
   )
     where
-      o : Obliterates repo t.chosen stays t.gone t.bound
+      o : Obliterates repo t.base t.chosen stays t.gone t.bound
       o = t.obliterates
 
       whole : IsMergeOf stays t.gone Refuse o.go 0

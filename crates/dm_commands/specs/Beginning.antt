@@ -5,7 +5,7 @@ use Rattle.dm_tree.specs.Trees.{Tree}
 use Rattle.dm_named.specs.Patches.{Patch}
 use Rattle.dm_repo.specs.Repositories.{IsRepo}
 use Rattle.dm_repo.specs.Weighing.{most_patches}
-use Rattle.dm_begin.specs.Bases.{BeginsWith, IsLast, IsTag}
+use Rattle.dm_begin.specs.Bases.{IsLast, IsTag, MayHaveBase}
 use Rattle.dm_begin.specs.Beginnings.{IsBeginning}
 use Rattle.dm_begin.specs.Making.{rows}
 use Rattle.dm_begin.specs.Refusals.{RefusesBeginning}
@@ -23,12 +23,12 @@ abbrev pub EndsInTagName : List PatchInfo → Type 0
 EndsInTagName names = (tag : PatchInfo) × IsLast names tag × IsTag tag
 
 -- the repository has a patch of each of the names, in their order, the last of which is a tag's; they make the tree, which has something in it; and all of
--- them are the base with which it begins
+-- them may be its base
 pub record BeginsAtTag (names : List PatchInfo) (tree : Tree) (repo : List Patch) : Type 0 where
   pub tag : EndsInTagName names
   pub some : rows tree ≢ []
   pub is_beginning : IsBeginning names tree repo
-  pub begins : BeginsWith repo (length names)
+  pub may : MayHaveBase repo (length names)
 
 -- why there is none: the last name isn't a tag's, or there is nothing in the tree, or names and tree have no beginning
 abbrev pub RefusesStart : List PatchInfo → Tree → StartFault → Type 0

@@ -9,3 +9,4 @@ pub mod Sending
 pub mod Obliterating
 pub mod Beginning
 pub mod Mirrors
+pub mod Undoing

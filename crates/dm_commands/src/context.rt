@@ -2,7 +2,6 @@
 ghost use Rattle.std.specs.Prelude.{IfOk};
 ghost use Rattle.dm_commands.specs.Naming.{NamesFromTag};
 
-use dm_begin::base_len;
 use dm_log::{Patches, write_context};
 use dm_named::Named;
 use dm_repo::Repo;
@@ -28,13 +27,13 @@ impl<'a> Patches for Later<'a> {
     }
 }
 
-/// The context of a repository. If it begins at a tag, that is the first name, as with `darcs log --context`: `darcs send` makes
+/// The context of a repository whose first patches, so many of them, are its base. If it begins at a tag, that is the first name, as with `darcs log --context`: `darcs send` makes
 /// what rests on the tag of that alone.
-pub fn context_of(alloc: Global, repo: &Repo<Global>) -> Result<Vec<u8>, AllocError>
-    ensures { IfOk result (λ text. NamesFromTag repo.now.patches text.items) }
+pub fn context_of(alloc: Global, repo: &Repo<Global>, base: usize) -> Result<Vec<u8>, AllocError>
+    ensures { IfOk result (λ text. NamesFromTag repo.now.patches base text.items) }
 {
     let patches = repo.patches();
-    let first = base_len(patches).saturating_sub(1);
+    let first = base.saturating_sub(1).min(patches.len());
     let later = Later {
         patches: &patches[first..],
     };

@@ -22,7 +22,6 @@ mod check;
 mod context;
 mod fault;
 mod mirror;
-mod naming;
 mod obliterating;
 mod print;
 mod running;
@@ -30,6 +29,7 @@ mod send;
 mod status;
 mod streams;
 mod tag;
+mod undoing;
 
 pub use alike::{Mirrors, run_mirrors};
 pub use apply::{Applied, apply_in, apply_over};
@@ -41,10 +41,10 @@ pub use check::{
 pub use context::context_of;
 pub use fault::ToolFault;
 pub use mirror::{MirrorFault, Unbegun, kept_mirror, kept_or_new_mirror, new_mirror};
-pub use naming::rest_on_tag;
-pub use obliterating::{Unkept, keep_and_let_go, kept_bundle, obliterate_unless_base};
+pub use obliterating::{Unkept, keep_and_let_go, obliterate_unless_base};
 pub use print::push_repo;
 pub use running::{Bases, Ran, run_over};
 pub use send::{Sent, refusal_line, send_over, text_of};
 pub use streams::{read_within, write_text};
 pub use tag::{BaseTag, base_tag, before_base_line, names_base};
+pub use undoing::undo_chosen;

@@ -2,22 +2,19 @@
 ghost use Rattle.std.specs.Prelude.{◌≡◌, ◌≢◌, ◌⊎◌, [], Err, IfErr, IfNone, IfOk, IfSome, IsTrue, OnOk};
 ghost use Rattle.dm_journal.specs.declared.fault.WriteError.{WriteError};
 ghost use Rattle.dm_journal.specs.Device.{IsDurable, LeavesOnly};
-ghost use Rattle.dm_send.specs.Obliterating.{Obliterates, RefusesToObliterate};
-ghost use Rattle.dm_send.specs.Sending.{Accepts};
-ghost use Rattle.dm_store.specs.Keeping.{FitsOneEntry, IsStored};
+ghost use Rattle.dm_begin.specs.Bases.{MayHaveBase};
+ghost use Rattle.dm_send.specs.Obliterating.{RefusesToObliterate};
+ghost use Rattle.dm_store.specs.Keeping.{FitsOneEntry, IsStored, kept_as, kept_in};
 ghost use Rattle.dm_store.specs.Kinds.{kinds_in};
 ghost use Rattle.dm_store.specs.LettingGo.{LosesNothing};
-ghost use Rattle.dm_commands.specs.Naming.{RestsOnTag};
-ghost use Rattle.dm_commands.specs.Obliterating.{KeepsBase, NamesBase, RefusesKept, TakesOut};
+ghost use Rattle.dm_commands.specs.Obliterating.{NamesBase, ObliteratesBehind, TakesOut};
 ghost use Rattle.dm_commands.specs.declared.obliterating.Unkept.TheVariants as unkept;
 
-use crate::naming::rest_on_tag;
-use crate::tag::has_first;
-use dm_begin::base_len;
-use dm_bundle::Bundle;
+use crate::tag::{is_lawful, names_base};
+use dm_begin::cut_base;
 use dm_info::Info;
 use dm_journal::{Device, WriteError, replace_file};
-use dm_repo::{Policy, Refusal, Repo, weigh};
+use dm_repo::{Refusal, Repo};
 use dm_send::{Obliterated, obliterate};
 use dm_store::Store;
 use std::alloc::Global;
@@ -32,7 +29,7 @@ pub enum Unkept {
 }
 
 /// Puts the bundle of what goes into a file, and once it is on the disk has the mirror let go of it. `false` where what stays is past
-/// the limits of a repository of one's own: the mirror is as it was then.
+/// the limits of a repository of one's own, or may not have the mirror's base: the mirror is as it was then.
 pub fn keep_and_let_go<D: Device, F: Device>(
     alloc: Global,
     store: &mut Store<D>,
@@ -45,7 +42,7 @@ pub fn keep_and_let_go<D: Device, F: Device>(
     requires takes_out { TakesOut (kinds_in store.old) store.old.repo.patches stays.patches text.now }
 
     ensures done { IfOk result (λ done. IsTrue done → store.new.repo ≡ stays) }
-    ensures too_large { IfOk result (λ done. ¬ IsTrue done → (stays.patches ≢ []) × (FitsOneEntry stays.patches → ⊥)) }
+    ensures too_large { IfOk result (λ done. ¬ IsTrue done → MayHaveBase stays.patches store.old.base → (stays.patches ≢ []) × (FitsOneEntry stays.patches → ⊥)) }
     ensures unless_done { IfOk result (λ done. ¬ IsTrue done → store.new ≡ store.old) }
     ensures unless_kept { (fault : WriteError) → result ≡ Err (unkept.Bundle fault) → store.new ≡ store.old }
     ensures kept_before { (fault : WriteError) → result ≡ Err (unkept.Mirror fault) → IsDurable F.seen F.may_leave F.file_may_leave file.new × (F.seen file.new ≡ text.now) }
@@ -58,7 +55,7 @@ pub fn keep_and_let_go<D: Device, F: Device>(
     // A crash at any moment loses no patch, once the mirror is touched: the one file or the other has it. It leaves the file of
     // the bundle as it was, or whole.
     ensures any_moment { (store.new ≡ store.old) ⊎ LeavesOnly D.moment D.left_since store.old.journal.device store.new.journal.device
-        (LosesNothing (kinds_in store.old) store.old.repo.patches stays.patches (F.may_leave file.new)) }
+        (LosesNothing (kinds_in store.old) (kept_in store.old) (kept_as store.old.base stays.patches) (F.may_leave file.new)) }
     ensures file { LeavesOnly F.moment F.left_since file.old file.new (λ c. (c ≡ F.seen file.old) ⊎ (c ≡ text.now)) }
 {
     if let Err(fault) = replace_file(file, text) {
@@ -70,45 +67,27 @@ pub fn keep_and_let_go<D: Device, F: Device>(
     }
 }
 
-/// The bundle of what goes, as it is kept: where the repository begins at a tag, it names that one. What stays takes it.
-///
-/// Errors: [`Refusal::NoMemory`]; why what stays doesn't take it.
-pub fn kept_bundle(
-    alloc: Global,
-    repo: &Repo<Global>,
-    stays: &Repo<Global>,
-    bundle: Bundle<Global>,
-) -> Result<Bundle<Global>, Refusal>
-    requires { Accepts stays.now.patches bundle }
-    ensures rests { IfOk result (RestsOnTag repo.now.patches bundle) }
-    ensures patches { IfOk result (λ kept. kept.patches ≡ bundle.patches) }
-    ensures is_taken { IfOk result (Accepts stays.now.patches) }
-    ensures refusal { IfErr result (RefusesKept repo.now.patches stays.now.patches bundle) }
-{
-    if base_len(repo.patches()) == 0 {
-        return Ok(bundle);
-    }
-    let kept = rest_on_tag(alloc, repo, bundle)?;
-    weigh(alloc, stays, &kept, Policy::Refuse)?;
-    Ok(kept)
-}
-
-/// Takes the patches of these names out of a repository, and what is bound to them; `None` where one of the names is of the base with
-/// which it begins.
+/// Takes the patches of these names out of a repository, and what is bound to them; `None` where one of the names is of its base, the
+/// first patches, so many of them. Of the base the bundle names the last patch alone. What stays takes the bundle.
 pub fn obliterate_unless_base(
     alloc: Global,
     repo: &Repo<Global>,
+    base: usize,
     chosen: &[Info<Global>],
 ) -> Result<Option<Obliterated<Global>>, Refusal>
-    ensures base { IfOk result (λ out. IfNone out (NamesBase repo.now.patches chosen.now)) }
-    ensures keeps { IfOk result (λ out. IfSome out (λ o. KeepsBase repo.now.patches o.repo.patches)) }
-    ensures obliterates { IfOk result (λ out. IfSome out (λ o. Obliterates repo.now.patches chosen.now o.repo.patches o.bundle o.bound.items)) }
-    ensures refusal { IfErr result (RefusesToObliterate repo.now.patches chosen.now) }
+    ensures base { IfOk result (λ out. IfNone out (NamesBase repo.now.patches base chosen.now)) }
+    ensures obliterates { IfOk result (λ out. IfSome out (λ o. ObliteratesBehind repo.now.patches base chosen.now o.repo.patches o.bundle o.bound.items)) }
+    ensures refusal { IfErr result (RefusesToObliterate repo.now.patches base chosen.now) }
 {
-    let base = base_len(repo.patches());
-    if has_first(repo, base, chosen) {
+    if names_base(repo, base, chosen) {
         return Ok(None);
     }
-    let out = obliterate(alloc, repo, chosen)?;
-    Ok(Some(out))
+    is_lawful(repo);
+    let out = obliterate(alloc, repo, base, chosen)?;
+    let bundle = cut_base(alloc, alloc, repo, base, out.bundle)?;
+    Ok(Some(Obliterated {
+        repo: out.repo,
+        bundle,
+        bound: out.bound,
+    }))
 }

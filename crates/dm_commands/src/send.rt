@@ -15,11 +15,10 @@ ghost use Rattle.dm_commands.specs.Sending.{RefusesToSendFor, SendsFor, TellsNum
 
 use crate::base::Base;
 use crate::fault::ToolFault;
-use crate::naming::rest_on_tag;
 use crate::status::status_of;
 use crate::streams::write_text;
-use crate::tag::before_base_line;
-use dm_begin::knows_base;
+use crate::tag::{before_base_line, is_lawful};
+use dm_begin::{cut_base, knows_base};
 use dm_bundle::{Bundle, are_within};
 use dm_hash::write_hashed;
 use dm_info::Info;
@@ -71,15 +70,16 @@ fn count_unheld(repo: &Repo<Global>, names: &[Info<Global>]) -> usize
 fn bundle_for(
     alloc: Global,
     repo: &Repo<Global>,
+    base: usize,
     names: &[Info<Global>],
     most: usize,
     is_minimal: bool,
 ) -> Result<Bundle<Global>, Refusal>
-    ensures sent { IfOk result (SendsFor is_minimal repo.now.patches names.now most) }
-    ensures refusal { IfErr result (RefusesToSendFor is_minimal repo.now.patches names.now most) }
+    ensures sent { IfOk result (SendsFor is_minimal repo.now.patches base names.now most) }
+    ensures refusal { IfErr result (RefusesToSendFor is_minimal repo.now.patches base names.now most) }
 {
     if is_minimal {
-        return send_minimal(alloc, repo, names, most);
+        return send_minimal(alloc, repo, base, names, most);
     }
     send(alloc, repo, names, most)
 }
@@ -119,27 +119,29 @@ pub fn refusal_line(alloc: Global, why: Refusal) -> Result<Vec<u8>, ToolFault>
     Ok(line)
 }
 
-/// What is printed for somebody who holds patches of these names, and has the whole base with which the repository begins, and
+/// What is printed for somebody who holds patches of these names, and has the whole base of the repository, and
 /// what is told of it, where so many of the names aren't held.
 fn answer_knower(
     alloc: Global,
     kinds: Kinds,
     repo: &Repo<Global>,
+    base: usize,
     names: &[Info<Global>],
     most: usize,
     is_minimal: bool,
     unheld: usize,
 ) -> Result<(Vec<u8>, Sent), ToolFault>
-    requires knows { KnowsBase repo.now.patches names.now }
+    requires knows { KnowsBase repo.now.patches base names.now }
     requires unheld { CountsUnheld repo.now.patches names.now unheld }
-    ensures ok { IfOk result (λ x. AnswersNames kinds is_minimal repo.now.patches names.now most x.0.items x.1.status) }
-    ensures told { IfOk result (λ x. TellsNumbers is_minimal repo.now.patches names.now most x.1) }
+    ensures ok { IfOk result (λ x. AnswersNames kinds is_minimal repo.now.patches base names.now most x.0.items x.1.status) }
+    ensures told { IfOk result (λ x. TellsNumbers is_minimal repo.now.patches base names.now most x.1) }
     ensures err { IfErr result (λ e. (e ≡ ToolFault.NoMemory) ⊎
-        ((e ≡ ToolFault.TooManyToSend) × IsPastLimits kinds is_minimal repo.now.patches names.now most)) }
+        ((e ≡ ToolFault.TooManyToSend) × IsPastLimits kinds is_minimal repo.now.patches base names.now most)) }
 {
-    match bundle_for(alloc, repo, names, most, is_minimal) {
+    match bundle_for(alloc, repo, base, names, most, is_minimal) {
         Ok(bundle) => {
-            let cut = rest_on_tag(alloc, repo, bundle)?;
+            is_lawful(repo);
+            let cut = cut_base(alloc, alloc, repo, base, bundle)?;
             let text = text_of(alloc, kinds, &cut)?;
             let sent = Sent {
                 status: 0,
@@ -165,17 +167,18 @@ fn answer_for(
     alloc: Global,
     kinds: Kinds,
     repo: &Repo<Global>,
+    base: usize,
     names: &[Info<Global>],
     most: usize,
     is_minimal: bool,
 ) -> Result<(Vec<u8>, Sent), ToolFault>
-    ensures ok { IfOk result (λ x. AnswersNames kinds is_minimal repo.now.patches names.now most x.0.items x.1.status) }
-    ensures told { IfOk result (λ x. TellsNumbers is_minimal repo.now.patches names.now most x.1) }
+    ensures ok { IfOk result (λ x. AnswersNames kinds is_minimal repo.now.patches base names.now most x.0.items x.1.status) }
+    ensures told { IfOk result (λ x. TellsNumbers is_minimal repo.now.patches base names.now most x.1) }
     ensures err { IfErr result (λ e. (e ≡ ToolFault.NoMemory) ⊎
-        ((e ≡ ToolFault.TooManyToSend) × IsPastLimits kinds is_minimal repo.now.patches names.now most)) }
+        ((e ≡ ToolFault.TooManyToSend) × IsPastLimits kinds is_minimal repo.now.patches base names.now most)) }
 {
     let unheld = count_unheld(repo, names);
-    if !knows_base(alloc, repo, names)? {
+    if !knows_base(alloc, repo, base, names)? {
         let line = before_base_line(alloc)?;
         let sent = Sent {
             status: 1,
@@ -184,7 +187,7 @@ fn answer_for(
         };
         return Ok((line, sent));
     }
-    answer_knower(alloc, kinds, repo, names, most, is_minimal, unheld)
+    answer_knower(alloc, kinds, repo, base, names, most, is_minimal, unheld)
 }
 
 /// The names of what somebody holds: those that their text tells, and none without a text.
@@ -203,16 +206,17 @@ fn answer_to(
     alloc: Global,
     kinds: Kinds,
     repo: &Repo<Global>,
+    base: usize,
     theirs: Option<Base<'_>>,
     most: usize,
     is_minimal: bool,
 ) -> Result<(Vec<u8>, Sent), ToolFault>
-    ensures ok { IfOk result (λ x. AnswersTexts kinds is_minimal repo.now.patches theirs.entry most x.0.items x.1.status) }
-    ensures told { IfOk result (λ x. TellsTexts is_minimal repo.now.patches theirs.entry most x.1) }
-    ensures err { IfErr result (RefusesTexts kinds is_minimal repo.now.patches theirs.entry most) }
+    ensures ok { IfOk result (λ x. AnswersTexts kinds is_minimal repo.now.patches base theirs.entry most x.0.items x.1.status) }
+    ensures told { IfOk result (λ x. TellsTexts is_minimal repo.now.patches base theirs.entry most x.1) }
+    ensures err { IfErr result (RefusesTexts kinds is_minimal repo.now.patches base theirs.entry most) }
 {
     let names = their_names(alloc, theirs)?;
-    let answer = answer_for(alloc, kinds, repo, &names, most, is_minimal)?;
+    let answer = answer_for(alloc, kinds, repo, base, &names, most, is_minimal)?;
     Ok(answer)
 }
 
@@ -222,8 +226,8 @@ fn answer_to(
 /// that they don't, or a repository of what both hold would refuse the bundle, it writes the line of the refusal. Returns the exit
 /// status, 0 with a bundle and 1 with a refusal, and what it tells.
 ///
-/// Where the repository begins with a base, and they don't have all of it, it writes the line `refused before-base`. Of a base that
-/// they have the context names the last patch, and no other.
+/// The first patches of the repository, so many of them, are its base. Where they don't have all of it, it writes the line `refused
+/// before-base`. Of a base that they have the context names the last patch, and no other.
 ///
 /// Errors: [`ToolFault::BadNames`] where the other text tells no names; [`ToolFault::TooManyToSend`] where the bundle is past a
 /// limit of what `dm` reads; [`ToolFault::NoMemory`]; [`ToolFault::Write`]. Only after the last has anything been written, which
@@ -232,20 +236,21 @@ pub fn send_over<W: Write>(
     alloc: Global,
     kinds: Kinds,
     repo: &Repo<Global>,
+    base: usize,
     theirs: Option<Base<'_>>,
     most: usize,
     is_minimal: bool,
     writer: &mut W,
 ) -> Result<Sent, ToolFault>
-    ensures ok { IfOk result (λ sent. Writes (AnswersTexts kinds is_minimal repo.now.patches theirs.entry most)
+    ensures ok { IfOk result (λ sent. Writes (AnswersTexts kinds is_minimal repo.now.patches base theirs.entry most)
         (W.contents writer.old) (W.contents writer.new) sent.status) }
-    ensures told { IfOk result (TellsTexts is_minimal repo.now.patches theirs.entry most) }
-    ensures fault { IfErr result (λ e. (e ≢ ToolFault.Write) → RefusesTexts kinds is_minimal repo.now.patches theirs.entry most e) }
+    ensures told { IfOk result (TellsTexts is_minimal repo.now.patches base theirs.entry most) }
+    ensures fault { IfErr result (λ e. (e ≢ ToolFault.Write) → RefusesTexts kinds is_minimal repo.now.patches base theirs.entry most e) }
     ensures silent { IfErr result (λ e. (e ≢ ToolFault.Write) → Keeps (W.contents writer.old) (W.contents writer.new)) }
     ensures prefix { IfErr result (λ e. (e ≡ ToolFault.Write) →
-        WritesPrefix (AnswersTexts kinds is_minimal repo.now.patches theirs.entry most) (W.contents writer.old) (W.contents writer.new)) }
+        WritesPrefix (AnswersTexts kinds is_minimal repo.now.patches base theirs.entry most) (W.contents writer.old) (W.contents writer.new)) }
 {
-    let (out, sent) = answer_to(alloc, kinds, repo, theirs, most, is_minimal)?;
+    let (out, sent) = answer_to(alloc, kinds, repo, base, theirs, most, is_minimal)?;
     write_text(&out, writer)?;
     Ok(sent)
 }

@@ -1,14 +1,13 @@
 //! The tag with which a mirror begins, and what is refused of it.
-ghost use Rattle.std.specs.Prelude.{◌≡◌, ◌↔◌, Any, Contains, IfErr, IfOk, IsTrue, MatchOption, take};
-ghost use Rattle.dm_begin.specs.Bases.{BeginsWith};
-ghost use Rattle.dm_bundle.specs.Patches.{Distinct, infos_of};
+ghost use Rattle.std.specs.Prelude.{◌≡◌, ◌↔◌, Any, Contains, IfErr, IfOk, IsTrue, MatchOption, length, min, take};
+ghost use Rattle.dm_bundle.specs.Patches.{infos_of};
+ghost use Rattle.dm_repo.specs.Repositories.{IsRepo};
 ghost use Rattle.dm_deliver.specs.Answering.{answer_line};
 ghost use Rattle.dm_deliver.specs.declared.answers.Answer.TheVariants.{BeforeBase};
 ghost use Rattle.dm_commands.specs.Naming.{IsBaseTag};
 ghost use Rattle.dm_commands.specs.Obliterating.{NamesBase};
 
 use crate::fault::ToolFault;
-use dm_begin::base_len;
 use dm_deliver::{Answer, push_answer};
 use dm_info::Info;
 use dm_quoted::Quoted;
@@ -32,11 +31,11 @@ impl BaseTag<'_> {
     }
 }
 
-/// The tag with which a repository begins, if it does.
-pub fn base_tag(repo: &Repo<Global>) -> Option<BaseTag<'_>>
-    ensures { MatchOption result (BeginsWith repo.now.patches 0) (IsBaseTag repo.now.patches) }
+/// The tag with which a repository begins whose first patches, so many of them, are its base; `None` if there is no base.
+pub fn base_tag(repo: &Repo<Global>, base: usize) -> Option<BaseTag<'_>>
+    ensures { MatchOption result (min base (length repo.now.patches) ≡ 0) (IsBaseTag repo.now.patches base) }
 {
-    let count = base_len(repo.patches());
+    let count = base.min(repo.len());
     if count == 0 {
         return None;
     }
@@ -53,9 +52,9 @@ impl fmt::Display for BaseTag<'_> {
     }
 }
 
-/// That the patches of a repository have distinct names; does nothing.
-fn are_distinct(repo: &Repo<Global>)
-    ensures { Distinct (infos_of repo.now.patches) }
+/// That the patches of a repository are one; does nothing.
+pub(crate) fn is_lawful(repo: &Repo<Global>)
+    ensures { IsRepo repo.now.patches }
 {
     let _ = repo.len();
 }
@@ -64,7 +63,7 @@ fn are_distinct(repo: &Repo<Global>)
 fn is_of_first(repo: &Repo<Global>, count: usize, name: &Info<Global>) -> bool
     ensures { IsTrue result ↔ Contains (take count (infos_of repo.now.patches)) name.now }
 {
-    are_distinct(repo);
+    is_lawful(repo);
     match repo.position(name) {
         None => false,
         Some(place) => place < count,
@@ -78,11 +77,10 @@ pub fn has_first(repo: &Repo<Global>, count: usize, names: &[Info<Global>]) -> b
     names.iter().any(|name| is_of_first(repo, count, name))
 }
 
-/// Whether one of these names is of the base with which a repository begins.
-pub fn names_base(repo: &Repo<Global>, names: &[Info<Global>]) -> bool
-    ensures { IsTrue result ↔ NamesBase repo.now.patches names.now }
+/// Whether one of these names is of the base of a repository, its first patches, so many of them.
+pub fn names_base(repo: &Repo<Global>, base: usize, names: &[Info<Global>]) -> bool
+    ensures { IsTrue result ↔ NamesBase repo.now.patches base names.now }
 {
-    let base = base_len(repo.patches());
     has_first(repo, base, names)
 }
 

@@ -1,9 +1,8 @@
 -- What a text leaves that was taken.
-use Rattle.std.proofs.Common.{◌≡◌, ◌≢◌, ◌⊎◌, inl, inr, ⊎_elim, ℕ, List, refl, sym, subst}
+use Rattle.std.proofs.Common.{◌≡◌, ◌≢◌, ◌⊎◌, inl, inr, ⊎_elim, ℕ, List, refl, sym, subst, ap₂, ◌∙◌}
 use Rattle.dm_named.specs.Laws.{with_kinds}
 use Rattle.dm_named.specs.Limits.{standard}
 use Rattle.dm_named.specs.declared.limits.Kinds.{Kinds}
-use Rattle.dm_named.specs.Patches.{Patch}
 use Rattle.dm_repo.specs.declared.policy.Policy.{Policy}
 use Rattle.dm_repo.specs.declared.refusal.Refusal.TheVariants.{NoMemory}
 use Rattle.dm_scratch.specs.declared.verdict.Verdict.{Verdict}
@@ -14,7 +13,7 @@ use Rattle.dm_journal.specs.Device.{LeavesOnly}
 use Rattle.dm_journal.specs.declared.journal.Journal.{Journal}
 use Rattle.dm_store.proofs.StoredLemmas.{at_rest, weakened}
 use Rattle.dm_store.specs.Entries.{entry_of}
-use Rattle.dm_store.specs.Keeping.{HasTaken, TakesText, KeepsRepo, KeepsWithOrWithout, CrashesKeep}
+use Rattle.dm_store.specs.Keeping.{HasTaken, TakesText, KeepsRepo, KeepsWithOrWithout, Kept, CrashesKeep, kept_as}
 use Rattle.dm_store.proofs.EntryLemmas.{one_entry}
 use Rattle.dm_deliver.specs.declared.hash_rule.HashRule.{HashRule}
 use Rattle.dm_deliver.specs.declared.answers.Answer.{Answer}
@@ -34,48 +33,49 @@ taken_or_not (Malformed fault) = inr (λ taken. taken)
 taken_or_not (Refused why) = inr (λ taken. taken)
 
 -- the entry of a policy and a text is taken as the text is
-pub takes_of_entry : (kinds : Kinds) (repo : List Patch) (text : List ℕ) (policy : Policy) (after : List Patch) → (t : TakesText kinds repo (entry_of policy text) after) → TakesIn kinds repo text policy t.verdict after
-takes_of_entry kinds repo text policy after t =
+pub takes_of_entry : (kinds : Kinds) (kept : Kept) (text : List ℕ) (policy : Policy) (after : Kept) → (t : TakesText kinds kept (entry_of policy text) after) → TakesIn kinds kept.patches text policy t.verdict after.patches
+takes_of_entry kinds kept text policy after t =
     let e = one_entry t.policy policy t.text text (sym t.is) in
-    subst (λ (x : List ℕ). TakesIn kinds repo x policy t.verdict after) e.1 (subst (λ (p : Policy). TakesIn kinds repo t.text p t.verdict after) e.0 t.takes)
+    subst (λ (x : List ℕ). TakesIn kinds kept.patches x policy t.verdict after.patches) e.1 (subst (λ (p : Policy). TakesIn kinds kept.patches t.text p t.verdict after.patches) e.0 t.takes)
 
 -- a text that is taken leaves one repository
-one_after : (kinds : Kinds) (repo : List Patch) (text : List ℕ) (policy : Policy) (v : Verdict) (after later : List Patch) → HasTaken v → TakesIn kinds repo text policy v after → TakesText kinds repo (entry_of policy text) later → later ≡ after
-one_after kinds repo text policy v after later taken takes t =
-    sym (taking_one (with_kinds standard kinds) repo text policy v t.verdict after later (has_memory v taken) (has_memory t.verdict t.taken) takes (takes_of_entry kinds repo text policy later t)).1
+one_after : (kinds : Kinds) (kept : Kept) (text : List ℕ) (policy : Policy) (v : Verdict) (after later : Kept) → HasTaken v → TakesIn kinds kept.patches text policy v after.patches → after.base ≡ kept.base → TakesText kinds kept (entry_of policy text) later → later ≡ after
+one_after kinds kept text policy v after later taken takes same t =
+    ap₂ kept_as (t.same ∙ sym same)
+    (sym (taking_one (with_kinds standard kinds) kept.patches text policy v t.verdict after.patches later.patches (has_memory v taken) (has_memory t.verdict t.taken) takes (takes_of_entry kinds kept text policy later t)).1)
 
-either_of : (kinds : Kinds) (repo : List Patch) (text : List ℕ) (policy : Policy) (v : Verdict) (after : List Patch) → HasTaken v → TakesIn kinds repo text policy v after →
-    (c : List ℕ) → KeepsWithOrWithout kinds repo text policy c → KeepsEither kinds repo after c
-either_of kinds repo text policy v after taken takes c (inl k) = inl k
-either_of kinds repo text policy v after taken takes c (inr k) = inr (subst (λ (r : List Patch). KeepsRepo kinds c r) (one_after kinds repo text policy v after k.0 taken takes k.1) k.2)
+either_of : (kinds : Kinds) (kept : Kept) (text : List ℕ) (policy : Policy) (v : Verdict) (after : Kept) → HasTaken v → TakesIn kinds kept.patches text policy v after.patches → after.base ≡ kept.base →
+    (c : List ℕ) → KeepsWithOrWithout kinds kept text policy c → KeepsEither kinds kept after c
+either_of kinds kept text policy v after taken takes same c (inl k) = inl k
+either_of kinds kept text policy v after taken takes same c (inr k) = inr (subst (λ (r : Kept). KeepsRepo kinds c r) (one_after kinds kept text policy v after k.0 taken takes same k.1) k.2)
 
 -- why a text has no answer, before a line of it
-pub not_answered : (kinds : Kinds) (e : AnswerError) (repo : List Patch) (text : List ℕ) (policy : Policy) (rule : HashRule) (after : List Patch) (out : Output) →
-    (e ≡ NoRoom → (after ≡ repo) ⊎ ((answer : Answer) × Answers kinds repo text policy rule answer after)) → e ≢ Unwritten → LeavesUnanswered e kinds repo text policy rule after out out
-not_answered kinds (OfStore why) repo text policy rule after out none only = refl
-not_answered kinds NoRoom repo text policy rule after out none only = (none refl, refl)
-not_answered kinds Unwritten repo text policy rule after out none only = absurd (only refl)
+pub not_answered : (kinds : Kinds) (e : AnswerError) (kept : Kept) (text : List ℕ) (policy : Policy) (rule : HashRule) (after : Kept) (out : Output) →
+    (e ≡ NoRoom → (after ≡ kept) ⊎ ((answer : Answer) × Answers kinds kept text policy rule answer after)) → e ≢ Unwritten → LeavesUnanswered e kinds kept text policy rule after out out
+not_answered kinds (OfStore why) kept text policy rule after out none only = refl
+not_answered kinds NoRoom kept text policy rule after out none only = (none refl, refl)
+not_answered kinds Unwritten kept text policy rule after out none only = absurd (only refl)
 
 module _ {D : Type 0} (moment : D → ℕ) (left_since : D → ℕ → List ℕ → Type 0) (may_leave : D → List ℕ → Type 0)
     (only_now : (device : D) (c : List ℕ) → left_since device (moment device) c → may_leave device c) where
   -- nothing was done
-  pub untaken : (kinds : Kinds) (journal : Journal D) (repo after : List Patch) → CrashesKeep kinds may_leave journal.device repo → LeavesOnly moment left_since journal.device journal.device (KeepsEither kinds repo after)
-  untaken kinds journal repo after keeps = at_rest moment left_since journal.device (KeepsEither kinds repo after) (λ c left. inl (keeps c (only_now journal.device c left)))
+  pub untaken : (kinds : Kinds) (journal : Journal D) (kept after : Kept) → CrashesKeep kinds may_leave journal.device kept → LeavesOnly moment left_since journal.device journal.device (KeepsEither kinds kept after)
+  untaken kinds journal kept after keeps = at_rest moment left_since journal.device (KeepsEither kinds kept after) (λ c left. inl (keeps c (only_now journal.device c left)))
 
-  pub unread : (kinds : Kinds) (journal : Journal D) (repo : List Patch) (text : List ℕ) (policy : Policy) (rule : HashRule) → CrashesKeep kinds may_leave journal.device repo →
-      LeavesOnly moment left_since journal.device journal.device (KeepsAnswered kinds repo text policy rule)
-  unread kinds journal repo text policy rule keeps = at_rest moment left_since journal.device (KeepsAnswered kinds repo text policy rule) (λ c left. inl (keeps c (only_now journal.device c left)))
+  pub unread : (kinds : Kinds) (journal : Journal D) (kept : Kept) (text : List ℕ) (policy : Policy) (rule : HashRule) → CrashesKeep kinds may_leave journal.device kept →
+      LeavesOnly moment left_since journal.device journal.device (KeepsAnswered kinds kept text policy rule)
+  unread kinds journal kept text policy rule keeps = at_rest moment left_since journal.device (KeepsAnswered kinds kept text policy rule) (λ c left. inl (keeps c (only_now journal.device c left)))
 
   -- the text was taken, since no rule refuses it
-  pub passed : (kinds : Kinds) (old new : D) (repo : List Patch) (text : List ℕ) (policy : Policy) (rule : HashRule) → PassesRules kinds repo rule text →
-      LeavesOnly moment left_since old new (KeepsWithOrWithout kinds repo text policy) → LeavesOnly moment left_since old new (KeepsAnswered kinds repo text policy rule)
-  passed kinds old new repo text policy rule passes run = weakened moment left_since old new (KeepsWithOrWithout kinds repo text policy) (KeepsAnswered kinds repo text policy rule) (λ c k. inr (passes, k)) run
+  pub passed : (kinds : Kinds) (old new : D) (kept : Kept) (text : List ℕ) (policy : Policy) (rule : HashRule) → PassesRules kinds kept rule text →
+      LeavesOnly moment left_since old new (KeepsWithOrWithout kinds kept text policy) → LeavesOnly moment left_since old new (KeepsAnswered kinds kept text policy rule)
+  passed kinds old new kept text policy rule passes run = weakened moment left_since old new (KeepsWithOrWithout kinds kept text policy) (KeepsAnswered kinds kept text policy rule) (λ c k. inr (passes, k)) run
 
   -- a crash leaves the repository from before it, or the one after it
-  pub leaves_either : (kinds : Kinds) (old new : Journal D) (repo : List Patch) (text : List ℕ) (policy : Policy) (v : Verdict) (after : List Patch) → TakesIn kinds repo text policy v after →
-      CrashesKeep kinds may_leave old.device repo → ((HasTaken v → ⊥) → new ≡ old) → LeavesOnly moment left_since old.device new.device (KeepsWithOrWithout kinds repo text policy) →
-      LeavesOnly moment left_since old.device new.device (KeepsEither kinds repo after)
-  leaves_either kinds old new repo text policy v after takes keeps unwritten run =
-      ⊎_elim (λ taken. weakened moment left_since old.device new.device _ _ (either_of kinds repo text policy v after taken takes) run)
-      (λ not. subst (λ (j : Journal D). LeavesOnly moment left_since old.device j.device (KeepsEither kinds repo after)) (sym (unwritten not)) (untaken kinds old repo after keeps))
+  pub leaves_either : (kinds : Kinds) (old new : Journal D) (kept : Kept) (text : List ℕ) (policy : Policy) (v : Verdict) (after : Kept) → TakesIn kinds kept.patches text policy v after.patches → after.base ≡ kept.base →
+      CrashesKeep kinds may_leave old.device kept → ((HasTaken v → ⊥) → new ≡ old) → LeavesOnly moment left_since old.device new.device (KeepsWithOrWithout kinds kept text policy) →
+      LeavesOnly moment left_since old.device new.device (KeepsEither kinds kept after)
+  leaves_either kinds old new kept text policy v after takes same keeps unwritten run =
+      ⊎_elim (λ taken. weakened moment left_since old.device new.device _ _ (either_of kinds kept text policy v after taken takes same) run)
+      (λ not. subst (λ (j : Journal D). LeavesOnly moment left_since old.device j.device (KeepsEither kinds kept after)) (sym (unwritten not)) (untaken kinds old kept after keeps))
       (taken_or_not v)

@@ -1,12 +1,11 @@
 -- Texts that were delivered, and one more.
-use Rattle.std.proofs.Common.{◌≡◌, ◌≢◌, ◌∙◌, ◌⊎◌, ◌↔◌, ◌<◌, ◌^◌, inl, inr, length, map, ℕ, Bool, true, false, All, IsTrue, List, [], ◌∷◌, ◌++◌, Some, refl, sym, subst, ap, append_assoc, append-nil, true≢false}
+use Rattle.std.proofs.Common.{◌≡◌, ◌≢◌, ◌∙◌, ◌⊎◌, ◌↔◌, ◌<◌, ◌^◌, inl, inr, length, map, ℕ, Bool, true, false, All, IsTrue, List, [], ◌∷◌, ◌++◌, Some, refl, sym, subst, ap, ap₂, append_assoc, append-nil, true≢false}
 use Rattle.std.proofs.KnownBytes.{Appends-nil, Appends-trans}
 use Rattle.std.proofs.lemmas.Grind.{flat_map-append}
 use Rattle.std.proofs.lemmas.List.{map-append}
 use Rattle.std.proofs.lemmas.List.Elements.{All-nil, All-push, All-pop}
 use Rattle.std.specs.Io.KnownBytes.{Appends}
 use Rattle.dm_named.specs.declared.limits.Kinds.{Kinds}
-use Rattle.dm_named.specs.Patches.{Patch}
 use Rattle.dm_repo.specs.declared.policy.Policy.{Policy}
 use Rattle.dm_scratch.specs.declared.verdict.Verdict.TheVariants.{NothingNew}
 use Rattle.dm_journal.specs.declared.device.DeviceError.TheVariants.{Failed}
@@ -16,7 +15,7 @@ use Rattle.dm_journal.specs.Ready.{IsFailure}
 use Rattle.dm_journal.specs.Device.{LeavesOnly}
 use Rattle.dm_deliver.proofs.Runs.{followed}
 use Rattle.dm_store.specs.Kinds.{kinds_in}
-use Rattle.dm_store.specs.Keeping.{KeepsRepo, CrashesKeep}
+use Rattle.dm_store.specs.Keeping.{KeepsRepo, Kept, CrashesKeep, kept_as, kept_in}
 use Rattle.dm_store.specs.declared.store.Store.{Store}
 use Rattle.dm_store.proofs.StoredLemmas.{at_rest, weakened}
 use Rattle.dm_deliver.specs.declared.answers.Answer.{Answer}
@@ -30,7 +29,7 @@ use Rattle.dm_deliver.specs.Outputs.{Output, Puts, PutsEach}
 use Rattle.dm_deliver.proofs.AnswerLemmas.{takes_of_entry}
 
 -- one text more is answered
-pub answers_more : (kinds : Kinds) (repo : List Patch) (texts : List (List ℕ)) (policy : Policy) (rule : HashRule) (answers : List Answer) (mid : List Patch) (text : List ℕ) (answer : Answer) (after : List Patch) →
+pub answers_more : (kinds : Kinds) (repo : Kept) (texts : List (List ℕ)) (policy : Policy) (rule : HashRule) (answers : List Answer) (mid : Kept) (text : List ℕ) (answer : Answer) (after : Kept) →
     AnswersEach kinds repo texts policy rule answers mid → Answers kinds mid text policy rule answer after → AnswersEach kinds repo (texts ++ text ∷ []) policy rule (answers ++ answer ∷ []) after
 answers_more kinds repo [] policy rule [] mid text answer after so_far last = (after, rw so_far at last, refl)
 answers_more kinds repo [] policy rule (v ∷ vs) mid text answer after so_far last = absurd so_far
@@ -47,7 +46,7 @@ lines_more : (vs : List Answer) (v : Answer) → lines_of (vs ++ v ∷ []) ≡ l
 lines_more vs v = flat_map-append answer_line vs (v ∷ []) ∙ ap (λ (l : List ℕ). lines_of vs ++ l) (append-nil (answer_line v))
 
 -- the first of them are the first of more
-first_of_more : (kinds : Kinds) (repo : List Patch) (texts : List (List ℕ)) (policy : Policy) (rule : HashRule) (answers : List Answer) (text : List ℕ) (v : Answer) (c : List ℕ) → KeepsFirst kinds repo texts policy rule answers c → KeepsFirst kinds repo (texts ++ text ∷ []) policy rule (answers ++ v ∷ []) c
+first_of_more : (kinds : Kinds) (repo : Kept) (texts : List (List ℕ)) (policy : Policy) (rule : HashRule) (answers : List Answer) (text : List ℕ) (v : Answer) (c : List ℕ) → KeepsFirst kinds repo texts policy rule answers c → KeepsFirst kinds repo (texts ++ text ∷ []) policy rule (answers ++ v ∷ []) c
 first_of_more kinds repo texts policy rule answers text v c k = record {
   first = k.first;
   others = k.others ++ text ∷ [];
@@ -61,7 +60,7 @@ first_of_more kinds repo texts policy rule answers text v c k = record {
 }
 
 -- all of them are the first of them
-pub all_are_first : (kinds : Kinds) (repo : List Patch) (texts : List (List ℕ)) (policy : Policy) (rule : HashRule) (answers : List Answer) (after : List Patch) (c : List ℕ) → AnswersEach kinds repo texts policy rule answers after → KeepsRepo kinds c after → KeepsFirst kinds repo texts policy rule answers c
+pub all_are_first : (kinds : Kinds) (repo : Kept) (texts : List (List ℕ)) (policy : Policy) (rule : HashRule) (answers : List Answer) (after : Kept) (c : List ℕ) → AnswersEach kinds repo texts policy rule answers after → KeepsRepo kinds c after → KeepsFirst kinds repo texts policy rule answers c
 all_are_first kinds repo texts policy rule answers after c takes keeps = record {
   first = texts;
   others = [];
@@ -75,14 +74,14 @@ all_are_first kinds repo texts policy rule answers after c takes keeps = record 
 }
 
 -- one text more, and the repository before it or after it
-either_is_first : (kinds : Kinds) (repo : List Patch) (texts : List (List ℕ)) (policy : Policy) (rule : HashRule) (answers : List Answer) (mid : List Patch) (text : List ℕ) (v : Answer) (after : List Patch) →
+either_is_first : (kinds : Kinds) (repo : Kept) (texts : List (List ℕ)) (policy : Policy) (rule : HashRule) (answers : List Answer) (mid : Kept) (text : List ℕ) (v : Answer) (after : Kept) →
     AnswersEach kinds repo texts policy rule answers mid → Answers kinds mid text policy rule v after → (c : List ℕ) → KeepsEither kinds mid after c → KeepsFirst kinds repo (texts ++ text ∷ []) policy rule (answers ++ v ∷ []) c
 either_is_first kinds repo texts policy rule answers mid text v after takes last c (inl k) = first_of_more kinds repo texts policy rule answers text v c (all_are_first kinds repo texts policy rule answers mid c takes k)
 either_is_first kinds repo texts policy rule answers mid text v after takes last c (inr k) =
     all_are_first kinds repo (texts ++ text ∷ []) policy rule (answers ++ v ∷ []) after c (answers_more kinds repo texts policy rule answers mid text v after takes last) k
 
 -- one text more, which isn't answered, and the repository before it
-before_last : (kinds : Kinds) (repo : List Patch) (texts : List (List ℕ)) (policy : Policy) (rule : HashRule) (answers : List Answer) (mid : List Patch) (text : List ℕ) →
+before_last : (kinds : Kinds) (repo : Kept) (texts : List (List ℕ)) (policy : Policy) (rule : HashRule) (answers : List Answer) (mid : Kept) (text : List ℕ) →
     AnswersEach kinds repo texts policy rule answers mid → (c : List ℕ) → KeepsRepo kinds c mid → KeepsFirst kinds repo (texts ++ text ∷ []) policy rule answers c
 before_last kinds repo texts policy rule answers mid text takes c keeps = record {
   first = texts;
@@ -97,13 +96,13 @@ before_last kinds repo texts policy rule answers mid text takes c keeps = record
 }
 
 -- one text more, which isn't answered, and the repository before it or after it
-unanswered_is_first : (kinds : Kinds) (repo : List Patch) (texts : List (List ℕ)) (policy : Policy) (rule : HashRule) (answers : List Answer) (mid : List Patch) (text : List ℕ) →
+unanswered_is_first : (kinds : Kinds) (repo : Kept) (texts : List (List ℕ)) (policy : Policy) (rule : HashRule) (answers : List Answer) (mid : Kept) (text : List ℕ) →
     AnswersEach kinds repo texts policy rule answers mid → (c : List ℕ) → KeepsAnswered kinds mid text policy rule c → (vs : List Answer) × KeepsFirst kinds repo (texts ++ text ∷ []) policy rule vs c
 unanswered_is_first kinds repo texts policy rule answers mid text takes c (inl k) = (answers, before_last kinds repo texts policy rule answers mid text takes c k)
 unanswered_is_first kinds repo texts policy rule answers mid text takes c (inr (passes, inl k)) = (answers, before_last kinds repo texts policy rule answers mid text takes c k)
 unanswered_is_first kinds repo texts policy rule answers mid text takes c (inr (passes, inr k)) =
     let v = Verdict k.1.verdict in
-    (answers ++ v ∷ [], all_are_first kinds repo (texts ++ text ∷ []) policy rule (answers ++ v ∷ []) k.0 c (answers_more kinds repo texts policy rule answers mid text v k.0 takes (passes, takes_of_entry kinds mid text policy k.0 k.1)) k.2)
+    (answers ++ v ∷ [], all_are_first kinds repo (texts ++ text ∷ []) policy rule (answers ++ v ∷ []) k.0 c (answers_more kinds repo texts policy rule answers mid text v k.0 takes (passes, takes_of_entry kinds mid text policy k.0 k.1, k.1.same)) k.2)
 
 -- all of the answers and one more
 all_more : (P : Answer → Type 0) (all more : Bool) (vs : List Answer) (v : Answer) → (IsTrue all ↔ All P vs) →
@@ -124,7 +123,7 @@ Accepts moment left_since Gave policy rule old new before now all = (d : Deliver
 module _ {D : Type 0} (moment : D → ℕ) (left_since : D → ℕ → List ℕ → Type 0) where
   -- nothing came yet
   pub begun : (may_leave : D → List ℕ → Type 0) (only_now : (device : D) (c : List ℕ) → left_since device (moment device) c → may_leave device c)
-      (Gave : List (List ℕ) → Type 0) (policy : Policy) (rule : HashRule) (store : Store D) (out : Output) → Gave [] → CrashesKeep (kinds_in store) may_leave store.journal.device store.repo.patches →
+      (Gave : List (List ℕ) → Type 0) (policy : Policy) (rule : HashRule) (store : Store D) (out : Output) → Gave [] → CrashesKeep (kinds_in store) may_leave store.journal.device (kept_in store) →
       Accepts moment left_since Gave policy rule store store out out true
   begun may_leave only_now Gave policy rule store out none keeps = (
     record {
@@ -135,8 +134,8 @@ module _ {D : Type 0} (moment : D → ℕ) (left_since : D → ℕ → List ℕ 
       takes = refl;
       lines = Appends-nil out.contents;
       flushed = refl;
-      any_moment = at_rest moment left_since store.journal.device (KeepsFirst (kinds_in store) store.repo.patches [] policy rule [])
-          (λ c left. all_are_first (kinds_in store) store.repo.patches [] policy rule [] store.repo.patches c refl (keeps c (only_now store.journal.device c left)));
+      any_moment = at_rest moment left_since store.journal.device (KeepsFirst (kinds_in store) (kept_in store) [] policy rule [])
+          (λ c left. all_are_first (kinds_in store) (kept_in store) [] policy rule [] (kept_in store) c refl (keeps c (only_now store.journal.device c left)));
     },
     (λ t. All-nil IsAcceptedAnswer, λ h. refl),
   )
@@ -144,49 +143,49 @@ module _ {D : Type 0} (moment : D → ℕ) (left_since : D → ℕ → List ℕ 
   -- one text more was answered, and its line written
   pub one_more : (Gave Gives : List (List ℕ) → Type 0) (policy : Policy) (rule : HashRule) (old mid new : Store D) (before out now : Output) (all more : Bool)
       (s : Accepts moment left_since Gave policy rule old mid before out all) (text : List ℕ) (v : Answer) → Gives (s.0.texts ++ text ∷ []) →
-      kinds_in new ≡ kinds_in mid → Answers (kinds_in mid) mid.repo.patches text policy rule v new.repo.patches → Puts out now (answer_line v) →
-      LeavesOnly moment left_since mid.journal.device new.journal.device (KeepsEither (kinds_in mid) mid.repo.patches new.repo.patches) →
+      kinds_in new ≡ kinds_in mid → Answers (kinds_in mid) (kept_in mid) text policy rule v (kept_in new) → Puts out now (answer_line v) →
+      LeavesOnly moment left_since mid.journal.device new.journal.device (KeepsEither (kinds_in mid) (kept_in mid) (kept_in new)) →
       ((all ≡ true) × (IsTrue more ↔ IsAcceptedAnswer v)) ⊎ ((all ≡ false) × (more ≡ all)) →
       Accepts moment left_since Gives policy rule old new before now more
   one_more Gave Gives policy rule old mid new before out now all more s text v came same takes' line run' both =
       let d = s.0 in
-      let takes = subst (λ (k : Kinds). Answers k mid.repo.patches text policy rule v new.repo.patches) d.kinds takes' in
-      let run = subst (λ (k : Kinds). LeavesOnly moment left_since mid.journal.device new.journal.device (KeepsEither k mid.repo.patches new.repo.patches)) d.kinds run' in (
+      let takes = subst (λ (k : Kinds). Answers k (kept_in mid) text policy rule v (kept_in new)) d.kinds takes' in
+      let run = subst (λ (k : Kinds). LeavesOnly moment left_since mid.journal.device new.journal.device (KeepsEither k (kept_in mid) (kept_in new))) d.kinds run' in (
         record {
           texts = d.texts ++ text ∷ [];
           answers = d.answers ++ v ∷ [];
           came = came;
           kinds = same ∙ d.kinds;
-          takes = answers_more (kinds_in old) old.repo.patches d.texts policy rule d.answers mid.repo.patches text v new.repo.patches d.takes takes;
+          takes = answers_more (kinds_in old) (kept_in old) d.texts policy rule d.answers (kept_in mid) text v (kept_in new) d.takes takes;
           lines = subst (λ (l : List ℕ). Appends before.contents now.contents l) (sym (lines_more d.answers v))
               (Appends-trans before.contents out.contents now.contents (lines_of d.answers) (answer_line v) d.lines line.bytes);
           flushed = subst (λ (l : List (List ℕ)). PutsEach before l now) (sym (map-append answer_line d.answers (v ∷ []))) (puts_more before (map answer_line d.answers) out (answer_line v) now d.flushed line);
-          any_moment = followed moment left_since old.journal.device mid.journal.device new.journal.device (KeepsFirst (kinds_in old) old.repo.patches (d.texts ++ text ∷ []) policy rule (d.answers ++ v ∷ []))
-              (weakened moment left_since old.journal.device mid.journal.device _ _ (first_of_more (kinds_in old) old.repo.patches d.texts policy rule d.answers text v) d.any_moment)
-              (weakened moment left_since mid.journal.device new.journal.device _ _ (either_is_first (kinds_in old) old.repo.patches d.texts policy rule d.answers mid.repo.patches text v new.repo.patches d.takes takes) run);
+          any_moment = followed moment left_since old.journal.device mid.journal.device new.journal.device (KeepsFirst (kinds_in old) (kept_in old) (d.texts ++ text ∷ []) policy rule (d.answers ++ v ∷ []))
+              (weakened moment left_since old.journal.device mid.journal.device _ _ (first_of_more (kinds_in old) (kept_in old) d.texts policy rule d.answers text v) d.any_moment)
+              (weakened moment left_since mid.journal.device new.journal.device _ _ (either_is_first (kinds_in old) (kept_in old) d.texts policy rule d.answers (kept_in mid) text v (kept_in new) d.takes takes) run);
         },
         all_more IsAcceptedAnswer all more d.answers v s.1 both,
       )
 
   -- a checkpoint was made, or tried
   pub settled : (Gave : List (List ℕ) → Type 0) (policy : Policy) (rule : HashRule) (old mid new : Store D) (before now : Output) (all : Bool)
-      (s : Accepts moment left_since Gave policy rule old mid before now all) → new.repo ≡ mid.repo → kinds_in new ≡ kinds_in mid →
-      LeavesOnly moment left_since mid.journal.device new.journal.device (λ file. KeepsRepo (kinds_in mid) file mid.repo.patches) →
+      (s : Accepts moment left_since Gave policy rule old mid before now all) → new.repo ≡ mid.repo → new.base ≡ mid.base → kinds_in new ≡ kinds_in mid →
+      LeavesOnly moment left_since mid.journal.device new.journal.device (λ file. KeepsRepo (kinds_in mid) file (kept_in mid)) →
       Accepts moment left_since Gave policy rule old new before now all
-  settled Gave policy rule old mid new before now all s same kinds run' =
+  settled Gave policy rule old mid new before now all s same base kinds run' =
       let d = s.0 in
-      let run = subst (λ (k : Kinds). LeavesOnly moment left_since mid.journal.device new.journal.device (λ file. KeepsRepo k file mid.repo.patches)) d.kinds run' in (
+      let run = subst (λ (k : Kinds). LeavesOnly moment left_since mid.journal.device new.journal.device (λ file. KeepsRepo k file (kept_in mid))) d.kinds run' in (
         record {
           texts = d.texts;
           answers = d.answers;
           came = d.came;
           kinds = kinds ∙ d.kinds;
-          takes = subst (λ (r : List Patch). AnswersEach (kinds_in old) old.repo.patches d.texts policy rule d.answers r) (sym (ap (λ r. r.patches) same)) d.takes;
+          takes = subst (λ (r : Kept). AnswersEach (kinds_in old) (kept_in old) d.texts policy rule d.answers r) (sym (ap₂ kept_as base (ap (λ r. r.patches) same))) d.takes;
           lines = d.lines;
           flushed = d.flushed;
-          any_moment = followed moment left_since old.journal.device mid.journal.device new.journal.device (KeepsFirst (kinds_in old) old.repo.patches d.texts policy rule d.answers)
+          any_moment = followed moment left_since old.journal.device mid.journal.device new.journal.device (KeepsFirst (kinds_in old) (kept_in old) d.texts policy rule d.answers)
               d.any_moment
-              (weakened moment left_since mid.journal.device new.journal.device _ _ (λ c keeps. all_are_first (kinds_in old) old.repo.patches d.texts policy rule d.answers mid.repo.patches c d.takes keeps) run);
+              (weakened moment left_since mid.journal.device new.journal.device _ _ (λ c keeps. all_are_first (kinds_in old) (kept_in old) d.texts policy rule d.answers (kept_in mid) c d.takes keeps) run);
         },
         s.1,
       )
@@ -210,27 +209,27 @@ module _ {D : Type 0} (moment : D → ℕ) (left_since : D → ℕ → List ℕ 
 
   -- a crash leaves what some of them leave
   pub keeps_some : (Gave : List (List ℕ) → Type 0) (policy : Policy) (rule : HashRule) (old new : Store D) (before now : Output) (d : Delivers moment left_since Gave policy rule old new before now) →
-      LeavesOnly moment left_since old.journal.device new.journal.device (KeepsSome Gave (kinds_in old) old.repo.patches policy rule)
+      LeavesOnly moment left_since old.journal.device new.journal.device (KeepsSome Gave (kinds_in old) (kept_in old) policy rule)
   keeps_some Gave policy rule old new before now d =
-      weakened moment left_since old.journal.device new.journal.device (KeepsFirst (kinds_in old) old.repo.patches d.texts policy rule d.answers) (KeepsSome Gave (kinds_in old) old.repo.patches policy rule) (λ c k. (d.texts, d.answers, d.came, k)) d.any_moment
+      weakened moment left_since old.journal.device new.journal.device (KeepsFirst (kinds_in old) (kept_in old) d.texts policy rule d.answers) (KeepsSome Gave (kinds_in old) (kept_in old) policy rule) (λ c k. (d.texts, d.answers, d.came, k)) d.any_moment
 
   -- so it does after the last, which isn't answered
   pub unanswered_keeps_some : (Gave Gives : List (List ℕ) → Type 0) (policy : Policy) (rule : HashRule) (old mid new : Store D) (before out : Output) (d : Delivers moment left_since Gave policy rule old mid before out)
-      (text : List ℕ) → Gives (d.texts ++ text ∷ []) → LeavesOnly moment left_since mid.journal.device new.journal.device (KeepsAnswered (kinds_in mid) mid.repo.patches text policy rule) →
-      LeavesOnly moment left_since old.journal.device new.journal.device (KeepsSome Gives (kinds_in old) old.repo.patches policy rule)
+      (text : List ℕ) → Gives (d.texts ++ text ∷ []) → LeavesOnly moment left_since mid.journal.device new.journal.device (KeepsAnswered (kinds_in mid) (kept_in mid) text policy rule) →
+      LeavesOnly moment left_since old.journal.device new.journal.device (KeepsSome Gives (kinds_in old) (kept_in old) policy rule)
   unanswered_keeps_some Gave Gives policy rule old mid new before out d text came run' =
-      let run = subst (λ (k : Kinds). LeavesOnly moment left_since mid.journal.device new.journal.device (KeepsAnswered k mid.repo.patches text policy rule)) d.kinds run' in
-      followed moment left_since old.journal.device mid.journal.device new.journal.device (KeepsSome Gives (kinds_in old) old.repo.patches policy rule)
-      (weakened moment left_since old.journal.device mid.journal.device (KeepsFirst (kinds_in old) old.repo.patches d.texts policy rule d.answers) (KeepsSome Gives (kinds_in old) old.repo.patches policy rule)
-      (λ c k. (d.texts ++ text ∷ [], d.answers ++ Verdict NothingNew ∷ [], came, first_of_more (kinds_in old) old.repo.patches d.texts policy rule d.answers text (Verdict NothingNew) c k)) d.any_moment)
-      (weakened moment left_since mid.journal.device new.journal.device (KeepsAnswered (kinds_in old) mid.repo.patches text policy rule) (KeepsSome Gives (kinds_in old) old.repo.patches policy rule)
-      (λ c k. let u = unanswered_is_first (kinds_in old) old.repo.patches d.texts policy rule d.answers mid.repo.patches text d.takes c k in (d.texts ++ text ∷ [], u.0, came, u.1)) run)
+      let run = subst (λ (k : Kinds). LeavesOnly moment left_since mid.journal.device new.journal.device (KeepsAnswered k (kept_in mid) text policy rule)) d.kinds run' in
+      followed moment left_since old.journal.device mid.journal.device new.journal.device (KeepsSome Gives (kinds_in old) (kept_in old) policy rule)
+      (weakened moment left_since old.journal.device mid.journal.device (KeepsFirst (kinds_in old) (kept_in old) d.texts policy rule d.answers) (KeepsSome Gives (kinds_in old) (kept_in old) policy rule)
+      (λ c k. (d.texts ++ text ∷ [], d.answers ++ Verdict NothingNew ∷ [], came, first_of_more (kinds_in old) (kept_in old) d.texts policy rule d.answers text (Verdict NothingNew) c k)) d.any_moment)
+      (weakened moment left_since mid.journal.device new.journal.device (KeepsAnswered (kinds_in old) (kept_in mid) text policy rule) (KeepsSome Gives (kinds_in old) (kept_in old) policy rule)
+      (λ c k. let u = unanswered_is_first (kinds_in old) (kept_in old) d.texts policy rule d.answers (kept_in mid) text d.takes c k in (d.texts ++ text ∷ [], u.0, came, u.1)) run)
 
   -- all but the last are answered
   pub but_last : (seen : D → List ℕ) (faults : D → ℕ) (Gave Gives : List (List ℕ) → Type 0) (policy : Policy) (rule : HashRule) (error : AnswerError) (old mid new : Store D) (before out now : Output)
       (d : Delivers moment left_since Gave policy rule old mid before out) (text : List ℕ) → Gives (d.texts ++ text ∷ []) → kinds_in new ≡ kinds_in mid →
-      LeavesUnanswered error (kinds_in mid) mid.repo.patches text policy rule new.repo.patches out now →
-      LeavesOnly moment left_since mid.journal.device new.journal.device (KeepsAnswered (kinds_in mid) mid.repo.patches text policy rule) →
+      LeavesUnanswered error (kinds_in mid) (kept_in mid) text policy rule (kept_in new) out now →
+      LeavesOnly moment left_since mid.journal.device new.journal.device (KeepsAnswered (kinds_in mid) (kept_in mid) text policy rule) →
       (error ≡ OfStore (WritingDevice Failed) → faults mid.journal.device < faults new.journal.device) → (error ≡ OfStore TooLong → ⊥) →
       (error ≡ OfStore Full → 2 ^ 62 < length (seen mid.journal.device)) →
       DeliversButLast seen moment left_since faults Gives policy rule error old new before now
@@ -249,15 +248,16 @@ module _ {D : Type 0} (moment : D → ℕ) (left_since : D → ℕ → List ℕ 
 
   -- all but the last are answered, and a checkpoint failed
   pub checkpoint_failed : (faults : D → ℕ) (Gave Gives : List (List ℕ) → Type 0) (policy : Policy) (rule : HashRule) (error : WriteError) (old mid new : Store D) (before now : Output)
-      (d : Delivers moment left_since Gave policy rule old mid before now) (text : List ℕ) → Gives (d.texts ++ text ∷ []) → new.repo ≡ mid.repo → kinds_in new ≡ kinds_in mid →
-      LeavesOnly moment left_since mid.journal.device new.journal.device (λ file. KeepsRepo (kinds_in mid) file mid.repo.patches) →
+      (d : Delivers moment left_since Gave policy rule old mid before now) (text : List ℕ) → Gives (d.texts ++ text ∷ []) → new.repo ≡ mid.repo → new.base ≡ mid.base → kinds_in new ≡ kinds_in mid →
+      LeavesOnly moment left_since mid.journal.device new.journal.device (λ file. KeepsRepo (kinds_in mid) file (kept_in mid)) →
       (IsFailure error → faults mid.journal.device < faults new.journal.device) → (error ≢ TooLong) × (error ≢ Full) →
       DeliversAllBut moment left_since faults Gives policy rule error old new before now
-  checkpoint_failed faults Gave Gives policy rule error old mid new before now d text came same kinds run failed kind = record {
+  checkpoint_failed faults Gave Gives policy rule error old mid new before now d text came same base kinds run failed kind = record {
     last = text;
     mid = mid;
     delivered = record { texts = d.texts; answers = d.answers; came = came; kinds = d.kinds; takes = d.takes; lines = d.lines; flushed = d.flushed; any_moment = d.any_moment };
     same = same;
+    base = base;
     kinds = kinds;
     any_moment = run;
     failed = failed;
@@ -267,8 +267,8 @@ module _ {D : Type 0} (moment : D → ℕ) (left_since : D → ℕ → List ℕ 
   -- a crash by then leaves what some of them leave
   pub checkpoint_keeps_some : (Gave Gives : List (List ℕ) → Type 0) (policy : Policy) (rule : HashRule) (old mid new : Store D) (before now : Output)
       (d : Delivers moment left_since Gave policy rule old mid before now) (text : List ℕ) → Gives (d.texts ++ text ∷ []) →
-      LeavesOnly moment left_since mid.journal.device new.journal.device (λ file. KeepsRepo (kinds_in mid) file mid.repo.patches) →
-      LeavesOnly moment left_since old.journal.device new.journal.device (KeepsSome Gives (kinds_in old) old.repo.patches policy rule)
+      LeavesOnly moment left_since mid.journal.device new.journal.device (λ file. KeepsRepo (kinds_in mid) file (kept_in mid)) →
+      LeavesOnly moment left_since old.journal.device new.journal.device (KeepsSome Gives (kinds_in old) (kept_in old) policy rule)
   checkpoint_keeps_some Gave Gives policy rule old mid new before now d text came run =
       unanswered_keeps_some Gave Gives policy rule old mid new before now d text came
       (weakened moment left_since mid.journal.device new.journal.device _ _ (λ c keeps. inl keeps) run)

@@ -4,14 +4,13 @@ use Rattle.std.specs.Fmt.{decimal}
 use Rattle.dm_named.specs.Laws.{with_kinds}
 use Rattle.dm_named.specs.Limits.{standard}
 use Rattle.dm_named.specs.declared.limits.Kinds.{Kinds}
-use Rattle.dm_named.specs.Patches.{Patch}
 use Rattle.dm_bundle.specs.Bundles.{Contents}
 use Rattle.dm_repo.specs.declared.policy.Policy.{Policy}
 use Rattle.dm_begin.specs.Bases.{IsBeforeBase}
 use Rattle.dm_scratch.specs.Taking.{ReadsWithin, TakesIn, IsAccepted}
 use Rattle.dm_scratch.specs.Words.{verdict_text}
 use Rattle.dm_scratch.specs.Printing.{line_of}
-use Rattle.dm_store.specs.Keeping.{KeepsRepo, KeepsWithOrWithout}
+use Rattle.dm_store.specs.Keeping.{KeepsRepo, KeepsWithOrWithout, Kept}
 use Rattle.dm_deliver.specs.declared.answers.Answer.{Answer}
 use Rattle.dm_deliver.specs.declared.answers.Answer.TheVariants.{Verdict, Hash, BeforeBase}
 use Rattle.dm_deliver.specs.declared.fault.AnswerError.{AnswerError}
@@ -46,26 +45,26 @@ abbrev pub PassesRuleIn : Kinds → HashRule → List ℕ → Type 0
 PassesRuleIn kinds rule text = PassesRuleWithin (with_kinds standard kinds) rule text
 
 -- within the standard limits, with these kinds of primitives, the text is a bundle that comes before the base of the repository
-abbrev pub IsTextBeforeBase : Kinds → List Patch → List ℕ → Type 0
-IsTextBeforeBase kinds repo text = (b : Contents) × ReadsWithin (with_kinds standard kinds) text b × IsBeforeBase repo b
+abbrev pub IsTextBeforeBase : Kinds → Kept → List ℕ → Type 0
+IsTextBeforeBase kinds kept text = (b : Contents) × ReadsWithin (with_kinds standard kinds) text b × IsBeforeBase kept.patches kept.base b
 
 -- no rule refuses the text: neither its hash, nor that it comes before the base
-abbrev pub PassesRules : Kinds → List Patch → HashRule → List ℕ → Type 0
-PassesRules kinds repo rule text = PassesRuleIn kinds rule text × (IsTextBeforeBase kinds repo text → ⊥)
+abbrev pub PassesRules : Kinds → Kept → HashRule → List ℕ → Type 0
+PassesRules kinds kept rule text = PassesRuleIn kinds rule text × (IsTextBeforeBase kinds kept text → ⊥)
 
 -- What answering a text does that may have primitives of these kinds: where the rule refuses its hash, the repository stays as it was; else where it
--- comes before the base, too; else it is taken, with this verdict.
-abbrev pub Answers : Kinds → List Patch → List ℕ → Policy → HashRule → Answer → List Patch → Type 0
-Answers kinds repo text policy rule (Verdict verdict) after = PassesRules kinds repo rule text × TakesIn kinds repo text policy verdict after
-Answers kinds repo text policy rule (Hash fault) after = HasHashFaultIn kinds rule text fault × (after ≡ repo)
-Answers kinds repo text policy rule BeforeBase after = PassesRuleIn kinds rule text × IsTextBeforeBase kinds repo text × (after ≡ repo)
+-- comes before the base, too; else it is taken, with this verdict. The base stays.
+abbrev pub Answers : Kinds → Kept → List ℕ → Policy → HashRule → Answer → Kept → Type 0
+Answers kinds kept text policy rule (Verdict verdict) after = PassesRules kinds kept rule text × TakesIn kinds kept.patches text policy verdict after.patches × (after.base ≡ kept.base)
+Answers kinds kept text policy rule (Hash fault) after = HasHashFaultIn kinds rule text fault × (after ≡ kept)
+Answers kinds kept text policy rule BeforeBase after = PassesRuleIn kinds rule text × IsTextBeforeBase kinds kept text × (after ≡ kept)
 
 -- texts are answered under one policy and one rule, one after the other, each by the repository that the one before it left
-abbrev pub AnswersEach : Kinds → List Patch → List (List ℕ) → Policy → HashRule → List Answer → List Patch → Type 0
-AnswersEach kinds repo [] policy rule [] after = after ≡ repo
-AnswersEach kinds repo (text ∷ texts) policy rule (answer ∷ answers) after =
-    (next : List Patch) × Answers kinds repo text policy rule answer next × AnswersEach kinds next texts policy rule answers after
-AnswersEach kinds repo texts policy rule answers after = ⊥
+abbrev pub AnswersEach : Kinds → Kept → List (List ℕ) → Policy → HashRule → List Answer → Kept → Type 0
+AnswersEach kinds kept [] policy rule [] after = after ≡ kept
+AnswersEach kinds kept (text ∷ texts) policy rule (answer ∷ answers) after =
+    (next : Kept) × Answers kinds kept text policy rule answer next × AnswersEach kinds next texts policy rule answers after
+AnswersEach kinds kept texts policy rule answers after = ⊥
 
 -- the error is the store's own
 abbrev pub IsOfStore : AnswerError → Type 0
@@ -74,27 +73,27 @@ IsOfStore NoMemory = ⊥
 IsOfStore Write = ⊥
 
 -- the text has some answer, and a part of its line was written before a call of the writer failed
-abbrev pub AnswersAndBegins : Kinds → List Patch → List ℕ → Policy → HashRule → List Patch → Output → Output → Type 0
-AnswersAndBegins kinds repo text policy rule after before now =
-    (answer : Answer) × Answers kinds repo text policy rule answer after × Breaks before now (answer_line answer)
+abbrev pub AnswersAndBegins : Kinds → Kept → List ℕ → Policy → HashRule → Kept → Output → Output → Type 0
+AnswersAndBegins kinds kept text policy rule after before now =
+    (answer : Answer) × Answers kinds kept text policy rule answer after × Breaks before now (answer_line answer)
 
 -- the text wasn't read, or it has some answer; and no call of the writer was made
-abbrev pub AnswersInSilence : Kinds → List Patch → List ℕ → Policy → HashRule → List Patch → Output → Output → Type 0
-AnswersInSilence kinds repo text policy rule after before now =
-    ((after ≡ repo) ⊎ ((answer : Answer) × Answers kinds repo text policy rule answer after)) × (now ≡ before)
+abbrev pub AnswersInSilence : Kinds → Kept → List ℕ → Policy → HashRule → Kept → Output → Output → Type 0
+AnswersInSilence kinds kept text policy rule after before now =
+    ((after ≡ kept) ⊎ ((answer : Answer) × Answers kinds kept text policy rule answer after)) × (now ≡ before)
 
 -- what was done where a text has no answer: by an error of the store no call of the writer was made, nor where memory ran out, before the text was
 -- taken or after; and by an error of the writer a part of its line was written, and a call of the writer failed
-abbrev pub LeavesUnanswered : AnswerError → Kinds → List Patch → List ℕ → Policy → HashRule → List Patch → Output → Output → Type 0
-LeavesUnanswered (Store why) kinds repo text policy rule after before now = now ≡ before
-LeavesUnanswered NoMemory kinds repo text policy rule after before now = AnswersInSilence kinds repo text policy rule after before now
-LeavesUnanswered Write kinds repo text policy rule after before now = AnswersAndBegins kinds repo text policy rule after before now
+abbrev pub LeavesUnanswered : AnswerError → Kinds → Kept → List ℕ → Policy → HashRule → Kept → Output → Output → Type 0
+LeavesUnanswered (Store why) kinds kept text policy rule after before now = now ≡ before
+LeavesUnanswered NoMemory kinds kept text policy rule after before now = AnswersInSilence kinds kept text policy rule after before now
+LeavesUnanswered Write kinds kept text policy rule after before now = AnswersAndBegins kinds kept text policy rule after before now
 
 -- the file keeps one of two repositories
-abbrev pub KeepsEither : Kinds → List Patch → List Patch → List ℕ → Type 0
+abbrev pub KeepsEither : Kinds → Kept → Kept → List ℕ → Type 0
 KeepsEither kinds old new file = KeepsRepo kinds file old ⊎ KeepsRepo kinds file new
 
 -- the file keeps this repository, or, where no rule refuses the text, the one that the text leaves when it is taken into it
-abbrev pub KeepsAnswered : Kinds → List Patch → List ℕ → Policy → HashRule → List ℕ → Type 0
-KeepsAnswered kinds repo text policy rule file =
-    KeepsRepo kinds file repo ⊎ (PassesRules kinds repo rule text × KeepsWithOrWithout kinds repo text policy file)
+abbrev pub KeepsAnswered : Kinds → Kept → List ℕ → Policy → HashRule → List ℕ → Type 0
+KeepsAnswered kinds kept text policy rule file =
+    KeepsRepo kinds file kept ⊎ (PassesRules kinds kept rule text × KeepsWithOrWithout kinds kept text policy file)

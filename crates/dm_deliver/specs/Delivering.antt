@@ -2,7 +2,6 @@
 use Rattle.std.specs.Prelude.{◌≡◌, ◌≢◌, ◌<◌, ◌^◌, ℕ, List, [], ◌∷◌, ◌++◌, length, flat_map, map}
 use Rattle.std.specs.Io.KnownBytes.{Appends}
 use Rattle.dm_named.specs.declared.limits.Kinds.{Kinds}
-use Rattle.dm_named.specs.Patches.{Patch}
 use Rattle.dm_repo.specs.declared.policy.Policy.{Policy}
 use Rattle.dm_journal.specs.declared.device.DeviceError.TheVariants.{Failed}
 use Rattle.dm_journal.specs.declared.fault.WriteError.TheVariants.{Device as WritingDevice, TooLong, Full}
@@ -11,7 +10,7 @@ use Rattle.dm_journal.specs.Device.{LeavesOnly}
 use Rattle.dm_journal.specs.Ready.{IsFailure}
 use Rattle.dm_store.specs.declared.store.Store.{Store}
 use Rattle.dm_store.specs.Kinds.{kinds_in}
-use Rattle.dm_store.specs.Keeping.{KeepsRepo}
+use Rattle.dm_store.specs.Keeping.{KeepsRepo, Kept, kept_in}
 use Rattle.dm_deliver.specs.declared.answers.Answer.{Answer as Reply}
 use Rattle.dm_deliver.specs.declared.hash_rule.HashRule.{HashRule}
 use Rattle.dm_deliver.specs.declared.fault.AnswerError.{AnswerError}
@@ -26,15 +25,15 @@ abbrev pub lines_of : List Reply → List ℕ
 lines_of answers = flat_map answer_line answers
 
 -- the file keeps the repository that the first of the texts leave, some of them or all, which have the first of the answers
-pub record KeepsFirst (kinds : Kinds) (repo : List Patch) (texts : List (List ℕ)) (policy : Policy) (rule : HashRule) (answers : List Reply) (file : List ℕ) : Type 0 where
+pub record KeepsFirst (kinds : Kinds) (kept : Kept) (texts : List (List ℕ)) (policy : Policy) (rule : HashRule) (answers : List Reply) (file : List ℕ) : Type 0 where
   pub first : List (List ℕ)
   pub others : List (List ℕ)
   pub made : List Reply
   pub to_make : List Reply
-  pub after : List Patch
+  pub after : Kept
   pub are_texts : texts ≡ first ++ others
   pub are_answers : answers ≡ made ++ to_make
-  pub takes : AnswersEach kinds repo first policy rule made after
+  pub takes : AnswersEach kinds kept first policy rule made after
   pub keeps : KeepsRepo kinds file after
 
 -- These texts came, each was answered by the repository that the one before it left, and the line of its answer written, and flushed before the next
@@ -45,10 +44,10 @@ pub record Delivers {D : Type 0} (moment : D → ℕ) (left_since : D → ℕ �
   pub answers : List Reply
   pub came : Gave texts
   pub kinds : kinds_in new ≡ kinds_in old
-  pub takes : AnswersEach (kinds_in old) old.repo.patches texts policy rule answers new.repo.patches
+  pub takes : AnswersEach (kinds_in old) (kept_in old) texts policy rule answers (kept_in new)
   pub lines : Appends before.contents now.contents (lines_of answers)
   pub flushed : PutsEach before (map answer_line answers) now
-  pub any_moment : LeavesOnly moment left_since old.journal.device new.journal.device (KeepsFirst (kinds_in old) old.repo.patches texts policy rule answers)
+  pub any_moment : LeavesOnly moment left_since old.journal.device new.journal.device (KeepsFirst (kinds_in old) (kept_in old) texts policy rule answers)
 
 -- One text more came after those that were delivered, and isn't answered: what was done of it, and why, by the store as it was before it.
 pub record DeliversButLast {D : Type 0} (seen : D → List ℕ) (moment : D → ℕ) (left_since : D → ℕ → List ℕ → Type 0) (faults : D → ℕ) (Gave : List (List ℕ) → Type 0) (policy : Policy)
@@ -58,8 +57,8 @@ pub record DeliversButLast {D : Type 0} (seen : D → List ℕ) (moment : D → 
   pub written : Output
   pub delivered : Delivers moment left_since (λ texts. Gave (texts ++ last ∷ [])) policy rule old mid before written
   pub kinds : kinds_in new ≡ kinds_in mid
-  pub unanswered : LeavesUnanswered error (kinds_in mid) mid.repo.patches last policy rule new.repo.patches written now
-  pub any_moment : LeavesOnly moment left_since mid.journal.device new.journal.device (KeepsAnswered (kinds_in mid) mid.repo.patches last policy rule)
+  pub unanswered : LeavesUnanswered error (kinds_in mid) (kept_in mid) last policy rule (kept_in new) written now
+  pub any_moment : LeavesOnly moment left_since mid.journal.device new.journal.device (KeepsAnswered (kinds_in mid) (kept_in mid) last policy rule)
   pub failed : error ≡ OfStore (WritingDevice Failed) → faults mid.journal.device < faults new.journal.device
   pub not_too_long : error ≡ OfStore TooLong → ⊥
   pub full : error ≡ OfStore Full → 2 ^ 62 < length (seen mid.journal.device)
@@ -72,8 +71,9 @@ pub record DeliversAllBut {D : Type 0} (moment : D → ℕ) (left_since : D → 
   pub mid : Store D
   pub delivered : Delivers moment left_since (λ texts. Gave (texts ++ last ∷ [])) policy rule old mid before now
   pub same : new.repo ≡ mid.repo
+  pub base : new.base ≡ mid.base
   pub kinds : kinds_in new ≡ kinds_in mid
-  pub any_moment : LeavesOnly moment left_since mid.journal.device new.journal.device (λ file. KeepsRepo (kinds_in mid) file mid.repo.patches)
+  pub any_moment : LeavesOnly moment left_since mid.journal.device new.journal.device (λ file. KeepsRepo (kinds_in mid) file (kept_in mid))
   pub failed : IsFailure error → faults mid.journal.device < faults new.journal.device
   pub kind : (error ≢ TooLong) × (error ≢ Full)
 
@@ -91,5 +91,5 @@ EndsStore (Checkpoint why) = Unit {0}
 EndsStore (Answer why) = IsOfStore why
 
 -- texts came, and the file keeps the repository that the first of them leave, some or all
-abbrev pub KeepsSome : (List (List ℕ) → Type 0) → Kinds → List Patch → Policy → HashRule → List ℕ → Type 0
-KeepsSome Gave kinds repo policy rule file = (texts : List (List ℕ)) × (answers : List Reply) × Gave texts × KeepsFirst kinds repo texts policy rule answers file
+abbrev pub KeepsSome : (List (List ℕ) → Type 0) → Kinds → Kept → Policy → HashRule → List ℕ → Type 0
+KeepsSome Gave kinds kept policy rule file = (texts : List (List ℕ)) × (answers : List Reply) × Gave texts × KeepsFirst kinds kept texts policy rule answers file

@@ -1,13 +1,13 @@
 -- What holds of all texts that are answered.
-use Rattle.std.specs.Prelude.{ℕ, List, [], ◌∷◌}
+use Rattle.std.specs.Prelude.{◌≡◌, ℕ, List, [], ◌∷◌}
 use Rattle.dm_named.specs.declared.limits.Kinds.{Kinds}
-use Rattle.dm_named.specs.Patches.{Patch}
 use Rattle.dm_repo.specs.declared.policy.Policy.{Policy}
 use Rattle.dm_scratch.specs.declared.verdict.Verdict.{Verdict as Judged}
 use Rattle.dm_scratch.specs.Taking.{TakesEachIn}
 use Rattle.dm_deliver.specs.declared.answers.Answer.{Answer}
 use Rattle.dm_deliver.specs.declared.answers.Answer.TheVariants.{Verdict, Hash, BeforeBase}
 use Rattle.dm_deliver.specs.declared.hash_rule.HashRule.{HashRule}
+use Rattle.dm_store.specs.Keeping.{Kept}
 use Rattle.dm_deliver.specs.Answering.{AnswersEach}
 
 -- the texts that were answered by a verdict
@@ -25,7 +25,8 @@ verdicts_of (Verdict verdict ∷ answers) = verdict ∷ verdicts_of answers
 verdicts_of (Hash fault ∷ answers) = verdicts_of answers
 verdicts_of (BeforeBase ∷ answers) = verdicts_of answers
 
--- texts that are answered leave what those of them leave, taken in turn, that were answered by a verdict
+-- texts that are answered leave what those of them leave, taken in turn, that were answered by a verdict; the base stays
 abbrev pub AnswersFold : Type 0
-AnswersFold = (kinds : Kinds) (repo : List Patch) (texts : List (List ℕ)) (policy : Policy) (rule : HashRule) (answers : List Answer) (after : List Patch) →
-    AnswersEach kinds repo texts policy rule answers after → TakesEachIn kinds repo (judged_texts texts answers) policy (verdicts_of answers) after
+AnswersFold = (kinds : Kinds) (kept : Kept) (texts : List (List ℕ)) (policy : Policy) (rule : HashRule) (answers : List Answer) (after : Kept) →
+    AnswersEach kinds kept texts policy rule answers after →
+    TakesEachIn kinds kept.patches (judged_texts texts answers) policy (verdicts_of answers) after.patches × (after.base ≡ kept.base)

@@ -5,7 +5,7 @@ ghost use Rattle.dm_journal.specs.declared.fault.WriteError.TheVariants.{Device 
 ghost use Rattle.dm_journal.specs.Device.{LeavesOnly};
 ghost use Rattle.dm_journal.specs.Ready.{IsBeside, IsFailure};
 ghost use Rattle.dm_store.specs.Kinds.{kinds_in};
-ghost use Rattle.dm_store.specs.Keeping.{CrashesKeep, IsStored, KeepsRepo};
+ghost use Rattle.dm_store.specs.Keeping.{CrashesKeep, IsStored, KeepsRepo, kept_as, kept_in};
 ghost use Rattle.dm_deliver.specs.declared.answers.Answer.{Answer as Reply};
 ghost use Rattle.dm_deliver.specs.declared.fault.AnswerError.TheVariants.{Store as OfStore, NoMemory as NoRoom, Write as Unwritten};
 ghost use Rattle.dm_deliver.specs.Answering.{Answers, PassesRules, answer_line, IsAcceptedAnswer, IsOfStore, LeavesUnanswered, KeepsEither, KeepsAnswered};
@@ -32,19 +32,20 @@ use std::io::Write;
 fn refusal_of_rules(
     alloc: Global,
     repo: &Repo<Global>,
+    base: usize,
     text: &[u8],
     kinds: Kinds,
     rule: HashRule,
 ) -> Result<Option<Answer>, AllocError>
     ensures some { IfOk result (λ found. IfSome found (λ answer. (policy : Policy)
-        → Answers kinds repo.now.patches text.now policy rule answer repo.now.patches)) }
-    ensures none { IfOk result (λ found. IfNone found (PassesRules kinds repo.now.patches rule text.now)) }
+        → Answers kinds (kept_as base repo.now.patches) text.now policy rule answer (kept_as base repo.now.patches))) }
+    ensures none { IfOk result (λ found. IfNone found (PassesRules kinds (kept_as base repo.now.patches) rule text.now)) }
 {
     let limits = Limits::STANDARD.with_kinds(kinds);
     if let Some(fault) = hash_fault_within(alloc, text, limits, rule)? {
         return Ok(Some(Answer::Hash(fault)));
     }
-    if text_is_before_base(alloc, repo, text, kinds)? {
+    if text_is_before_base(alloc, repo, base, text, kinds)? {
         return Ok(Some(Answer::BeforeBase));
     }
     Ok(None)
@@ -60,24 +61,32 @@ fn take_text<D: Device>(
 ) -> Result<Answer, AnswerError>
     requires { IsStored D.seen D.may_leave D.file_may_leave store.old }
 
-    ensures answers { IfOk result (λ answer. Answers (kinds_in store.old) store.old.repo.patches text.now policy rule answer store.new.repo.patches) }
+    ensures answers { IfOk result (λ answer. Answers (kinds_in store.old) (kept_in store.old) text.now policy rule answer (kept_in store.new)) }
     ensures no_memory { IfErr result (λ e. e ≡ NoRoom
-        → (store.new.repo.patches ≡ store.old.repo.patches) ⊎ ((answer : Reply) × Answers (kinds_in store.old) store.old.repo.patches text.now policy rule answer store.new.repo.patches)) }
+        → (kept_in store.new ≡ kept_in store.old) ⊎ ((answer : Reply) × Answers (kinds_in store.old) (kept_in store.old) text.now policy rule answer (kept_in store.new))) }
     ensures only { IfErr result (λ e. e ≢ Unwritten) }
     ensures kinds { kinds_in store.new ≡ kinds_in store.old }
+    ensures base { store.new.base ≡ store.old.base }
     ensures stored { OnOk result (IsStored D.seen D.may_leave D.file_may_leave store.new) }
     ensures stored_err { IfErr result (λ e. ¬ IsOfStore e → IsStored D.seen D.may_leave D.file_may_leave store.new) }
-    ensures kept { OnOk result (CrashesKeep (kinds_in store.new) D.may_leave store.new.journal.device store.new.repo.patches) }
-    ensures kept_err { IfErr result (λ e. ¬ IsOfStore e → CrashesKeep (kinds_in store.new) D.may_leave store.new.journal.device store.new.repo.patches) }
+    ensures kept { OnOk result (CrashesKeep (kinds_in store.new) D.may_leave store.new.journal.device (kept_in store.new)) }
+    ensures kept_err { IfErr result (λ e. ¬ IsOfStore e → CrashesKeep (kinds_in store.new) D.may_leave store.new.journal.device (kept_in store.new)) }
     ensures any_moment { LeavesOnly D.moment D.left_since store.old.journal.device store.new.journal.device
-        (KeepsAnswered (kinds_in store.old) store.old.repo.patches text.now policy rule) }
+        (KeepsAnswered (kinds_in store.old) (kept_in store.old) text.now policy rule) }
     ensures either { OnOk result (LeavesOnly D.moment D.left_since store.old.journal.device store.new.journal.device
-        (KeepsEither (kinds_in store.old) store.old.repo.patches store.new.repo.patches)) }
+        (KeepsEither (kinds_in store.old) (kept_in store.old) (kept_in store.new))) }
     ensures failed { IfErr result (λ e. e ≡ OfStore (WritingDevice Failed) → D.faults store.old.journal.device < D.faults store.new.journal.device) }
     ensures not_too_long { IfErr result (λ e. e ≡ OfStore TooLong → ⊥) }
     ensures full { IfErr result (λ e. e ≡ OfStore Full → 2 ^ 62 < length (D.seen store.old.journal.device)) }
 {
-    if let Some(answer) = refusal_of_rules(alloc, store.repo(), text, store.kinds(), rule)? {
+    if let Some(answer) = refusal_of_rules(
+        alloc,
+        store.repo(),
+        store.base(),
+        text,
+        store.kinds(),
+        rule,
+    )? {
         return Ok(answer);
     }
     let verdict = store.take(alloc, text, policy)?;
@@ -104,24 +113,25 @@ pub fn answer<D: Device, W: Write>(
 ) -> Result<Answer, AnswerError>
     requires { IsStored D.seen D.may_leave D.file_may_leave store.old }
 
-    ensures answers { IfOk result (λ answer. Answers (kinds_in store.old) store.old.repo.patches text.now policy rule answer store.new.repo.patches) }
+    ensures answers { IfOk result (λ answer. Answers (kinds_in store.old) (kept_in store.old) text.now policy rule answer (kept_in store.new)) }
 
     // The line is written, and then flushed. There is no answer only for a cause: `Write` where a call of the writer failed.
     ensures line { IfOk result (λ answer. Puts (output W.contents writer.old) (output W.contents writer.new) (answer_line answer)) }
-    ensures unanswered { IfErr result (λ e. LeavesUnanswered e (kinds_in store.old) store.old.repo.patches text.now policy rule store.new.repo.patches
+    ensures unanswered { IfErr result (λ e. LeavesUnanswered e (kinds_in store.old) (kept_in store.old) text.now policy rule (kept_in store.new)
         (output W.contents writer.old) (output W.contents writer.new)) }
 
     ensures kinds { kinds_in store.new ≡ kinds_in store.old }
+    ensures base { store.new.base ≡ store.old.base }
     ensures stored { OnOk result (IsStored D.seen D.may_leave D.file_may_leave store.new) }
     ensures stored_err { IfErr result (λ e. ¬ IsOfStore e → IsStored D.seen D.may_leave D.file_may_leave store.new) }
-    ensures kept { OnOk result (CrashesKeep (kinds_in store.new) D.may_leave store.new.journal.device store.new.repo.patches) }
-    ensures kept_err { IfErr result (λ e. ¬ IsOfStore e → CrashesKeep (kinds_in store.new) D.may_leave store.new.journal.device store.new.repo.patches) }
+    ensures kept { OnOk result (CrashesKeep (kinds_in store.new) D.may_leave store.new.journal.device (kept_in store.new)) }
+    ensures kept_err { IfErr result (λ e. ¬ IsOfStore e → CrashesKeep (kinds_in store.new) D.may_leave store.new.journal.device (kept_in store.new)) }
 
     // A crash at any moment of the call leaves a file that keeps the repository from before it, or the one that the text leaves.
     ensures any_moment { LeavesOnly D.moment D.left_since store.old.journal.device store.new.journal.device
-        (KeepsAnswered (kinds_in store.old) store.old.repo.patches text.now policy rule) }
+        (KeepsAnswered (kinds_in store.old) (kept_in store.old) text.now policy rule) }
     ensures either { OnOk result (LeavesOnly D.moment D.left_since store.old.journal.device store.new.journal.device
-        (KeepsEither (kinds_in store.old) store.old.repo.patches store.new.repo.patches)) }
+        (KeepsEither (kinds_in store.old) (kept_in store.old) (kept_in store.new))) }
 
     // It doesn't give up by itself.
     ensures failed { IfErr result (λ e. e ≡ OfStore (WritingDevice Failed) → D.faults store.old.journal.device < D.faults store.new.journal.device) }
@@ -141,8 +151,9 @@ fn settle<D: Device>(alloc: Global, store: &mut Store<D>, may: bool) -> Result<b
     requires { IsStored D.seen D.may_leave D.file_may_leave store.old }
     ensures same { store.new.repo ≡ store.old.repo }
     ensures kinds { kinds_in store.new ≡ kinds_in store.old }
+    ensures base { store.new.base ≡ store.old.base }
     ensures stored { OnOk result (IsStored D.seen D.may_leave D.file_may_leave store.new) }
-    ensures any_moment { LeavesOnly D.moment D.left_since store.old.journal.device store.new.journal.device (λ file. KeepsRepo (kinds_in store.old) file store.old.repo.patches) }
+    ensures any_moment { LeavesOnly D.moment D.left_since store.old.journal.device store.new.journal.device (λ file. KeepsRepo (kinds_in store.old) file (kept_in store.old)) }
     ensures failed { IfErr result (λ e. IsFailure e → D.faults store.old.journal.device < D.faults store.new.journal.device) }
     ensures kind { IfErr result (λ e. (¬ IsBeside e) × ((e ≢ TooLong) × (e ≢ Full))) }
 {
@@ -186,14 +197,15 @@ pub fn deliver<D: Device, S: Source, O: Observer, W: Write>(
 
     // Each crash from now on leaves a file that keeps what was taken.
     ensures kinds { kinds_in store.new ≡ kinds_in store.old }
+    ensures base { store.new.base ≡ store.old.base }
     ensures stored { OnOk result (IsStored D.seen D.may_leave D.file_may_leave store.new) }
     ensures stored_err { IfErr result (λ e. ¬ EndsStore e → IsStored D.seen D.may_leave D.file_may_leave store.new) }
-    ensures kept { OnOk result (CrashesKeep (kinds_in store.new) D.may_leave store.new.journal.device store.new.repo.patches) }
-    ensures kept_err { IfErr result (λ e. ¬ EndsStore e → CrashesKeep (kinds_in store.new) D.may_leave store.new.journal.device store.new.repo.patches) }
+    ensures kept { OnOk result (CrashesKeep (kinds_in store.new) D.may_leave store.new.journal.device (kept_in store.new)) }
+    ensures kept_err { IfErr result (λ e. ¬ EndsStore e → CrashesKeep (kinds_in store.new) D.may_leave store.new.journal.device (kept_in store.new)) }
 
     // A crash at any moment of the call leaves a file that keeps the repository after the first of the texts, some or all.
     ensures any_moment { LeavesOnly D.moment D.left_since store.old.journal.device store.new.journal.device
-        (KeepsSome (λ texts. S.gave source.old texts source.new) (kinds_in store.old) store.old.repo.patches policy rule) }
+        (KeepsSome (λ texts. S.gave source.old texts source.new) (kinds_in store.old) (kept_in store.old) policy rule) }
 {
     let mut all_accepted = true;
     let mut may_settle = true;

@@ -84,9 +84,15 @@ pub fn explain_hash_fault<R: Runtime + AllocGlobal>(rt: &R, colour: Colour, faul
     }
 }
 
-/// Says what to do where a bundle doesn't rest on the tag with which a repository begins.
-pub fn explain_before_base<R: Runtime + AllocGlobal>(rt: &R, colour: Colour, repo: &Repo<Global>) {
-    if let Some(tag) = base_tag(repo) {
+/// Says what to do where a bundle doesn't rest on the tag with which a repository begins whose first patches, so many of them, are its
+/// base.
+pub fn explain_before_base<R: Runtime + AllocGlobal>(
+    rt: &R,
+    colour: Colour,
+    repo: &Repo<Global>,
+    base: usize,
+) {
+    if let Some(tag) = base_tag(repo, base) {
         say(
             rt,
             colour,

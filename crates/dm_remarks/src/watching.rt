@@ -16,6 +16,8 @@ pub struct Watcher<'w, 'a> {
     colour: Colour,
     explains: bool,
     reading: Reading,
+    // How many patches are the base of the mirror.
+    base: usize,
     // The files that are still to come; none where bundles have no files.
     names: &'w [&'a str],
     has_several: bool,
@@ -23,12 +25,14 @@ pub struct Watcher<'w, 'a> {
 }
 
 impl<'w, 'a> Watcher<'w, 'a> {
-    /// One for bundles in the files of these names, or in none.
+    /// One for bundles in the files of these names, or in none, that are taken into a mirror whose first patches, so many of them, are
+    /// its base.
     pub fn new(
         rt: HostRuntime,
         colour: Colour,
         explains: bool,
         reading: Reading,
+        base: usize,
         names: &'w [&'a str],
     ) -> Watcher<'w, 'a> {
         Watcher {
@@ -36,6 +40,7 @@ impl<'w, 'a> Watcher<'w, 'a> {
             colour,
             explains,
             reading,
+            base,
             names,
             has_several: names.len() > 1,
             skips: None,
@@ -83,7 +88,7 @@ impl Observer for Watcher<'_, '_> {
                 explain_hash(&self.rt, self.colour, reading, text, false);
             }
             Answer::Hash(fault) => explain_hash_fault(&self.rt, self.colour, fault),
-            Answer::BeforeBase => explain_before_base(&self.rt, self.colour, repo),
+            Answer::BeforeBase => { explain_before_base(&self.rt, self.colour, repo, self.base) },
         }
     }
 }

@@ -5,3 +5,4 @@ pub mod StoredLemmas
 pub mod OnceLemmas
 pub mod WholeLemmas
 pub mod KeptKinds
+pub mod KeptBase

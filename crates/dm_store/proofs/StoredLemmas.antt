@@ -14,7 +14,7 @@ use Rattle.dm_journal.specs.Ready.{HasTexts, StandsWithOrWithout}
 use Rattle.dm_journal.specs.declared.journal.Journal.{Journal}
 use Rattle.dm_store.specs.Entries.{entry_of}
 use Rattle.dm_store.specs.Kinds.{kinds_of}
-use Rattle.dm_store.specs.Keeping.{HasTaken, TakesText, TakesEntry, FoldTo, KeepsRepo, KeepsWithOrWithout, CrashesKeep}
+use Rattle.dm_store.specs.Keeping.{HasTaken, TakesText, TakesEntry, FoldTo, KeepsRepo, KeepsWithOrWithout, Kept, CrashesKeep, empty, kept_as}
 
 -- a text that isn't taken leaves the repository as it was
 pub untaken_keeps : (kinds : Kinds) (repo : List Patch) (text : List ℕ) (policy : Policy) (v : Verdict) (after : List Patch) → (HasTaken v → ⊥) → TakesIn kinds repo text policy v after → after ≡ repo
@@ -31,29 +31,30 @@ untaken_keeps kinds repo text policy (Refused why) after n (malformed f at e sam
 untaken_keeps kinds repo text policy (Refused why) after n (no_memory e same) = same
 
 -- the entry of a text that was taken
-pub entry_taken : (kinds : Kinds) (repo : List Patch) (entry : List ℕ) (policy : Policy) (text : List ℕ) (v : Verdict) (after : List Patch) → entry ≡ entry_of policy text → HasTaken v → TakesIn kinds repo text policy v after → TakesText kinds repo entry after
-entry_taken kinds repo entry policy text v after is taken takes = record { policy = policy; text = text; verdict = v; is = is; taken = taken; takes = takes }
+pub entry_taken : (kinds : Kinds) (base : ℕ) (repo : List Patch) (entry : List ℕ) (policy : Policy) (text : List ℕ) (v : Verdict) (after : List Patch) → entry ≡ entry_of policy text → HasTaken v → TakesIn kinds repo text policy v after →
+    TakesText kinds (kept_as base repo) entry (kept_as base after)
+entry_taken kinds base repo entry policy text v after is taken takes = record { policy = policy; text = text; verdict = v; is = is; taken = taken; takes = takes; same = refl }
 
-pub fold_push : (kinds : Kinds) (entries : List (List ℕ)) (entry : List ℕ) (repo after : List Patch) → FoldTo kinds entries repo → TakesText kinds repo entry after → FoldTo kinds (entries ++ entry ∷ []) after
-fold_push kinds entries entry repo after folds t = FoldsTo-push (TakesEntry kinds) [] entries repo entry after folds (inl t)
+pub fold_push : (kinds : Kinds) (entries : List (List ℕ)) (entry : List ℕ) (kept after : Kept) → FoldTo kinds entries kept → TakesText kinds kept entry after → FoldTo kinds (entries ++ entry ∷ []) after
+fold_push kinds entries entry kept after folds t = FoldsTo-push (TakesEntry kinds) empty entries kept entry after folds (inl t)
 
 -- a file of a format that stands for entries keeps what they fold to
-pub kept_by : (format : Format) (entries : List (List ℕ)) (repo : List Patch) (c : List ℕ) → StandsIn format c entries → FoldTo (kinds_of format) entries repo → KeepsRepo (kinds_of format) c repo
-kept_by format entries repo c stands folds = record { format = format; entries = entries; is_for = refl; stands = stands; folds = folds }
+pub kept_by : (format : Format) (entries : List (List ℕ)) (kept : Kept) (c : List ℕ) → StandsIn format c entries → FoldTo (kinds_of format) entries kept → KeepsRepo (kinds_of format) c kept
+kept_by format entries kept c stands folds = record { format = format; entries = entries; is_for = refl; stands = stands; folds = folds }
 
 -- with the entry or without it, the file keeps the repository after it or the one before it
-pub leaves : (format : Format) (entries : List (List ℕ)) (entry : List ℕ) (repo after : List Patch) (text : List ℕ) (policy : Policy) → entry ≡ entry_of policy text → FoldTo (kinds_of format) entries repo → TakesText (kinds_of format) repo entry after →
-    (c : List ℕ) → StandsWithOrWithout format entries entry c → KeepsWithOrWithout (kinds_of format) repo text policy c
-leaves format entries entry repo after text policy is folds t c (inl s) = inl (kept_by format entries repo c s folds)
-leaves format entries entry repo after text policy is folds t c (inr s) =
-    inr (after, subst (λ (e : List ℕ). TakesText (kinds_of format) repo e after) is t, kept_by format (entries ++ entry ∷ []) after c s (fold_push (kinds_of format) entries entry repo after folds t))
+pub leaves : (format : Format) (entries : List (List ℕ)) (entry : List ℕ) (kept after : Kept) (text : List ℕ) (policy : Policy) → entry ≡ entry_of policy text → FoldTo (kinds_of format) entries kept → TakesText (kinds_of format) kept entry after →
+    (c : List ℕ) → StandsWithOrWithout format entries entry c → KeepsWithOrWithout (kinds_of format) kept text policy c
+leaves format entries entry kept after text policy is folds t c (inl s) = inl (kept_by format entries kept c s folds)
+leaves format entries entry kept after text policy is folds t c (inr s) =
+    inr (after, subst (λ (e : List ℕ). TakesText (kinds_of format) kept e after) is t, kept_by format (entries ++ entry ∷ []) after c s (fold_push (kinds_of format) entries entry kept after folds t))
 
-module _ {D : Type 0} (seen : D → List ℕ) (may_leave file_may_leave : D → List ℕ → Type 0) (journal : Journal D) (entries : List (List ℕ)) (repo : List Patch) (has : HasTexts seen may_leave file_may_leave journal entries) (folds : FoldTo (kinds_of journal.end.format) entries repo) where
-  pub keeps : KeepsRepo (kinds_of journal.end.format) (seen journal.device) repo
-  keeps = kept_by journal.end.format entries repo (seen journal.device) (has.rest, has.begins) folds
+module _ {D : Type 0} (seen : D → List ℕ) (may_leave file_may_leave : D → List ℕ → Type 0) (journal : Journal D) (entries : List (List ℕ)) (kept : Kept) (has : HasTexts seen may_leave file_may_leave journal entries) (folds : FoldTo (kinds_of journal.end.format) entries kept) where
+  pub keeps : KeepsRepo (kinds_of journal.end.format) (seen journal.device) kept
+  keeps = kept_by journal.end.format entries kept (seen journal.device) (has.rest, has.begins) folds
 
-  pub crashes_keep : CrashesKeep (kinds_of journal.end.format) may_leave journal.device repo
-  crashes_keep c may = subst (λ (f : List ℕ). KeepsRepo (kinds_of journal.end.format) f repo) (sym (has.durable.only c may)) keeps
+  pub crashes_keep : CrashesKeep (kinds_of journal.end.format) may_leave journal.device kept
+  crashes_keep c may = subst (λ (f : List ℕ). KeepsRepo (kinds_of journal.end.format) f kept) (sym (has.durable.only c may)) keeps
 
 module _ {D : Type 0} (moment : D → ℕ) (left_since : D → ℕ → List ℕ → Type 0) where
   -- no call of the device

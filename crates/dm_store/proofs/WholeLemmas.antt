@@ -1,5 +1,5 @@
 -- A whole repository is taken again, into an empty one.
-use Rattle.std.proofs.Common.{arith, ◌≡◌, ◌≢◌, ◌⊎◌, ◌≤◌, ◌+◌, ℕ, zero, suc, List, [], ◌∷◌, ◌++◌, length, take, slice_get, Some, inl, inr, refl, sym, ap, subst, ◌∙◌, append_assoc, append-nil}
+use Rattle.std.proofs.Common.{arith, ◌≡◌, ◌≢◌, ◌⊎◌, ◌≤◌, ◌<◌, ◌^◌, ◌+◌, ℕ, zero, suc, List, [], ◌∷◌, ◌++◌, length, take, slice_get, Some, inl, inr, refl, sym, ap, ap₂, subst, ◌∙◌, append_assoc, append-nil}
 use Rattle.std.specs.List.{Contains}
 use Rattle.std.proofs.lemmas.List.{length-map}
 use Rattle.dm_info.specs.PatchInfo.{PatchInfo}
@@ -30,14 +30,15 @@ use Rattle.dm_scratch.specs.Taking.{TakesWithin, bundle}
 use Rattle.dm_journal.specs.Format.{renewed}
 use Rattle.dm_journal.specs.Journal.{StandsIn}
 use Rattle.dm_journal.specs.declared.format.Format.{Format}
-use Rattle.dm_journal.specs.declared.format.Format.TheVariants.{First, Second, Third}
+use Rattle.dm_journal.specs.declared.format.Format.TheVariants.{First, Second, Third, Fields}
+use Rattle.dm_journal.specs.declared.format.KindsField.TheVariants as field
 use Rattle.dm_journal.specs.Ready.{StandsForEither}
-use Rattle.dm_store.specs.Entries.{whole_entry, all_of}
+use Rattle.dm_store.specs.Entries.{counted_entry, all_of}
 use Rattle.dm_store.specs.Kinds.{kinds_of, format_of}
-use Rattle.dm_store.specs.Keeping.{HasTaken, TakesEntry, FoldTo, KeepsRepo, KeepsEither, IsOrKeeps, entry_of_all, entries_of_all}
-use Rattle.dm_store.specs.Opening.{IsBadEntry}
+use Rattle.dm_begin.specs.Bases.{MayHaveBase}
+use Rattle.dm_store.specs.Keeping.{HasTaken, TakesAll, TakesEntry, FoldTo, KeepsRepo, KeepsEither, Kept, IsOrKeeps, empty, entry_of_all, entries_of_all, kept_as}
 use Rattle.dm_store.specs.Laws.{RepositoryIsTakenAgain}
-use Rattle.dm_store.proofs.FoldLemmas.{whole_not_taken}
+use Rattle.dm_store.proofs.FoldLemmas.{all_not_taken}
 
 -- where nothing is held nothing is in front
 none_in_front : (n : ℕ) (xs : List Patch) → Split PlacedCommutes (IsHeld []) (placed_from n xs) [] (placed_from n xs)
@@ -87,31 +88,47 @@ taken_again kinds repo text r some reads =
     bundle (all_of repo) reads (record { merged = repo; is_merge = merge_of_all repo r some reads.few.count; counted = refl; appended = refl })
 
 -- the entry of a text that stands for all patches leaves them
-pub entry_takes : (kinds : Kinds) (repo : List Patch) (text entry : List ℕ) → entry ≡ whole_entry text → IsRepo repo → repo ≢ [] → BundleTextIn kinds text (all_of repo) → IsWithinSizeOf own text → AreFewWithin own repo → TakesEntry kinds [] entry repo
-entry_takes kinds repo text entry is r some stands small few = inr (record {
+pub entry_takes : (kinds : Kinds) (base : ℕ) (repo : List Patch) (text entry : List ℕ) → entry ≡ counted_entry base text → base < 2 ^ 64 → MayHaveBase repo base → IsRepo repo → repo ≢ [] → BundleTextIn kinds text (all_of repo) → IsWithinSizeOf own text → AreFewWithin own repo →
+    TakesEntry kinds empty entry (kept_as base repo)
+entry_takes kinds base repo text entry is least may r some stands small few = inr (inr (record {
   text = text;
-  verdict = Taken (length repo);
   is = is;
-  empty = refl;
-  taken = tt;
-  takes = taken_again kinds repo text r some (record { stands = stands; small = small; few = few_for_own kinds repo few });
-})
+  small = least;
+  takes = record {
+    empty = refl;
+    verdict = Taken (length repo);
+    taken = tt;
+    takes = taken_again kinds repo text r some (record { stands = stands; small = small; few = few_for_own kinds repo few });
+  };
+  may = may;
+}))
 
 -- a text that was taken where nothing was before it
-pub whole_taken : (kinds : Kinds) (repo : List Patch) (text : List ℕ) (v : Verdict) (after : List Patch) → repo ≡ [] → HasTaken v → TakesWithin (with_kinds own kinds) repo text Refuse v after → TakesEntry kinds repo (whole_entry text) after
-whole_taken kinds repo text v after e taken t =
-    inr (record { text = text; verdict = v; is = refl; empty = e; taken = taken; takes = subst (λ (r : List Patch). TakesWithin (with_kinds own kinds) r text Refuse v after) e t })
+pub all_taken : (kinds : Kinds) (base : ℕ) (repo : List Patch) (text : List ℕ) (v : Verdict) (after : List Patch) → repo ≡ [] → HasTaken v → TakesWithin (with_kinds own kinds) repo text Refuse v after → TakesAll kinds (kept_as base repo) text after
+all_taken kinds base repo text v after e taken t =
+    record { empty = e; verdict = v; taken = taken; takes = subst (λ (r : List Patch). TakesWithin (with_kinds own kinds) r text Refuse v after) e t }
 
-pub whole_untaken : (kinds : Kinds) (repo : List Patch) (text : List ℕ) (v : Verdict) (after : List Patch) → repo ≡ [] → v ≢ Refused NoMemory → (HasTaken v → ⊥) → TakesWithin (with_kinds own kinds) repo text Refuse v after → IsBadEntry kinds repo (whole_entry text)
-whole_untaken kinds repo text v after e m n t = whole_not_taken kinds repo text v after m n (subst (λ (r : List Patch). TakesWithin (with_kinds own kinds) r text Refuse v after) e t)
+pub all_untaken : (kinds : Kinds) (base : ℕ) (repo : List Patch) (text : List ℕ) (v : Verdict) (after patches : List Patch) → repo ≡ [] → v ≢ Refused NoMemory → (HasTaken v → ⊥) → TakesWithin (with_kinds own kinds) repo text Refuse v after → TakesAll kinds (kept_as base repo) text patches → ⊥
+all_untaken kinds base repo text v after patches e m n t = all_not_taken kinds (kept_as base repo) text v after patches m n (subst (λ (r : List Patch). TakesWithin (with_kinds own kinds) r text Refuse v after) e t)
 
-pub fold_whole : (kinds : Kinds) (entry : List ℕ) (repo : List Patch) → TakesEntry kinds [] entry repo → FoldTo kinds (entry ∷ []) repo
-fold_whole kinds entry repo t = (repo, t, refl)
+pub fold_whole : (kinds : Kinds) (entry : List ℕ) (kept : Kept) → TakesEntry kinds empty entry kept → FoldTo kinds (entry ∷ []) kept
+fold_whole kinds entry kept t = (kept, t, refl)
 
 -- a repository that has patches has one entry
-pub one_of_all : (repo : List Patch) → repo ≢ [] → entries_of_all repo ≡ entry_of_all repo ∷ []
-one_of_all [] some = absurd (some refl)
-one_of_all (x ∷ xs) some = refl
+pub one_of_all : (base : ℕ) (repo : List Patch) → repo ≢ [] → entries_of_all (kept_as base repo) ≡ entry_of_all (kept_as base repo) ∷ []
+one_of_all base [] some = absurd (some refl)
+one_of_all base (x ∷ xs) some = refl
+
+-- and one that has none has none
+pub none_of_all : (base : ℕ) (repo : List Patch) → repo ≡ [] → [] ≡ entries_of_all (kept_as base repo)
+none_of_all base repo e = rw e refl
+
+pub nothing_kept : (base : ℕ) (repo : List Patch) → base ≡ 0 → repo ≡ [] → empty ≡ kept_as base repo
+nothing_kept base repo z e = ap₂ kept_as (sym z) (sym e)
+
+-- patches without a base, where there are none
+pub no_base_of_none : (base : ℕ) (repo : List Patch) → (base ≡ 0 → ⊥) → MayHaveBase repo base → repo ≢ []
+no_base_of_none base repo some may e = let l = may.within in let n : length repo ≡ 0 = ap length e in some (omega (arith, l, n))
 
 -- a file that takes the place of another is for the same kinds
 pub same_kinds : (format : Format) → kinds_of (renewed format) ≡ kinds_of format
@@ -119,6 +136,8 @@ unfolding renewed
 same_kinds First = refl
 same_kinds Second = refl
 same_kinds Third = refl
+same_kinds (Fields field.Six) = refl
+same_kinds (Fields field.All) = refl
 
 -- a new file is for the kinds that it is made for
 pub made_for : (kinds : Kinds) → kinds_of (format_of kinds) ≡ kinds
@@ -126,22 +145,22 @@ made_for Six = refl
 made_for All = refl
 
 -- whichever entries the file has, it keeps the one repository or the other
-pub either_keeps : (format mine : Format) (old new : List (List ℕ)) (repo other : List Patch) → kinds_of format ≡ kinds_of mine → FoldTo (kinds_of mine) old repo → FoldTo (kinds_of mine) new other →
-    (c : List ℕ) → StandsForEither format old (renewed mine) new c → KeepsEither (kinds_of mine) repo other c
-either_keeps format mine old new repo other same f g c (inl s) = inl (record { format = format; entries = old; is_for = same; stands = s; folds = f })
-either_keeps format mine old new repo other same f g c (inr s) = inr (record { format = renewed mine; entries = new; is_for = same_kinds mine; stands = s; folds = g })
+pub either_keeps : (format mine : Format) (old new : List (List ℕ)) (kept other : Kept) → kinds_of format ≡ kinds_of mine → FoldTo (kinds_of mine) old kept → FoldTo (kinds_of mine) new other →
+    (c : List ℕ) → StandsForEither format old (renewed mine) new c → KeepsEither (kinds_of mine) kept other c
+either_keeps format mine old new kept other same f g c (inl s) = inl (record { format = format; entries = old; is_for = same; stands = s; folds = f })
+either_keeps format mine old new kept other same f g c (inr s) = inr (record { format = renewed mine; entries = new; is_for = same_kinds mine; stands = s; folds = g })
 
 -- where they are the same, it keeps this one
-pub same_keeps : (kinds : Kinds) (repo : List Patch) (c : List ℕ) → KeepsEither kinds repo repo c → KeepsRepo kinds c repo
-same_keeps kinds repo c (inl k) = k
-same_keeps kinds repo c (inr k) = k
+pub same_keeps : (kinds : Kinds) (kept : Kept) (c : List ℕ) → KeepsEither kinds kept kept c → KeepsRepo kinds c kept
+same_keeps kinds kept c (inl k) = k
+same_keeps kinds kept c (inr k) = k
 
 -- the old file, or one with the entry of the repository alone
-pub old_or_whole : (kinds : Kinds) (old entry : List ℕ) (repo : List Patch) → TakesEntry kinds [] entry repo → (c : List ℕ) → (c ≡ old) ⊎ StandsIn (format_of kinds) c (entry ∷ []) → IsOrKeeps kinds old repo c
-old_or_whole kinds old entry repo t c (inl same) = inl same
-old_or_whole kinds old entry repo t c (inr s) = inr (record { format = format_of kinds; entries = entry ∷ []; is_for = made_for kinds; stands = s; folds = fold_whole kinds entry repo t })
+pub old_or_whole : (kinds : Kinds) (old entry : List ℕ) (kept : Kept) → TakesEntry kinds empty entry kept → (c : List ℕ) → (c ≡ old) ⊎ StandsIn (format_of kinds) c (entry ∷ []) → IsOrKeeps kinds old kept c
+old_or_whole kinds old entry kept t c (inl same) = inl same
+old_or_whole kinds old entry kept t c (inr s) = inr (record { format = format_of kinds; entries = entry ∷ []; is_for = made_for kinds; stands = s; folds = fold_whole kinds entry kept t })
 
 -- the old file, or one without entries
-pub old_or_none : (kinds : Kinds) (old : List ℕ) (repo : List Patch) → repo ≡ [] → (c : List ℕ) → (c ≡ old) ⊎ StandsIn (format_of kinds) c [] → IsOrKeeps kinds old repo c
-old_or_none kinds old repo empty c (inl same) = inl same
-old_or_none kinds old repo empty c (inr s) = inr (record { format = format_of kinds; entries = []; is_for = made_for kinds; stands = s; folds = sym empty })
+pub old_or_none : (kinds : Kinds) (old : List ℕ) (kept : Kept) → empty ≡ kept → (c : List ℕ) → (c ≡ old) ⊎ StandsIn (format_of kinds) c [] → IsOrKeeps kinds old kept c
+old_or_none kinds old kept is c (inl same) = inl same
+old_or_none kinds old kept is c (inr s) = inr (record { format = format_of kinds; entries = []; is_for = made_for kinds; stands = s; folds = is })

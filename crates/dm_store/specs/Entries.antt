@@ -1,5 +1,6 @@
 -- The entries of a store's journal.
-use Rattle.std.specs.Prelude.{ℕ, List, [], ◌∷◌}
+use Rattle.std.specs.Prelude.{ℕ, List, [], ◌∷◌, ◌++◌}
+use Rattle.std.specs.Int.{w64, to_le_bytes}
 use Rattle.dm_named.specs.Patches.{Patch}
 use Rattle.dm_bundle.specs.Bundles.{Contents}
 use Rattle.dm_repo.specs.declared.policy.Policy.{Policy}
@@ -14,9 +15,13 @@ policy_byte Skip = 1
 abbrev pub entry_of : Policy → List ℕ → List ℕ
 entry_of policy text = policy_byte policy ∷ text
 
--- the entry of a whole repository: another byte, and a text
+-- the entry of a whole repository whose base its form tells, as older files have it: another byte, and a text
 abbrev pub whole_entry : List ℕ → List ℕ
 whole_entry text = 2 ∷ text
+
+-- the entry of a whole repository with so many patches in its base: another byte, the number in 8 bytes, and a text
+abbrev pub counted_entry : ℕ → List ℕ → List ℕ
+counted_entry base text = 3 ∷ (to_le_bytes w64 base ++ text)
 
 -- the bundle of all patches of a repository, with an empty context
 abbrev pub all_of : List Patch → Contents

@@ -8,7 +8,7 @@ use Rattle.dm_repo.specs.declared.policy.Policy.TheVariants.{Refuse}
 use Rattle.dm_scratch.specs.declared.verdict.Verdict.{Verdict}
 use Rattle.dm_scratch.specs.Taking.{TakesBundle, IsAccepted}
 use Rattle.dm_journal.specs.Device.{Within}
-use Rattle.dm_store.specs.Keeping.{KeepsRepo}
+use Rattle.dm_store.specs.Keeping.{KeepsRepo, Kept}
 
 -- the text stands for a bundle, of primitives of these kinds, that what stays takes whole, and has then patches of just the names that
 -- the repository has
@@ -22,6 +22,6 @@ pub record GivesBack (kinds : Kinds) (repo stays : List Patch) (text : List ℕ)
   pub names : SameMembers (infos_of repo) (infos_of after)
 
 -- the file keeps the repository; or it keeps what stays, and whatever a crash leaves of the other file gives back what is gone
-abbrev pub LosesNothing : Kinds → List Patch → List Patch → (List ℕ → Type 0) → List ℕ → Type 0
-LosesNothing kinds repo stays other_may_leave file =
-    KeepsRepo kinds file repo ⊎ (KeepsRepo kinds file stays × Within other_may_leave (GivesBack kinds repo stays))
+abbrev pub LosesNothing : Kinds → Kept → Kept → (List ℕ → Type 0) → List ℕ → Type 0
+LosesNothing kinds kept stays other_may_leave file =
+    KeepsRepo kinds file kept ⊎ (KeepsRepo kinds file stays × Within other_may_leave (GivesBack kinds kept.patches stays.patches))

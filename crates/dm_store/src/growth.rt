@@ -1,7 +1,7 @@
 //! How much longer a journal has become since its last checkpoint.
 ghost use Rattle.std.specs.Prelude.{◌↔◌, ◌⊎◌, ◌<◌, ◌^◌, IsTrue};
 
-use crate::entries::strip_whole;
+use crate::entries::{strip_counted, strip_whole};
 use dm_journal::Texts;
 
 // For fewer bytes than these no checkpoint is worth its while, unless they are of more entries than those.
@@ -50,7 +50,7 @@ pub fn growth_of(entries: &Texts) -> Growth {
     let mut growth = Growth::of_whole(0);
     for i in 0..entries.len() {
         let entry = entries.text(i);
-        if strip_whole(entry).is_some() {
+        if strip_whole(entry).is_some() || strip_counted(entry).is_some() {
             growth.whole = entry.len();
         } else {
             growth.add(entry.len());

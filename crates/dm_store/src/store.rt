@@ -8,10 +8,11 @@ ghost use Rattle.dm_journal.specs.Device.{IsDurable, LeavesOnly};
 ghost use Rattle.dm_journal.specs.Faults.{HasFault};
 ghost use Rattle.dm_journal.specs.Hidden.{TellsHidden};
 ghost use Rattle.dm_bundle.specs.Patches.{AreAllOf};
+ghost use Rattle.dm_begin.specs.Bases.{MayHaveBase};
 ghost use Rattle.dm_journal.specs.Ready.{HasTexts, IsUntouched, IsBeside, IsFailure};
 ghost use Rattle.dm_scratch.specs.Taking.{TakesIn};
 ghost use Rattle.dm_store.specs.declared.fault.StoreError.TheVariants.{Journal as OpeningJournal, BadEntry};
-ghost use Rattle.dm_store.specs.Keeping.{HasTaken, KeepsRepo, KeepsWithOrWithout, KeepsEither, IsOrKeeps, CrashesKeep, IsStored, FitsOneEntry, entry_of_all, entries_of_all};
+ghost use Rattle.dm_store.specs.Keeping.{HasTaken, KeepsRepo, KeepsWithOrWithout, KeepsEither, IsOrKeeps, CrashesKeep, IsStored, FitsOneEntry, entry_of_all, entries_of_all, kept_as, kept_in};
 ghost use Rattle.dm_store.specs.Kinds.{kinds_of, kinds_in, format_of};
 ghost use Rattle.dm_store.specs.Opening.{HasBadEntry};
 
@@ -20,7 +21,7 @@ use crate::fault::StoreError;
 use crate::growth::{Growth, growth_of};
 use crate::keeping::{begin, put_repo};
 use crate::kinds::kinds_of;
-use crate::opening::{has_taken, take_again};
+use crate::opening::{TakenAgain, has_taken, take_again};
 use bumpalo::Bump;
 use dm_journal::{Device, Journal, WriteError};
 use dm_named::Kinds;
@@ -33,6 +34,8 @@ use std::alloc::Global;
 pub struct Store<D: Device> {
     journal: Journal<D>,
     repo: Repo<Global>,
+    // How many of its patches are its base.
+    base: usize,
     // For what is tried.
     arena: Bump,
     growth: Growth,
@@ -44,6 +47,7 @@ impl<D: Device + Drop> Drop for Store<D> {
         let Store {
             journal: _,
             repo: _,
+            base: _,
             arena: _,
             growth: _,
         } = self;
@@ -56,7 +60,7 @@ impl<D: Device> Store<D> {
     pub fn open(alloc: Global, device: D) -> Result<Store<D>, (StoreError, D)>
         // After a restart, what is read is what is on the disk.
         requires { IsDurable D.seen D.may_leave D.file_may_leave device }
-        ensures keeps { IfOk result (λ store. KeepsRepo (kinds_in store) (D.seen device) store.repo.patches) }
+        ensures keeps { IfOk result (λ store. KeepsRepo (kinds_in store) (D.seen device) (kept_in store)) }
         ensures stored { IfOk result (IsStored D.seen D.may_leave D.file_may_leave) }
         ensures untouched { IfOk result (λ store. IsUntouched D.seen D.may_leave D.file_may_leave D.moment D.left_since device store.journal.device) }
         ensures untouched_err { IfErr result (λ e. IsUntouched D.seen D.may_leave D.file_may_leave D.moment D.left_since device e.1) }
@@ -70,9 +74,10 @@ impl<D: Device> Store<D> {
             Err((error, device)) => return Err((StoreError::Journal(error), device)),
         };
         match take_again(alloc, kinds_of(journal.format()), &entries) {
-            Ok((repo, arena)) => Ok(Store {
+            Ok(TakenAgain { repo, base, arena }) => Ok(Store {
                 journal,
                 repo,
+                base,
                 arena,
                 growth: growth_of(&entries),
             }),
@@ -81,34 +86,38 @@ impl<D: Device> Store<D> {
     }
 
     /// Makes a store of a repository of a file that has no bytes, or isn't there: no store is lost. It reads these kinds of
-    /// primitives then, and so does each that opens the file. At an error the device comes back; [`WriteError::TooLong`] is told
-    /// of a repository that is past [`dm_named::Limits::OWN`], or has primitives of other kinds.
+    /// primitives then, and so does each that opens the file. The first patches, so many of them, are its base for good. At an
+    /// error the device comes back; [`WriteError::TooLong`] is told of a repository that is past [`dm_named::Limits::OWN`], has
+    /// primitives of other kinds, or may not have that base.
     pub fn create(
         alloc: Global,
         device: D,
         repo: Repo<Global>,
+        base: usize,
         kinds: Kinds,
     ) -> Result<Store<D>, (WriteError, D)>
         requires durable { IsDurable D.seen D.may_leave D.file_may_leave device }
         requires empty { D.seen device ≡ [] }
         ensures same { IfOk result (λ store. store.repo ≡ repo) }
+        ensures base { IfOk result (λ store. store.base ≡ base) }
         ensures stored { IfOk result (IsStored D.seen D.may_leave D.file_may_leave) }
         ensures kinds { IfOk result (λ store. kinds_in store ≡ kinds) }
         ensures format { IfOk result (λ store. store.journal.end.format ≡ format_of kinds) }
 
         // A crash at any moment of the call leaves the file from before it, or one that keeps the repository.
-        ensures any_moment { IfOk result (λ store. LeavesOnly D.moment D.left_since device store.journal.device (IsOrKeeps kinds (D.seen device) repo.patches)) }
-        ensures any_moment_err { IfErr result (λ e. LeavesOnly D.moment D.left_since device e.1 (IsOrKeeps kinds (D.seen device) repo.patches)) }
+        ensures any_moment { IfOk result (λ store. LeavesOnly D.moment D.left_since device store.journal.device (IsOrKeeps kinds (D.seen device) (kept_as base repo.patches))) }
+        ensures any_moment_err { IfErr result (λ e. LeavesOnly D.moment D.left_since device e.1 (IsOrKeeps kinds (D.seen device) (kept_as base repo.patches))) }
 
         // It doesn't give up by itself.
         ensures failed { IfErr result (λ e. IsFailure e.0 → D.faults device < D.faults e.1) }
-        ensures too_long { IfErr result (λ e. e.0 ≡ TooLong → AreAllOf kinds repo.patches → (repo.patches ≢ []) × (FitsOneEntry repo.patches → ⊥)) }
+        ensures too_long { IfErr result (λ e. e.0 ≡ TooLong → AreAllOf kinds repo.patches → MayHaveBase repo.patches base → (repo.patches ≢ []) × (FitsOneEntry repo.patches → ⊥)) }
         ensures not_full { IfErr result (λ e. e.0 ≡ Full → ⊥) }
     {
-        match begin(alloc, device, kinds, &repo) {
+        match begin(alloc, device, kinds, base, &repo) {
             Ok((journal, growth)) => Ok(Store {
                 journal,
                 repo,
+                base,
                 arena: Bump::new(alloc),
                 growth,
             }),
@@ -123,6 +132,7 @@ impl<D: Device> Store<D> {
         let Store {
             journal,
             repo: _,
+            base: _,
             arena: _,
             growth: _,
         } = self;
@@ -137,6 +147,7 @@ impl<D: Device> Store<D> {
         let Store {
             journal,
             repo,
+            base: _,
             arena: _,
             growth: _,
         } = self;
@@ -148,6 +159,14 @@ impl<D: Device> Store<D> {
         ensures { result.now ≡ self.now.repo }
     {
         &self.repo
+    }
+
+    /// How many patches, from the first, are the base with which the repository begins: 0 if it doesn't begin at a tag. Nothing
+    /// that is taken changes it, nor does a checkpoint.
+    pub fn base(&self) -> usize
+        ensures { result ≡ self.now.base }
+    {
+        self.base
     }
 
     /// The kinds of primitives that it reads. Its file tells them, and no call changes them.
@@ -178,13 +197,14 @@ impl<D: Device> Store<D> {
 
         ensures takes { IfOk result (λ verdict. TakesIn (kinds_in self.old) self.old.repo.patches text.now policy verdict self.new.repo.patches) }
         ensures stored { OnOk result (IsStored D.seen D.may_leave D.file_may_leave self.new) }
-        ensures kept { OnOk result (CrashesKeep (kinds_in self.new) D.may_leave self.new.journal.device self.new.repo.patches) }
+        ensures kept { OnOk result (CrashesKeep (kinds_in self.new) D.may_leave self.new.journal.device (kept_in self.new)) }
         ensures kinds { kinds_in self.new ≡ kinds_in self.old }
+        ensures base { self.new.base ≡ self.old.base }
         ensures unwritten { IfOk result (λ verdict. ¬ HasTaken verdict → self.new.journal ≡ self.old.journal) }
 
         // A crash at any moment of the call leaves a file that keeps the repository from before it, or the one that the text leaves.
         ensures any_moment { LeavesOnly D.moment D.left_since self.old.journal.device self.new.journal.device
-            (KeepsWithOrWithout (kinds_in self.old) self.old.repo.patches text.now policy) }
+            (KeepsWithOrWithout (kinds_in self.old) (kept_in self.old) text.now policy) }
 
         // It doesn't give up by itself.
         ensures failed { IsErrOf result (WritingDevice Failed) → D.faults self.old.journal.device < D.faults self.new.journal.device }
@@ -222,16 +242,17 @@ impl<D: Device> Store<D> {
 
         ensures same { self.new.repo ≡ self.old.repo }
         ensures kinds { kinds_in self.new ≡ kinds_in self.old }
+        ensures base { self.new.base ≡ self.old.base }
         ensures stored { OnOk result (IsStored D.seen D.may_leave D.file_may_leave self.new) }
-        ensures kept { OnOk result (CrashesKeep (kinds_in self.new) D.may_leave self.new.journal.device self.new.repo.patches) }
+        ensures kept { OnOk result (CrashesKeep (kinds_in self.new) D.may_leave self.new.journal.device (kept_in self.new)) }
         ensures fits { IfOk result (λ done. IsTrue done ↔ FitsOneEntry self.old.repo.patches) }
         ensures one_entry { IfOk result (λ done. IsTrue done
-            → HasTexts D.seen D.may_leave D.file_may_leave self.new.journal (entry_of_all self.old.repo.patches ∷ [])) }
+            → HasTexts D.seen D.may_leave D.file_may_leave self.new.journal (entry_of_all (kept_in self.old) ∷ [])) }
         ensures unwritten { IfOk result (λ done. ¬ IsTrue done → self.new.journal ≡ self.old.journal) }
 
         // A crash at any moment of the call leaves a file that keeps the same repository.
         ensures any_moment { LeavesOnly D.moment D.left_since self.old.journal.device self.new.journal.device
-            (λ file. KeepsRepo (kinds_in self.old) file self.old.repo.patches) }
+            (λ file. KeepsRepo (kinds_in self.old) file (kept_in self.old)) }
 
         ensures stored_beside { IfErr result (λ e. IsBeside e → IsStored D.seen D.may_leave D.file_may_leave self.new) }
 
@@ -243,35 +264,38 @@ impl<D: Device> Store<D> {
         if self.repo.is_empty() {
             return Ok(false);
         }
-        let Some(growth) = put_repo(alloc, &mut self.journal, &self.repo)? else {
+        let Some(growth) = put_repo(alloc, &mut self.journal, self.base, &self.repo)? else {
             return Ok(false);
         };
         self.growth = growth;
         Ok(true)
     }
 
-    /// Puts another repository in the place of this one: its entry, and nothing of this one, is what the journal has then.
+    /// Puts another repository in the place of this one: its entry, and nothing of this one, is what the journal has then. The base
+    /// stays as many patches.
     ///
     /// `false` where the other has patches, and they or their text are past [`dm_named::Limits::OWN`], or not of the store's
-    /// kinds: the store is as it was then. So it is after [`WriteError::Beside`], and can go on. After another error open the file again: it keeps the one or
+    /// kinds, or where it may not have the base: the store is as it was then. So it is after [`WriteError::Beside`], and can go on. After another error open the file again: it keeps the one or
     /// the other.
     pub fn replace(&mut self, alloc: Global, repo: Repo<Global>) -> Result<bool, WriteError>
         requires { IsStored D.seen D.may_leave D.file_may_leave self.old }
 
         ensures repo { IfOk result (λ done. IsTrue done → self.new.repo ≡ repo) }
         ensures kinds { kinds_in self.new ≡ kinds_in self.old }
+        ensures base { self.new.base ≡ self.old.base }
         ensures stored { OnOk result (IsStored D.seen D.may_leave D.file_may_leave self.new) }
-        ensures kept { OnOk result (CrashesKeep (kinds_in self.new) D.may_leave self.new.journal.device self.new.repo.patches) }
+        ensures kept { OnOk result (CrashesKeep (kinds_in self.new) D.may_leave self.new.journal.device (kept_in self.new)) }
         ensures of_kinds { IfOk result (λ done. IsTrue done → AreAllOf (kinds_in self.old) repo.patches) }
-        ensures fits { IfOk result (λ done. AreAllOf (kinds_in self.old) repo.patches
+        ensures may { IfOk result (λ done. IsTrue done → MayHaveBase repo.patches self.old.base) }
+        ensures fits { IfOk result (λ done. AreAllOf (kinds_in self.old) repo.patches → MayHaveBase repo.patches self.old.base
             → IsTrue done ↔ ((repo.patches ≡ []) ⊎ FitsOneEntry repo.patches)) }
         ensures entries { IfOk result (λ done. IsTrue done
-            → HasTexts D.seen D.may_leave D.file_may_leave self.new.journal (entries_of_all repo.patches)) }
+            → HasTexts D.seen D.may_leave D.file_may_leave self.new.journal (entries_of_all (kept_as self.old.base repo.patches))) }
         ensures unwritten { IfOk result (λ done. ¬ IsTrue done → self.new ≡ self.old) }
 
         // A crash at any moment of the call leaves a file that keeps the repository from before it, or the other one.
         ensures any_moment { LeavesOnly D.moment D.left_since self.old.journal.device self.new.journal.device
-            (KeepsEither (kinds_in self.old) self.old.repo.patches repo.patches) }
+            (KeepsEither (kinds_in self.old) (kept_in self.old) (kept_as self.old.base repo.patches)) }
 
         ensures same_err { IfErr result (λ _. self.new.repo ≡ self.old.repo) }
         ensures stored_beside { IfErr result (λ e. IsBeside e → IsStored D.seen D.may_leave D.file_may_leave self.new) }
@@ -281,7 +305,7 @@ impl<D: Device> Store<D> {
         ensures not_too_long { IsErrOf result TooLong → ⊥ }
         ensures not_full { IsErrOf result Full → ⊥ }
     {
-        let Some(growth) = put_repo(alloc, &mut self.journal, &repo)? else {
+        let Some(growth) = put_repo(alloc, &mut self.journal, self.base, &repo)? else {
             return Ok(false);
         };
         self.repo = repo;

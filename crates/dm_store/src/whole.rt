@@ -3,30 +3,35 @@ ghost use Rattle.std.specs.Prelude.{◌≡◌, [], IfOk, IfErr, IfSome, IfNone};
 ghost use Rattle.dm_bundle.specs.Patches.{AreAllOf};
 ghost use Rattle.dm_journal.specs.declared.device.DeviceError.TheVariants.{Memory};
 ghost use Rattle.dm_journal.specs.declared.fault.WriteError.TheVariants.{Beside};
-ghost use Rattle.dm_store.specs.Keeping.{TakesEntry, FitsOneEntry, entry_of_all};
+ghost use Rattle.dm_begin.specs.Bases.{MayHaveBase};
+ghost use Rattle.dm_store.specs.Keeping.{TakesEntry, FitsOneEntry, empty, entry_of_all, kept_as};
 
-use crate::entries::make_whole_entry;
+use crate::entries::make_counted_entry;
 use crate::kinds::are_of;
+use dm_begin::may_be_base;
 use dm_bundle::{are_within, push_bundle};
 use dm_journal::{DeviceError, WriteError};
 use dm_named::{Kinds, Limits};
 use dm_repo::Repo;
 use std::alloc::{AllocError, Global};
 
-// The entry that leaves this repository where it is taken first, if the repository is of these kinds and fits one.
+// The entry that leaves this repository and this base where it is taken first, if the repository is of these kinds, may have the base
+// and fits one.
 pub fn entry_of_repo(
     alloc: Global,
     kinds: Kinds,
+    base: usize,
     repo: &Repo<Global>,
 ) -> Result<Option<Vec<u8>>, WriteError>
-    ensures entry { IfOk result (λ found. IfSome found (λ entry. entry.items ≡ entry_of_all repo.now.patches)) }
+    ensures entry { IfOk result (λ found. IfSome found (λ entry. entry.items ≡ entry_of_all (kept_as base repo.now.patches))) }
     ensures of_kinds { IfOk result (λ found. IfSome found (λ _. AreAllOf kinds repo.now.patches)) }
     ensures fits { IfOk result (λ found. IfSome found (λ _. FitsOneEntry repo.now.patches)) }
-    ensures takes { IfOk result (λ found. IfSome found (λ entry. TakesEntry kinds [] entry.items repo.now.patches)) }
-    ensures none { IfOk result (λ found. IfNone found (AreAllOf kinds repo.now.patches → FitsOneEntry repo.now.patches → ⊥)) }
+    ensures may { IfOk result (λ found. IfSome found (λ _. MayHaveBase repo.now.patches base)) }
+    ensures takes { IfOk result (λ found. IfSome found (λ entry. TakesEntry kinds empty entry.items (kept_as base repo.now.patches))) }
+    ensures none { IfOk result (λ found. IfNone found (AreAllOf kinds repo.now.patches → MayHaveBase repo.now.patches base → FitsOneEntry repo.now.patches → ⊥)) }
     ensures err { IfErr result (λ e. e ≡ Beside Memory) }
 {
-    match write_whole(alloc, kinds, repo) {
+    match write_whole(alloc, kinds, base, repo) {
         Ok(found) => Ok(found),
         Err(_) => Err(WriteError::Beside(DeviceError::Memory)),
     }
@@ -35,13 +40,15 @@ pub fn entry_of_repo(
 fn write_whole(
     alloc: Global,
     kinds: Kinds,
+    base: usize,
     repo: &Repo<Global>,
 ) -> Result<Option<Vec<u8>>, AllocError>
-    ensures entry { IfOk result (λ found. IfSome found (λ entry. entry.items ≡ entry_of_all repo.now.patches)) }
+    ensures entry { IfOk result (λ found. IfSome found (λ entry. entry.items ≡ entry_of_all (kept_as base repo.now.patches))) }
     ensures of_kinds { IfOk result (λ found. IfSome found (λ _. AreAllOf kinds repo.now.patches)) }
     ensures fits { IfOk result (λ found. IfSome found (λ _. FitsOneEntry repo.now.patches)) }
-    ensures takes { IfOk result (λ found. IfSome found (λ entry. TakesEntry kinds [] entry.items repo.now.patches)) }
-    ensures none { IfOk result (λ found. IfNone found (AreAllOf kinds repo.now.patches → FitsOneEntry repo.now.patches → ⊥)) }
+    ensures may { IfOk result (λ found. IfSome found (λ _. MayHaveBase repo.now.patches base)) }
+    ensures takes { IfOk result (λ found. IfSome found (λ entry. TakesEntry kinds empty entry.items (kept_as base repo.now.patches))) }
+    ensures none { IfOk result (λ found. IfNone found (AreAllOf kinds repo.now.patches → MayHaveBase repo.now.patches base → FitsOneEntry repo.now.patches → ⊥)) }
 {
     if repo.len() == 0 {
         return Ok(None);
@@ -53,11 +60,14 @@ fn write_whole(
     if !are_of(kinds, patches) {
         return Ok(None);
     }
+    if !may_be_base(patches, base) {
+        return Ok(None);
+    }
     let mut text = Vec::new(alloc);
     push_bundle(patches, &[], &mut text)?;
     if text.len() > Limits::OWN.bytes {
         return Ok(None);
     }
-    let entry = make_whole_entry(alloc, &text)?;
+    let entry = make_counted_entry(alloc, base, &text)?;
     Ok(Some(entry))
 }

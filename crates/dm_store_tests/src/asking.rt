@@ -1,8 +1,7 @@
 //! What the tests ask of files.
-ghost use Rattle.std.specs.Prelude.{◌≡◌, ◌⊎◌, List, length, IfSome, IsTrue};
+ghost use Rattle.std.specs.Prelude.{◌≡◌, ◌⊎◌, length, IfSome, IsTrue};
 ghost use Rattle.dm_named.specs.declared.limits.Kinds.{Kinds};
-ghost use Rattle.dm_named.specs.Patches.{Patch};
-ghost use Rattle.dm_store.specs.Keeping.{KeepsRepo};
+ghost use Rattle.dm_store.specs.Keeping.{KeepsRepo, Kept};
 ghost use Rattle.dm_store.specs.Opening.{HasBadEntry};
 
 use dm_journal::Memory;
@@ -11,7 +10,7 @@ use std::alloc::Global;
 
 /// How many patches the repository has that a file of these bytes keeps. `None` if it keeps none, or if memory ran out.
 pub fn patches_in(alloc: Global, bytes: &[u8]) -> Option<usize>
-    ensures { IfSome result (λ count. (kinds : Kinds) × (repo : List Patch) × KeepsRepo kinds bytes.now repo × (count ≡ length repo)) }
+    ensures { IfSome result (λ count. (kinds : Kinds) × (kept : Kept) × KeepsRepo kinds bytes.now kept × (count ≡ length kept.patches)) }
 {
     let Ok(bytes) = bytes.to_vec(alloc) else {
         return None;
@@ -24,7 +23,7 @@ pub fn patches_in(alloc: Global, bytes: &[u8]) -> Option<usize>
 
 /// Whether the repository that a file of these bytes keeps has so many patches, or so many.
 pub fn keeps_either(alloc: Global, bytes: &[u8], one: usize, other: usize) -> bool
-    ensures { IsTrue result → (kinds : Kinds) × (repo : List Patch) × KeepsRepo kinds bytes.now repo × ((length repo ≡ one) ⊎ (length repo ≡ other)) }
+    ensures { IsTrue result → (kinds : Kinds) × (kept : Kept) × KeepsRepo kinds bytes.now kept × ((length kept.patches ≡ one) ⊎ (length kept.patches ≡ other)) }
 {
     match patches_in(alloc, bytes) {
         Some(count) => count == one || count == other,

@@ -28,7 +28,7 @@ const BINARY: &[u8] =
 /// Whether a new store takes two patches once, skips one of two others, and has three when it is opened again.
 fn lasts(alloc: Global) -> bool {
     let file = Memory::new(alloc, Vec::new(alloc));
-    let Ok(mut store) = Store::create(alloc, file, Repo::new(alloc), Kinds::Six) else {
+    let Ok(mut store) = Store::create(alloc, file, Repo::new(alloc), 0, Kinds::Six) else {
         return false;
     };
     let Ok(Verdict::Taken(2)) = store.take(alloc, TWO, Policy::Refuse) else {
@@ -52,7 +52,7 @@ fn a_store_is_opened_again(rt: HostRuntime) {
 /// Whether a store of two texts has the same patches when it is opened again after a checkpoint, and takes another text then.
 fn lasts_in_one_entry(alloc: Global) -> bool {
     let file = Memory::new(alloc, Vec::new(alloc));
-    let Ok(mut store) = Store::create(alloc, file, Repo::new(alloc), Kinds::Six) else {
+    let Ok(mut store) = Store::create(alloc, file, Repo::new(alloc), 0, Kinds::Six) else {
         return false;
     };
     let Ok(false) = store.checkpoint(alloc) else {
@@ -90,7 +90,7 @@ fn a_checkpoint_is_opened_again(rt: HostRuntime) {
 /// Whether a store of two patches is replaced by the first alone, takes the second again, and is replaced by no patch.
 fn is_replaced(alloc: Global) -> bool {
     let file = Memory::new(alloc, Vec::new(alloc));
-    let Ok(mut store) = Store::create(alloc, file, Repo::new(alloc), Kinds::Six) else {
+    let Ok(mut store) = Store::create(alloc, file, Repo::new(alloc), 0, Kinds::Six) else {
         return false;
     };
     let Ok(Verdict::Taken(2)) = store.take(alloc, TWO, Policy::Refuse) else {
@@ -124,7 +124,7 @@ fn a_store_is_replaced(rt: HostRuntime) {
 /// kinds then.
 fn keeps_a_binary(alloc: Global, kinds: Kinds) -> bool {
     let file = Memory::new(alloc, Vec::new(alloc));
-    let Ok(mut store) = Store::create(alloc, file, Repo::new(alloc), kinds) else {
+    let Ok(mut store) = Store::create(alloc, file, Repo::new(alloc), 0, kinds) else {
         return false;
     };
     let Ok(Verdict::Taken(1)) = store.take(alloc, BINARY, Policy::Refuse) else {
@@ -157,10 +157,14 @@ fn is_bad(alloc: Global, text: &[u8]) -> bool {
 #[test]
 fn another_journal_is_not_opened(rt: HostRuntime) {
     assert!(rt; is_bad(rt.alloc(), b""), "no policy");
-    assert!(rt; is_bad(rt.alloc(), b"\x03"), "a policy that isn't one");
+    assert!(rt; is_bad(rt.alloc(), b"\x04"), "a policy that isn't one");
     assert!(rt; is_bad(rt.alloc(), b"\x00"), "no bundle");
     assert!(rt;
         is_bad(rt.alloc(), b"\x02"),
         "no bundle of a whole repository"
+    );
+    assert!(rt;
+        is_bad(rt.alloc(), b"\x03\x00\x00\x00"),
+        "a base whose number is cut"
     );
 }

@@ -1,25 +1,30 @@
-use Rattle.std.proofs.Common.{◌≡◌, true, false, refl, sym, subst, ◌∙◌, arith}
+use Rattle.std.proofs.Common.{◌≡◌, true, false, length, min, take, List, refl, sym, subst, ◌∙◌, arith}
+use Rattle.std.proofs.lemmas.List.{take_min}
+use Rattle.std.proofs.Math.Nat.{min-le_right}
+use Rattle.dm_named.specs.Patches.{Patch}
+use Rattle.dm_bundle.specs.Patches.{infos_of}
 use Rattle.dm_bundle.specs.Bundles.{Contents, HasNoDoubles}
+use Rattle.dm_begin.specs.Bases.{CutsNames}
 use Rattle.dm_begin.proofs.CutLemmas.{cut_names, keep_all, keep_names, no_doubles_left}
 use Rattle.dm_begin.proofs.cutting.cut_base.Goals as goal
 
 pub returns-then-base-eq0 : goal.returns-then-base-eq0
-returns-then-base-eq0 g c = record {
-  base = c.base_len-base.result;
-  begins = rw c.patches.ensures.value at c.base_len-base.ensures;
-  patches = refl;
-  context = keep_all c.args.repo.now.patches c.base_len-base.result c.args.bundle.context c.if-base-eq0.true;
-}
+returns-then-base-eq0 g c =
+    let repo = c.args.repo.now.patches in
+    record {
+      patches = refl;
+      context = subst (λ (l : List Patch). CutsNames (infos_of l) c.args.bundle.context c.args.bundle.context) (take_min c.args.base repo)
+          (keep_all repo (min c.args.base (length repo)) c.args.bundle.context (rw (c.min-base.ensures, c.len.ensures.value) at c.if-base-eq0.true));
+    }
 
 pub returns-then-not-is_among : goal.returns-then-not-is_among
 returns-then-not-is_among g c =
-    let begins = rw c.patches.ensures.value at c.base_len-base.ensures in
+    let repo = c.args.repo.now.patches in
     record {
-      base = c.base_len-base.result;
-      begins = begins;
       patches = refl;
-      context = keep_names c.args.repo.now.patches c.base_len-base.result c.patch.result.now c.args.bundle.context (omega (arith, c.if-base-eq0.false)) begins.within c.patch.ensures
-          (λ h. let f : false ≡ true = sym c.if-not-is_among.true ∙ c.is_among.ensures.1 (rw (c.context.ensures, c.info-tag.ensures) h) in absurd (cc));
+      context = subst (λ (l : List Patch). CutsNames (infos_of l) c.args.bundle.context c.args.bundle.context) (take_min c.args.base repo)
+          (keep_names repo (min c.args.base (length repo)) c.patch.result.now c.args.bundle.context (let n = rw (c.min-base.ensures, c.len.ensures.value) at c.if-base-eq0.false in omega (arith, n)) (min-le_right c.args.base (length repo)) (rw (c.min-base.ensures, c.len.ensures.value) at c.patch.ensures)
+          (λ h. let f : false ≡ true = sym c.if-not-is_among.true ∙ c.is_among.ensures.1 (rw (c.context.ensures, c.info-tag.ensures) h) in absurd (cc)));
     }
 
 pub without_doubles-requires : goal.without_doubles-requires
@@ -29,12 +34,11 @@ without_doubles-requires g c =
 
 pub returns : goal.returns
 returns g c =
-    let begins = rw c.patches.ensures.value at c.base_len-base.ensures in
+    let repo = c.args.repo.now.patches in
     let tag = rw (c.context.ensures, c.info-tag.ensures) at (c.is_among.ensures.0 c.if-not-is_among.false) in
     rw c.without_doubles.ensures (record {
-      base = c.base_len-base.result;
-      begins = begins;
       patches = c.into_new_patches-patches.ensures;
-      context = cut_names c.args.repo.now.patches c.base_len-base.result c.patch.result.now c.args.bundle.context c.in_ok-left.left.items (omega (arith, c.if-base-eq0.false)) begins.within c.patch.ensures tag
-          (rw c.context-2.ensures at c.in_ok-left.ensures);
+      context = subst (λ (l : List Patch). CutsNames (infos_of l) c.args.bundle.context c.in_ok-left.left.items) (take_min c.args.base repo)
+          (cut_names repo (min c.args.base (length repo)) c.patch.result.now c.args.bundle.context c.in_ok-left.left.items (let n = rw (c.min-base.ensures, c.len.ensures.value) at c.if-base-eq0.false in omega (arith, n)) (min-le_right c.args.base (length repo)) (rw (c.min-base.ensures, c.len.ensures.value) at c.patch.ensures) tag
+          (rw (c.context-2.ensures, c.min-base.ensures, c.len.ensures.value) at c.in_ok-left.ensures));
     })

@@ -1,7 +1,7 @@
-use Rattle.std.proofs.Common.{◌≡◌, ◌≢◌, ◌∙◌, [], true, false, sym}
+use Rattle.std.proofs.Common.{◌≡◌, ◌≢◌, ◌∙◌, [], true, false, length, sym}
 use Rattle.dm_begin.specs.Making.{rows}
 use Rattle.dm_commands.specs.Beginning.{EndsInTagName}
-use Rattle.dm_begin.proofs.FormLemmas.{beginning_is_base}
+use Rattle.dm_begin.proofs.FormLemmas.{beginning_is_base, form_may}
 use Rattle.dm_commands.proofs.beginning.repo_at_tag.Goals as goal
 
 pub returns-clause-begun : goal.returns-clause-begun
@@ -13,5 +13,5 @@ returns-clause-begun c =
       tag = tag;
       some = some;
       is_beginning = c.in_ok-patches.ensures.beginning;
-      begins = (beginning_is_base names c.args.tree c.in_ok-patches.patches.items tag.0 c.in_ok-patches.ensures.beginning tag.1 tag.2 some).0;
+      may = form_may c.in_ok-patches.patches.items (length names) (beginning_is_base names c.args.tree c.in_ok-patches.patches.items tag.0 c.in_ok-patches.ensures.beginning tag.1 tag.2 some);
     })

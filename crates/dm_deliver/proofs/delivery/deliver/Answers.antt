@@ -1,5 +1,6 @@
-use Rattle.std.proofs.Common.{◌≡◌, [], ◌∷◌, ◌⊎◌, ◌↔◌, List, ℕ, Bool, IsTrue, true, false, inl, inr, subst, sym, append-nil}
+use Rattle.std.proofs.Common.{◌≡◌, ◌∙◌, refl, [], ◌∷◌, ◌⊎◌, ◌↔◌, List, ℕ, Bool, IsTrue, true, false, inl, inr, subst, sym, append-nil}
 use Rattle.std.proofs.lemmas.Result.{err_from_is_err_and}
+use Rattle.dm_store.specs.Keeping.{kept_in}
 use Rattle.dm_store.proofs.StoredLemmas.{crashes_keep}
 use Rattle.dm_deliver.specs.Answering.{IsAcceptedAnswer}
 use Rattle.dm_deliver.specs.Outputs.{output}
@@ -12,10 +13,11 @@ loop-text-init g c =
     let d = g.D.Device in
     let store = c.args.store.now in
     let source = c.args.source.now in
-    let kept = crashes_keep d.seen d.may_leave d.file_may_leave store.journal c.requires.entries store.repo.patches c.requires.has c.requires.folds in (
+    let kept = crashes_keep d.seen d.may_leave d.file_may_leave store.journal c.requires.entries (kept_in store) c.requires.has c.requires.folds in (
       begun d.moment d.left_since d.may_leave g.met.D.Device.only_now (λ (texts : List (List ℕ)). g.S.Source.gave source texts source) c.args.policy c.args.rule store (output g.W.Write.contents c.args.writer.now) (g.met.S.Source.gave_none source) kept,
       c.requires,
       kept,
+      refl,
     )
 
 pub returns-in_err-may_settle-in-Ok-Some-clause-delivers_until :
@@ -29,7 +31,7 @@ returns-in_err-may_settle-in-Ok-Some-clause-delivers_until g c =
     let q = err_from_is_err_and c.from_residual.result c.from_residual.ensures.1 in
     rw (q.1, q.2) (checkpoint_failed d.moment d.left_since d.faults (λ (texts : List (List ℕ)). g.S.Source.gave source texts c.loop-text.source) (λ (texts : List (List ℕ)). g.S.Source.gave source texts c.next_text.new.self)
     c.args.policy c.args.rule c.in_err-may_settle-in-Ok-Some.field-0.0 c.args.store.now c.loop-text.store c.settle.new.store (output g.W.Write.contents c.args.writer.now) (output g.W.Write.contents c.loop-text.writer)
-    so_far.0 text came c.settle.ensures.same c.settle.ensures.kinds c.settle.ensures.any_moment c.in_err-may_settle-in-Ok-Some.ensures.failed c.in_err-may_settle-in-Ok-Some.ensures.kind.1)
+    so_far.0 text came c.settle.ensures.same c.settle.ensures.base c.settle.ensures.kinds c.settle.ensures.any_moment c.in_err-may_settle-in-Ok-Some.ensures.failed c.in_err-may_settle-in-Ok-Some.ensures.kind.1)
 
 pub returns-in_err-may_settle-in-Ok-Some-clause-stored_err :
     goal.returns-in_err-may_settle-in-Ok-Some-clause-stored_err
@@ -61,7 +63,7 @@ returns-in_err-reply-in-Ok-Some-clause-delivers_until g c =
     let source = c.args.source.now in
     let so_far = c.loop-text.invariant.0 in
     let ready = settled d.moment d.left_since (λ (texts : List (List ℕ)). g.S.Source.gave source texts c.loop-text.source) c.args.policy c.args.rule c.args.store.now c.loop-text.store c.settle.new.store (output g.W.Write.contents c.args.writer.now) (output g.W.Write.contents c.loop-text.writer)
-    c.loop-text.all_accepted so_far c.settle.ensures.same c.settle.ensures.kinds c.settle.ensures.any_moment in
+    c.loop-text.all_accepted so_far c.settle.ensures.same c.settle.ensures.base c.settle.ensures.kinds c.settle.ensures.any_moment in
     let failed = c.in_err-reply-in-Ok-Some.ensures in
     let text = c.as_slice-bytes.result.now in
     let gives = subst (λ (t : List ℕ). g.S.Source.gave c.loop-text.source (t ∷ []) c.next_text.new.self) (sym c.as_slice-bytes.ensures.value) (rw c.in-Ok-Some.field-0-is at c.in-Ok-Some.ensures.some) in
@@ -91,7 +93,7 @@ returns-in_err-reply-in-Ok-Some-clause-any_moment g c =
     let source = c.args.source.now in
     let so_far = c.loop-text.invariant.0 in
     let ready = settled d.moment d.left_since (λ (texts : List (List ℕ)). g.S.Source.gave source texts c.loop-text.source) c.args.policy c.args.rule c.args.store.now c.loop-text.store c.settle.new.store (output g.W.Write.contents c.args.writer.now) (output g.W.Write.contents c.loop-text.writer)
-    c.loop-text.all_accepted so_far c.settle.ensures.same c.settle.ensures.kinds c.settle.ensures.any_moment in
+    c.loop-text.all_accepted so_far c.settle.ensures.same c.settle.ensures.base c.settle.ensures.kinds c.settle.ensures.any_moment in
     let text = c.as_slice-bytes.result.now in
     let gives = subst (λ (t : List ℕ). g.S.Source.gave c.loop-text.source (t ∷ []) c.next_text.new.self) (sym c.as_slice-bytes.ensures.value) (rw c.in-Ok-Some.field-0-is at c.in-Ok-Some.ensures.some) in
     let came = g.met.S.Source.gave_more source c.loop-text.source c.next_text.new.self ready.0.texts (text ∷ []) ready.0.came gives in
@@ -104,7 +106,7 @@ loop-text-preserved g c =
     let source = c.args.source.now in
     let so_far = c.loop-text.invariant.0 in
     let ready = settled d.moment d.left_since (λ (texts : List (List ℕ)). g.S.Source.gave source texts c.loop-text.source) c.args.policy c.args.rule c.args.store.now c.loop-text.store c.settle.new.store (output g.W.Write.contents c.args.writer.now) (output g.W.Write.contents c.loop-text.writer)
-    c.loop-text.all_accepted so_far c.settle.ensures.same c.settle.ensures.kinds c.settle.ensures.any_moment in
+    c.loop-text.all_accepted so_far c.settle.ensures.same c.settle.ensures.base c.settle.ensures.kinds c.settle.ensures.any_moment in
     let answered = c.in_ok-reply-in-Ok-Some.ensures in
     let text = c.as_slice-bytes.result.now in
     let gives = subst (λ (t : List ℕ). g.S.Source.gave c.loop-text.source (t ∷ []) c.next_text.new.self) (sym c.as_slice-bytes.ensures.value) (rw c.in-Ok-Some.field-0-is at c.in-Ok-Some.ensures.some) in
@@ -120,6 +122,7 @@ loop-text-preserved g c =
           c.loop-text.all_accepted c.if-all_accepted.all_accepted ready text v came c.answer.ensures.kinds answered.answers answered.line answered.either both,
       answered.stored,
       answered.kept,
+      c.answer.ensures.base ∙ c.settle.ensures.base ∙ c.loop-text.invariant.3,
     )
 
 pub returns-in-Ok-None-clause-delivers : goal.returns-in-Ok-None-clause-delivers
@@ -165,3 +168,15 @@ returns-in-Err-clause-any_moment g c =
     (no_more d.moment d.left_since (λ (texts : List (List ℕ)). g.S.Source.gave source texts c.loop-text.source) (λ (texts : List (List ℕ)). g.S.Source.gave source texts c.next_text.new.self)
     c.args.policy c.args.rule c.args.store.now c.loop-text.store (output g.W.Write.contents c.args.writer.now) (output g.W.Write.contents c.loop-text.writer) c.loop-text.all_accepted so_far
     (subst (λ (l : List (List ℕ)). g.S.Source.gave source l c.next_text.new.self) (append-nil so_far.0.texts) came)).0
+
+pub returns-in_err-may_settle-in-Ok-Some-clause-base : goal.returns-in_err-may_settle-in-Ok-Some-clause-base
+returns-in_err-may_settle-in-Ok-Some-clause-base g c = c.settle.ensures.base ∙ c.loop-text.invariant.3
+
+pub returns-in_err-reply-in-Ok-Some-clause-base : goal.returns-in_err-reply-in-Ok-Some-clause-base
+returns-in_err-reply-in-Ok-Some-clause-base g c = c.answer.ensures.base ∙ c.settle.ensures.base ∙ c.loop-text.invariant.3
+
+pub returns-in-Ok-None-clause-base : goal.returns-in-Ok-None-clause-base
+returns-in-Ok-None-clause-base g c = c.loop-text.invariant.3
+
+pub returns-in-Err-clause-base : goal.returns-in-Err-clause-base
+returns-in-Err-clause-base g c = c.loop-text.invariant.3

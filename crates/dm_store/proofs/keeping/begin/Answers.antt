@@ -1,24 +1,30 @@
 use Rattle.std.proofs.Common.{List, ℕ, [], refl, sym, subst}
-use Rattle.dm_store.specs.Keeping.{TakesEntry}
+use Rattle.dm_store.specs.Keeping.{TakesEntry, empty, kept_as}
 use Rattle.dm_store.proofs.StoredLemmas.{weakened}
-use Rattle.dm_store.proofs.WholeLemmas.{old_or_whole, old_or_none}
+use Rattle.dm_store.proofs.WholeLemmas.{nothing_kept, old_or_whole, old_or_none}
 use Rattle.dm_store.proofs.keeping.begin.Goals as goal
+use Rattle.dm_store.proofs.keeping.begin.Goals.{in-Ok, in-Err}
 
-pub returns-in-Ok-clause-any_moment : goal.returns-in-Ok-clause-any_moment
-returns-in-Ok-clause-any_moment g c =
+pub returns-then-base-eq0-clause-any_moment : goal.returns-then-base-eq0-clause-any_moment
+returns-then-base-eq0-clause-any_moment g c =
     let d = g.D.Device in
-    weakened d.moment d.left_since _ _ _ _ (old_or_none c.args.kinds (d.seen c.args.device) c.args.repo.now.patches (c.if-is_empty.ensures.0 refl)) (rw c.format_of-format.ensures at c.in-Ok.ensures.any_moment)
+    let kept = kept_as c.args.base c.args.repo.now.patches in
+    let none = nothing_kept c.args.base c.args.repo.now.patches c.if-base-eq0.true (c.if-is_empty.ensures.0 refl) in
+    elim c.match-create.branch [
+      | in-Ok w ↦ rw w.result-is (weakened d.moment d.left_since _ _ _ _ (old_or_none c.args.kinds (d.seen c.args.device) kept none) (rw c.format_of-format.ensures at w.in-Ok.ensures.any_moment))
+      | in-Err w ↦ rw w.result-is tt
+    ]
 
 pub returns-in-Ok-create-clause-any_moment : goal.returns-in-Ok-create-clause-any_moment
 returns-in-Ok-create-clause-any_moment g c =
     let d = g.D.Device in
-    let repo = c.args.repo.now.patches in
-    let takes = subst (λ (e : List ℕ). TakesEntry c.args.kinds [] e repo) (sym c.as_slice.ensures.value) (rw c.in-Ok-Some.field-0-is at c.in-Ok-Some.ensures.takes) in
-    weakened d.moment d.left_since _ _ _ _ (old_or_whole c.args.kinds (d.seen c.args.device) c.as_slice.result.now repo takes) (rw c.format_of-format.ensures at c.in-Ok-create.ensures.any_moment)
+    let kept = kept_as c.args.base c.args.repo.now.patches in
+    let takes = subst (λ (e : List ℕ). TakesEntry c.args.kinds empty e kept) (sym c.as_slice.ensures.value) (rw c.in-Ok-Some.field-0-is at c.in-Ok-Some.ensures.takes) in
+    weakened d.moment d.left_since _ _ _ _ (old_or_whole c.args.kinds (d.seen c.args.device) c.as_slice.result.now kept takes) (rw c.format_of-format.ensures at c.in-Ok-create.ensures.any_moment)
 
 pub returns-clause-any_moment_err : goal.returns-clause-any_moment_err
 returns-clause-any_moment_err g c =
     let d = g.D.Device in
-    let repo = c.args.repo.now.patches in
-    let takes = subst (λ (e : List ℕ). TakesEntry c.args.kinds [] e repo) (sym c.as_slice.ensures.value) (rw c.in-Ok-Some.field-0-is at c.in-Ok-Some.ensures.takes) in
-    weakened d.moment d.left_since _ _ _ _ (old_or_whole c.args.kinds (d.seen c.args.device) c.as_slice.result.now repo takes) (rw c.format_of-format.ensures at c.in-Err-create.ensures.any_moment_err)
+    let kept = kept_as c.args.base c.args.repo.now.patches in
+    let takes = subst (λ (e : List ℕ). TakesEntry c.args.kinds empty e kept) (sym c.as_slice.ensures.value) (rw c.in-Ok-Some.field-0-is at c.in-Ok-Some.ensures.takes) in
+    weakened d.moment d.left_since _ _ _ _ (old_or_whole c.args.kinds (d.seen c.args.device) c.as_slice.result.now kept takes) (rw c.format_of-format.ensures at c.in-Err-create.ensures.any_moment_err)

@@ -3,16 +3,16 @@ use Rattle.std.proofs.lemmas.Result.{err_from_is_err_and}
 use Rattle.dm_tree.proofs.Fronts.{refuted}
 use Rattle.dm_journal.specs.Ready.{HasTexts}
 use Rattle.dm_store.specs.Kinds.{kinds_of}
-use Rattle.dm_store.specs.Keeping.{FoldTo}
+use Rattle.dm_store.specs.Keeping.{FoldTo, kept_as}
 use Rattle.dm_store.proofs.StoredLemmas.{weakened}
-use Rattle.dm_store.proofs.WholeLemmas.{fold_whole, one_of_all, either_keeps, same_kinds}
+use Rattle.dm_store.proofs.WholeLemmas.{fold_whole, nothing_kept, one_of_all, either_keeps, same_kinds}
 use Rattle.dm_store.proofs.keeping.put_repo.Goals as goal
 
 pub returns-in_err-replace-clause-any_moment : goal.returns-in_err-replace-clause-any_moment
 returns-in_err-replace-clause-any_moment g c =
     let d = g.D.Device in
     let own = c.args.journal.now.end.format in
-    λ old keeps. weakened d.moment d.left_since _ _ _ _ (either_keeps keeps.format own keeps.entries [] old c.args.repo.now.patches keeps.is_for keeps.folds (sym (c.if-is_empty.ensures.0 refl)))
+    λ old keeps. weakened d.moment d.left_since _ _ _ _ (either_keeps keeps.format own keeps.entries [] old (kept_as c.args.base c.args.repo.now.patches) keeps.is_for keeps.folds (nothing_kept c.args.base c.args.repo.now.patches c.if-base-eq0.true (c.if-is_empty.ensures.0 refl)))
     (c.replace.ensures.any_moment keeps.format keeps.entries keeps.stands)
 
 pub returns-in_err-replace-clause-untouched : goal.returns-in_err-replace-clause-untouched
@@ -20,24 +20,24 @@ returns-in_err-replace-clause-untouched g c =
     let q = err_from_is_err_and c.from_residual.result c.from_residual.ensures.1 in
     rw (q.1, q.2) c.in_err-replace.ensures.untouched
 
-pub returns-then-is_empty-clause-any_moment : goal.returns-then-is_empty-clause-any_moment
-returns-then-is_empty-clause-any_moment g c =
+pub returns-then-base-eq0-clause-any_moment : goal.returns-then-base-eq0-clause-any_moment
+returns-then-base-eq0-clause-any_moment g c =
     let d = g.D.Device in
     let own = c.args.journal.now.end.format in
-    λ old keeps. weakened d.moment d.left_since _ _ _ _ (either_keeps keeps.format own keeps.entries [] old c.args.repo.now.patches keeps.is_for keeps.folds (sym (c.if-is_empty.ensures.0 refl)))
+    λ old keeps. weakened d.moment d.left_since _ _ _ _ (either_keeps keeps.format own keeps.entries [] old (kept_as c.args.base c.args.repo.now.patches) keeps.is_for keeps.folds (nothing_kept c.args.base c.args.repo.now.patches c.if-base-eq0.true (c.if-is_empty.ensures.0 refl)))
     (c.replace.ensures.any_moment keeps.format keeps.entries keeps.stands)
 
-pub returns-then-is_empty-clause-kinds : goal.returns-then-is_empty-clause-kinds
-returns-then-is_empty-clause-kinds g c =
+pub returns-then-base-eq0-clause-kinds : goal.returns-then-base-eq0-clause-kinds
+returns-then-base-eq0-clause-kinds g c =
     ap kinds_of c.in_ok-replace.ensures.format ∙ same_kinds c.args.journal.now.end.format
 
 pub returns-in_err-replace-2-clause-any_moment : goal.returns-in_err-replace-2-clause-any_moment
 returns-in_err-replace-2-clause-any_moment g c =
     let d = g.D.Device in
-    let repo = c.args.repo.now.patches in
+    let kept = kept_as c.args.base c.args.repo.now.patches in
     let own = c.args.journal.now.end.format in
-    let folds = fold_whole (kinds_of own) c.as_slice.result.now repo (rw c.as_slice.ensures.value (rw c.in-Some.is at (rw (c.format.ensures) at (rw c.kinds_of-kinds.ensures at c.in_ok-entry.ensures.takes)))) in
-    λ old keeps. weakened d.moment d.left_since _ _ _ _ (either_keeps keeps.format own keeps.entries (c.as_slice.result.now ∷ []) old repo keeps.is_for keeps.folds folds)
+    let folds = fold_whole (kinds_of own) c.as_slice.result.now kept (rw c.as_slice.ensures.value (rw c.in-Some.is at (rw (c.format.ensures) at (rw c.kinds_of-kinds.ensures at c.in_ok-entry.ensures.takes)))) in
+    λ old keeps. weakened d.moment d.left_since _ _ _ _ (either_keeps keeps.format own keeps.entries (c.as_slice.result.now ∷ []) old kept keeps.is_for keeps.folds folds)
     (c.replace-2.ensures.any_moment keeps.format keeps.entries keeps.stands)
 
 pub returns-in_err-replace-2-clause-untouched : goal.returns-in_err-replace-2-clause-untouched
@@ -50,25 +50,25 @@ returns-clause-entries g c =
     let d = g.D.Device in
     let is = c.as_slice.ensures.value ∙ (rw c.in-Some.is at c.in_ok-entry.ensures.entry) in
     subst (λ (l : List (List ℕ)). HasTexts d.seen d.may_leave d.file_may_leave c.replace-2.new.self l)
-    (ap (λ (e : List ℕ). e ∷ []) is ∙ sym (one_of_all c.args.repo.now.patches (refuted c.if-is_empty.ensures)))
+    (ap (λ (e : List ℕ). e ∷ []) is ∙ sym (one_of_all c.args.base c.args.repo.now.patches (rw c.in-Some.is at c.in_ok-entry.ensures.fits).some))
     c.in_ok-replace-2.ensures.acknowledged
 
 pub returns-clause-folds : goal.returns-clause-folds
 returns-clause-folds g c =
-    let repo = c.args.repo.now.patches in
+    let kept = kept_as c.args.base c.args.repo.now.patches in
     let is = c.as_slice.ensures.value ∙ (rw c.in-Some.is at c.in_ok-entry.ensures.entry) in
     let own = c.args.journal.now.end.format in
-    subst (λ (l : List (List ℕ)). FoldTo (kinds_of own) l repo)
-    (ap (λ (e : List ℕ). e ∷ []) is ∙ sym (one_of_all repo (refuted c.if-is_empty.ensures)))
-    (fold_whole (kinds_of own) c.as_slice.result.now repo (rw c.as_slice.ensures.value (rw c.in-Some.is at (rw (c.format.ensures) at (rw c.kinds_of-kinds.ensures at c.in_ok-entry.ensures.takes)))))
+    subst (λ (l : List (List ℕ)). FoldTo (kinds_of own) l kept)
+    (ap (λ (e : List ℕ). e ∷ []) is ∙ sym (one_of_all c.args.base c.args.repo.now.patches (rw c.in-Some.is at c.in_ok-entry.ensures.fits).some))
+    (fold_whole (kinds_of own) c.as_slice.result.now kept (rw c.as_slice.ensures.value (rw c.in-Some.is at (rw (c.format.ensures) at (rw c.kinds_of-kinds.ensures at c.in_ok-entry.ensures.takes)))))
 
 pub returns-clause-any_moment : goal.returns-clause-any_moment
 returns-clause-any_moment g c =
     let d = g.D.Device in
-    let repo = c.args.repo.now.patches in
+    let kept = kept_as c.args.base c.args.repo.now.patches in
     let own = c.args.journal.now.end.format in
-    let folds = fold_whole (kinds_of own) c.as_slice.result.now repo (rw c.as_slice.ensures.value (rw c.in-Some.is at (rw (c.format.ensures) at (rw c.kinds_of-kinds.ensures at c.in_ok-entry.ensures.takes)))) in
-    λ old keeps. weakened d.moment d.left_since _ _ _ _ (either_keeps keeps.format own keeps.entries (c.as_slice.result.now ∷ []) old repo keeps.is_for keeps.folds folds)
+    let folds = fold_whole (kinds_of own) c.as_slice.result.now kept (rw c.as_slice.ensures.value (rw c.in-Some.is at (rw (c.format.ensures) at (rw c.kinds_of-kinds.ensures at c.in_ok-entry.ensures.takes)))) in
+    λ old keeps. weakened d.moment d.left_since _ _ _ _ (either_keeps keeps.format own keeps.entries (c.as_slice.result.now ∷ []) old kept keeps.is_for keeps.folds folds)
     (c.replace-2.ensures.any_moment keeps.format keeps.entries keeps.stands)
 
 pub returns-clause-kinds : goal.returns-clause-kinds

@@ -1,15 +1,19 @@
 use Rattle.std.proofs.Common.{inl, inr, ⊎_elim, refl}
-use Rattle.dm_tree.proofs.Fronts.{refuted}
-use Rattle.dm_store.proofs.WholeLemmas.{whole_taken, whole_untaken}
+use Rattle.std.proofs.lemmas.Result.{err_from_is_err_and}
+use Rattle.dm_store.specs.Keeping.{kept_as}
+use Rattle.dm_store.proofs.FoldLemmas.{whole_bad}
 use Rattle.dm_store.proofs.opening.take_whole.Goals as goal
 
-pub returns-then-has_taken-clause-ok : goal.returns-then-has_taken-clause-ok
-returns-then-has_taken-clause-ok c =
-    whole_taken c.args.kinds c.args.repo.now.patches c.args.text.now c.take_within-verdict.result c.take_within-verdict.new.repo.patches
-    (c.if-not-is_empty.ensures.0 refl) (c.if-has_taken.ensures.0 refl) (rw c.with_kinds-limits.ensures at c.take_within-verdict.ensures)
+pub returns-in_err-take_all-clause-err : goal.returns-in_err-take_all-clause-err
+returns-in_err-take_all-clause-err c =
+    let q = err_from_is_err_and c.from_residual.result c.from_residual.ensures.1 in
+    let kept = kept_as c.args.base c.args.repo.now.patches in
+    rw (q.1, q.2) (⊎_elim (λ e. inl e) (λ e. inr (e.0, whole_bad c.args.kinds kept c.args.text.now (e.1 c.args.base))) c.in_err-take_all.ensures.err)
 
-pub returns-clause-err : goal.returns-clause-err
-returns-clause-err c =
-    ⊎_elim (λ e. inl e.1)
-    (λ e. inr (e.1, whole_untaken c.args.kinds c.args.repo.now.patches c.args.text.now c.take_within-verdict.result c.take_within-verdict.new.repo.patches (c.if-not-is_empty.ensures.0 refl) e.0 (refuted c.if-has_taken.ensures) (rw c.with_kinds-limits.ensures at c.take_within-verdict.ensures)))
-    c.fault_of.ensures
+pub returns-clause-ok : goal.returns-clause-ok
+returns-clause-ok c = inr (inl (record {
+  text = c.args.text.now;
+  is = refl;
+  takes = c.in_ok-take_all.ensures.ok c.args.base;
+  begins = rw c.patches.ensures.value at c.base_len.ensures;
+}))

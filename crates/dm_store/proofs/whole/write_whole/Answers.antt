@@ -2,7 +2,7 @@ use Rattle.std.proofs.Common.{◌≡◌, arith, ◌∙◌, ℕ, List, length, ap
 use Rattle.dm_named.specs.Patches.{Patch}
 use Rattle.dm_bundle.specs.Canonical.{bundle_text}
 use Rattle.dm_repo.proofs.Members.{none_of}
-use Rattle.dm_store.specs.Entries.{whole_entry, all_of}
+use Rattle.dm_store.specs.Entries.{counted_entry, all_of}
 use Rattle.dm_store.proofs.WholeLemmas.{entry_takes}
 use Rattle.dm_store.proofs.whole.write_whole.Goals as goal
 
@@ -13,8 +13,10 @@ returns-clause-takes c =
     let is : text ≡ bundle_text (all_of repo) = rw (c.in_ok-push_bundle.ensures.text, c.new-text.ensures.items, c.patches-patches.ensures.value) refl in
     let stands = rw c.patches-patches.ensures.value at c.in_ok-push_bundle.ensures.stands in
     let of_kinds = rw c.patches-patches.ensures.value at c.if-not-are_of.ensures in
-    entry_takes c.args.kinds repo text c.in_ok-entry.entry.items
-    (c.in_ok-entry.ensures ∙ ap (λ (t : List ℕ). whole_entry t) c.deref.ensures.value)
+    entry_takes c.args.kinds c.args.base repo text c.in_ok-entry.entry.items
+    (c.in_ok-entry.ensures ∙ ap (λ (t : List ℕ). counted_entry c.args.base t) c.deref.ensures.value)
+    c.ranges.base.fits
+    ((rw c.patches-patches.ensures.value at c.if-not-may_be_base.ensures).0 refl)
     c.patches-patches.ensures.valid
     (λ e. absurd (omega (arith, c.if-len-eq0.false, c.len.ensures.value, ap (λ (l : List Patch). length l) e)))
     (rw is (stands (record { distinct = c.patches-patches.ensures.valid.distinct; apart = λ i h k. none_of k }) c.args.kinds of_kinds))
