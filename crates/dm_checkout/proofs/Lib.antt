@@ -1,6 +1,6 @@
 pub mod LineLemmas
 pub mod PlaceLemmas
-pub mod NameLemmas
+pub mod RepositoryLemmas
 pub mod RowLemmas
 pub mod MadeLemmas
 pub mod OrderLemmas

@@ -10,7 +10,7 @@ use Rattle.dm_tree.specs.declared.listing.Listed.{Listed}
 use Rattle.dm_checkout.specs.Places.{place_text}
 use Rattle.dm_checkout.specs.Contents.{IsContent}
 use Rattle.dm_checkout.specs.Made.{Made, Taken, MadeFile, MadePart, IsBegun, made_all, made_of, rows}
-use Rattle.dm_checkout.specs.Faults.{HasBegun, HasFault, IsAllowed, IsFolderFault, IsNamesFault, IsPartOf, IsUtf8Fault, IsWriteFault, made_content, made_item, unsafe_paths}
+use Rattle.dm_checkout.specs.Faults.{HasBegun, HasFault, IsAllowed, IsFolderFault, IsNamesFault, IsPartOf, IsUtf8Fault, IsWriteFault, made_content, made_item, refused_in}
 use Rattle.dm_checkout.specs.declared.item.Item.{Item}
 use Rattle.dm_checkout.specs.declared.item.Content.{Content}
 use Rattle.dm_checkout.specs.declared.item.Content.TheVariants as content
@@ -79,11 +79,11 @@ pub paths_listed : (A : Type 0) (rs : List (Path × Entry)) → map (λ (row : L
 paths_listed A [] = refl
 paths_listed A (r ∷ rs) = ap (λ ps. r.0 ∷ ps) (paths_listed A rs)
 
-pub allowed : (names : Names) (t : Tree) → (names ≡ Safe → unsafe_paths t ≡ []) → IsAllowed names t
+pub allowed : (names : Names) (t : Tree) → (names ≡ Safe → refused_in t ≡ []) → IsAllowed names t
 allowed Safe t h = h refl
 allowed All t h = tt
 
-pub names_fault : (names : Names) (folder : List ℕ) (t : Tree) (before : List Made) (e : CheckoutFault) → IsNamesFault names (unsafe_paths t) e → HasFault names folder t before before e
+pub names_fault : (names : Names) (folder : List ℕ) (t : Tree) (before : List Made) (e : CheckoutFault) → IsNamesFault names (refused_in t) e → HasFault names folder t before before e
 names_fault names folder t before (UnsafeNames places) h = (h.0, h.1, h.2, refl)
 names_fault names folder t before (NotUtf8 place) h = absurd h
 names_fault names folder t before (Folder error) h = absurd h

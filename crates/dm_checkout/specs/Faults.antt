@@ -1,11 +1,10 @@
 -- Why a tree was not written, and what was made then.
 use Rattle.std.specs.Prelude.{◌≡◌, ◌≢◌, ◌⊎◌, ℕ, List, [], ◌∷◌, ◌++◌, map, Option, Some, None}
-use Rattle.std.specs.List.{filter}
-use Rattle.dm_tree.specs.Paths.{Path}
 use Rattle.dm_tree.specs.Trees.{Tree}
-use Rattle.dm_checkout.specs.Places.{place_text}
-use Rattle.dm_checkout.specs.Names.{has_obeyed}
+use Rattle.dm_checkout.specs.Repositories.{refused}
 use Rattle.dm_checkout.specs.Made.{Made, MadeDir, MadeFile, MadePart, IsBegun, made_all, rows}
+use Rattle.dm_checkout.specs.declared.fault.Refused.{Refused}
+use Rattle.dm_checkout.specs.declared.fault.Why.{Why}
 use Rattle.dm_checkout.specs.declared.item.Item.{Item}
 use Rattle.dm_checkout.specs.declared.item.Content.{Content}
 use Rattle.dm_checkout.specs.declared.item.Content.TheVariants as content
@@ -14,13 +13,17 @@ use Rattle.dm_checkout.specs.declared.fault.CheckoutFault.TheVariants.{Folder, N
 use Rattle.dm_checkout.specs.declared.names.Names.{Names}
 use Rattle.dm_checkout.specs.declared.names.Names.TheVariants.{Safe, All}
 
--- the paths of a tree that have a name which other programs obey, in their order
-abbrev pub unsafe_paths : Tree → List Path
-unsafe_paths t = filter has_obeyed (map (λ row. row.0) (rows t))
+-- what of a tree isn't written by default, in the order of its paths
+abbrev pub refused_in : Tree → List (List ℕ × Why)
+refused_in t = refused (map (λ row. row.0) (rows t))
+
+-- what the code tells as refused
+abbrev pub told : List Refused → List (List ℕ × Why)
+told list = map (λ one. (one.place.bytes.items, one.why)) list
 
 -- the names are as they were asked for: any, or none that other programs obey
 abbrev pub IsAllowed : Names → Tree → Type 0
-IsAllowed Safe t = unsafe_paths t ≡ []
+IsAllowed Safe t = refused_in t ≡ []
 IsAllowed All t = Unit {0}
 
 -- what was made before, and then a part of the checkout
@@ -35,18 +38,17 @@ made_content place (Some (content.File bytes)) = MadeFile place bytes.items ∷ 
 
 -- why nothing more was made: what was made since, and whether the names were refused
 abbrev pub HasFault : Names → List ℕ → Tree → List Made → List Made → CheckoutFault → Type 0
-HasFault names folder t before after (UnsafeNames places) =
-    (names ≡ Safe) × (unsafe_paths t ≢ []) × (map (λ place. place.bytes.items) places.items ≡ map (place_text []) (unsafe_paths t)) × (after ≡ before)
+HasFault names folder t before after (UnsafeNames list) = (names ≡ Safe) × (refused_in t ≢ []) × (told list.items ≡ refused_in t) × (after ≡ before)
 HasFault names folder t before after (NotUtf8 place) = IsAllowed names t × (after ≡ before)
 HasFault names folder t before after (Folder error) = IsAllowed names t × (after ≡ before)
 HasFault names folder t before after (Unwritten place error) = IsAllowed names t × HasBegun folder t before after
 HasFault names folder t before after NoMemory = HasBegun folder t before after
 
--- the fault of the names: each path that has one, where they were to be safe
-abbrev pub IsNamesFault : Names → List Path → CheckoutFault → Type 0
-IsNamesFault names paths (UnsafeNames places) = (names ≡ Safe) × (paths ≢ []) × (map (λ place. place.bytes.items) places.items ≡ map (place_text []) paths)
-IsNamesFault names paths NoMemory = Unit {0}
-IsNamesFault names paths fault = ⊥
+-- the fault of the names: all that is refused, where they were to be safe
+abbrev pub IsNamesFault : Names → List (List ℕ × Why) → CheckoutFault → Type 0
+IsNamesFault names all (UnsafeNames list) = (names ≡ Safe) × (all ≢ []) × (told list.items ≡ all)
+IsNamesFault names all NoMemory = Unit {0}
+IsNamesFault names all fault = ⊥
 
 -- a path that is no UTF-8, or no memory
 abbrev pub IsUtf8Fault : CheckoutFault → Type 0

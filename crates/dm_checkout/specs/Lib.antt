@@ -1,6 +1,8 @@
 pub mod Places
 pub mod Contents
+pub mod Seen
 pub mod Names
+pub mod Repositories
 pub mod Made
 pub mod Events
 pub mod Faults

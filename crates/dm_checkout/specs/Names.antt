@@ -1,21 +1,18 @@
 -- Names that other programs obey.
-use Rattle.std.specs.Prelude.{ℕ, ◌==◌, Bool, ◌&&◌, ◌||◌, List, codes, drop, length}
-use Rattle.std.specs.List.{list_all, list_any, starts_with}
-use Rattle.std.specs.Char.{eq_ignore_ascii_case}
+use Rattle.std.specs.Prelude.{Bool, ◌||◌, List, ℕ, codes}
+use Rattle.std.specs.List.{list_any}
 use Rattle.dm_tree.specs.Paths.{Name, Path}
+use Rattle.dm_checkout.specs.Seen.{is_taken_for, seen}
 
--- a dot or a space, which some file systems drop at the end of a name
-abbrev pub is_dropped : ℕ → Bool
-is_dropped b = b == 46 || b == 32
-
--- the name is the word in any case, with nothing behind it but dots and spaces
-abbrev pub is_like : List ℕ → Name → Bool
-is_like word name = starts_with eq_ignore_ascii_case name word && list_all is_dropped (drop (length word) name)
+-- what is compared of a name is that of Git, Mercurial, Subversion, Bazaar, Darcs, Jujutsu or direnv, or the short name that Windows gives such a name
+abbrev pub obeys : List ℕ → Bool
+obeys s =
+    is_taken_for (codes ".git") s || (is_taken_for (codes ".hg") s || (is_taken_for (codes ".svn") s || (is_taken_for (codes ".bzr") s || (is_taken_for (codes "_darcs") s || (is_taken_for (codes ".jj") s || (is_taken_for (codes ".envrc") s ||
+    (is_taken_for (codes "git~1") s || (is_taken_for (codes "hg~1") s || (is_taken_for (codes "svn~1") s || (is_taken_for (codes "bzr~1") s || (is_taken_for (codes "jj~1") s || is_taken_for (codes "envrc~1") s)))))))))))
 
 -- another program runs commands from what stands under the name, or takes its settings from there
 abbrev pub is_obeyed : Name → Bool
-is_obeyed name =
-    is_like (codes ".git") name || (is_like (codes ".hg") name || (is_like (codes ".svn") name || (is_like (codes ".bzr") name || (is_like (codes "_darcs") name || (is_like (codes ".jj") name || is_like (codes ".envrc") name)))))
+is_obeyed name = obeys (seen name)
 
 -- a name of the path is such a name
 abbrev pub has_obeyed : Path → Bool

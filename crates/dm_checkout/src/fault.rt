@@ -20,6 +20,33 @@ impl Display for Place {
     }
 }
 
+/// Why a path isn't written by default.
+#[derive(Clone, Copy, Debug, PartialEq, Eq)]
+pub enum Why {
+    /// One of its names is one that another program obeys.
+    Obeyed,
+    /// It is the `HEAD` of what git takes for a repository.
+    Repository,
+}
+
+/// What isn't written by default.
+#[derive(Drop)]
+pub struct Refused {
+    pub place: Place,
+    pub why: Why,
+}
+
+impl Display for Refused {
+    fn fmt<W: Write>(&self, f: &mut Formatter<W>) -> fmt::Result {
+        match self.why {
+            Why::Obeyed => write!(f, "{}", self.place),
+            Why::Repository => {
+                write!(f, "{}: git takes its folder for a repository", self.place)
+            }
+        }
+    }
+}
+
 /// Why a folder can't be taken for a checkout.
 #[derive(Drop)]
 pub enum FolderFault {
@@ -44,8 +71,8 @@ impl Display for FolderFault {
 /// Why a tree was not written, or not all of it.
 #[derive(Drop)]
 pub enum CheckoutFault {
-    /// These paths have a name that other programs obey. Nothing was written.
-    UnsafeNames(Vec<Place>),
+    /// Other programs obey what stands at these paths. Nothing was written.
+    UnsafeNames(Vec<Refused>),
     /// The path of this entry is no UTF-8. Nothing was written.
     NotUtf8(Place),
     /// The folder can't be taken. Nothing was written.

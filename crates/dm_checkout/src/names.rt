@@ -1,93 +1,63 @@
 //! Names that other programs obey.
-ghost use Rattle.std.specs.Prelude.{◌≡◌, [], map, IfOk};
-ghost use Rattle.std.specs.List.{filter};
-ghost use Rattle.dm_checkout.specs.Places.{place_text};
-ghost use Rattle.dm_checkout.specs.Names.{has_obeyed, is_dropped, is_like, is_obeyed};
-ghost use Rattle.std.specs.List.{list_all, starts_with};
-ghost use Rattle.std.specs.Char.{eq_ignore_ascii_case};
+ghost use Rattle.std.specs.Prelude.{◌≡◌, IfOk};
+ghost use Rattle.dm_checkout.specs.Names.{has_obeyed, is_obeyed, obeys};
 
-use crate::fault::Place;
-use crate::place::place_of;
-use dm_tree::{Listed, Path};
+use crate::seen::{is_taken_for, seen_of};
+use dm_tree::Path;
 use std::alloc::{AllocError, Allocator, Global};
 
 /// Which names a checkout writes.
 #[derive(Clone, Copy, Debug, PartialEq, Eq)]
 pub enum Names {
-    /// None that other programs obey: a tree with one is refused.
+    /// None that other programs obey, and no folder that git takes for a repository: a tree with one is refused.
     Safe,
     /// All.
     All,
 }
 
-/// Whether the name begins with the word, in any case.
-fn begins_like(word: &[u8], name: &[u8]) -> bool
-    ensures { result ≡ starts_with eq_ignore_ascii_case name.now word.now }
+/// Whether what is compared of a name is what another program obeys.
+fn obeys(seen: &[u8]) -> bool
+    ensures { result ≡ obeys seen.now }
 {
-    if name.len() < word.len() {
-        return false;
-    }
-    name[..word.len()].eq_ignore_ascii_case(word)
-}
-
-/// Whether a file system may drop these bytes at the end of a name.
-fn are_dropped(bytes: &[u8]) -> bool
-    ensures { result ≡ list_all is_dropped bytes.now }
-{
-    bytes.iter().all(|byte| *byte == b'.' || *byte == b' ')
-}
-
-/// Whether the name is the word, in any case, or is taken for it by a file system that drops dots and spaces at the end.
-fn is_like(word: &[u8], name: &[u8]) -> bool
-    ensures { result ≡ is_like word.now name.now }
-{
-    begins_like(word, name) && are_dropped(&name[word.len()..])
+    // Git: its settings and hooks name commands, and `git status` runs some.
+    is_taken_for(b".git", seen)
+        // Mercurial: likewise.
+        || is_taken_for(b".hg", seen)
+        // Subversion: its settings name servers and commands.
+        || is_taken_for(b".svn", seen)
+        // Bazaar: likewise.
+        || is_taken_for(b".bzr", seen)
+        // Darcs: its settings name commands to run after others. A path never has this name in lower case.
+        || is_taken_for(b"_darcs", seen)
+        // Jujutsu: likewise.
+        || is_taken_for(b".jj", seen)
+        // direnv: what a shell runs on its way into the folder.
+        || is_taken_for(b".envrc", seen)
+        // The short names that Windows gives them, where they don't fit into eight letters and three.
+        || is_taken_for(b"git~1", seen)
+        || is_taken_for(b"hg~1", seen)
+        || is_taken_for(b"svn~1", seen)
+        || is_taken_for(b"bzr~1", seen)
+        || is_taken_for(b"jj~1", seen)
+        || is_taken_for(b"envrc~1", seen)
 }
 
 /// Whether another program runs commands from what stands under this name, or takes its settings from there.
-fn is_obeyed(name: &[u8]) -> bool
-    ensures { result ≡ is_obeyed name.now }
+fn is_obeyed(alloc: Global, name: &[u8]) -> Result<bool, AllocError>
+    ensures { IfOk result (λ obeyed. obeyed ≡ is_obeyed name.now) }
 {
-    // Git: its settings and hooks name commands, and `git status` runs some.
-    is_like(b".git", name)
-        // Mercurial: likewise.
-        || is_like(b".hg", name)
-        // Subversion: its settings name servers and commands.
-        || is_like(b".svn", name)
-        // Bazaar: likewise.
-        || is_like(b".bzr", name)
-        // Darcs: its settings name commands to run after others. A path never has this name in lower case.
-        || is_like(b"_darcs", name)
-        // Jujutsu: likewise.
-        || is_like(b".jj", name)
-        // direnv: what a shell runs on its way into the folder.
-        || is_like(b".envrc", name)
+    let seen = seen_of(alloc, name)?;
+    Ok(obeys(&seen))
 }
 
-fn has_obeyed<A: Allocator>(path: &Path<A>) -> bool
-    ensures { result ≡ has_obeyed path.now }
+/// Whether a name of the path is such a name.
+pub(crate) fn has_obeyed<A: Allocator>(alloc: Global, path: &Path<A>) -> Result<bool, AllocError>
+    ensures { IfOk result (λ obeyed. obeyed ≡ has_obeyed path.now) }
 {
     for i in 0..path.len() {
-        if is_obeyed(path.part(i)) {
-            return true;
+        if is_obeyed(alloc, path.part(i))? {
+            return Ok(true);
         }
     }
-    false
-}
-
-/// The paths with a name that other programs obey.
-pub(crate) fn unsafe_places<A: Allocator>(
-    alloc: Global,
-    rows: &[Listed<A>],
-) -> Result<Vec<Place>, AllocError>
-    ensures { IfOk result (λ places. map (λ place. place.bytes.items) places.items ≡ map (place_text []) (filter has_obeyed (map (λ row. row.path) rows.now))) }
-{
-    let mut places = Vec::new(alloc);
-    for row in rows {
-        if has_obeyed(&row.path) {
-            let bytes = place_of(alloc, "", &row.path)?;
-            places.push(Place { bytes })?;
-        }
-    }
-    Ok(places)
+    Ok(false)
 }

@@ -1,17 +1,17 @@
 //! Writing a tree to a new folder.
 ghost use Rattle.std.specs.Prelude.{◌≡◌, [], ◌∷◌, ◌++◌, List, length, map, IfOk, IfErr, OnOk, OnErr};
-ghost use Rattle.std.specs.List.{filter};
 ghost use Rattle.dm_tree.specs.Listings.{listed_entry};
 ghost use Rattle.dm_checkout.specs.declared.names.Names.TheVariants.{Safe};
-ghost use Rattle.dm_checkout.specs.Names.{has_obeyed};
+ghost use Rattle.dm_checkout.specs.Repositories.{refused};
 ghost use Rattle.dm_checkout.specs.Made.{Made, Taken, IsBegun, made_all, made_of, rows};
 ghost use Rattle.dm_checkout.specs.Faults.{HasFault, IsAllowed, IsFolderFault, IsNamesFault, IsPartOf, IsUtf8Fault, IsWriteFault, made_item};
 
 use crate::disk::Disk;
 use crate::fault::{CheckoutFault, Place};
 use crate::item::{Content, Item, item_of};
-use crate::names::{Names, unsafe_places};
+use crate::names::Names;
 use crate::place::place_of;
+use crate::refusing::refused_of;
 use dm_tree::{Listed, Path, Tree};
 use std::alloc::{Allocator, Global};
 use std::io::{self, ErrorKind};
@@ -53,23 +53,23 @@ pub fn checkout<D: Disk, A: Allocator, P: Progress>(
     Ok(rows.len())
 }
 
-/// Refuses a tree with a name that other programs obey, where such names aren't asked for.
+/// Refuses a tree with what other programs obey, where that isn't asked for.
 fn require_names<A: Allocator>(
     alloc: Global,
     names: Names,
     rows: &[Listed<A>],
 ) -> Result<(), CheckoutFault>
-    ensures ok { OnOk result (names ≡ Safe → filter has_obeyed (map (λ row. row.path) rows.now) ≡ []) }
-    ensures err { IfErr result (IsNamesFault names (filter has_obeyed (map (λ row. row.path) rows.now))) }
+    ensures ok { OnOk result (names ≡ Safe → refused (map (λ row. row.path) rows.now) ≡ []) }
+    ensures err { IfErr result (IsNamesFault names (refused (map (λ row. row.path) rows.now))) }
 {
     match names {
         Names::All => Ok(()),
         Names::Safe => {
-            let places = unsafe_places(alloc, rows)?;
-            if places.is_empty() {
+            let list = refused_of(alloc, rows)?;
+            if list.is_empty() {
                 return Ok(());
             }
-            Err(CheckoutFault::UnsafeNames(places))
+            Err(CheckoutFault::UnsafeNames(list))
         }
     }
 }

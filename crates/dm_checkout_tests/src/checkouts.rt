@@ -107,7 +107,7 @@ fn is_unsafe(rt: &HostRuntime, folder: &str) -> bool {
     let Err(CheckoutFault::UnsafeNames(places)) = write(rt, &tree, folder, Names::Safe) else {
         return false;
     };
-    if places.len() != 2 || places[0].bytes.as_slice() != b"/d/.GIT. ".as_slice() {
+    if places.len() != 2 || places[0].place.bytes.as_slice() != b"/d/.GIT. ".as_slice() {
         return false;
     }
     matches!(fs::exists(rt, folder), Ok(false))
