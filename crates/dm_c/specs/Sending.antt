@@ -32,12 +32,12 @@ most = 18446744073709551615
 
 -- a bundle for somebody who holds patches of these names: a minimal one, or not
 abbrev pub SendsFor : Bool → List Patch → List PatchInfo → Contents → Type 0
-SendsFor true repo names b = SendsMinimal repo names most b
+SendsFor true repo names b = SendsMinimal repo 0 names most b
 SendsFor false repo names b = Sends repo names most b
 
 -- why there is none
 abbrev pub RefusesFor : Bool → List Patch → List PatchInfo → Refusal → Type 0
-RefusesFor true repo names why = RefusesToSendMinimal repo names most why
+RefusesFor true repo names why = RefusesToSendMinimal repo 0 names most why
 RefusesFor false repo names why = RefusesToSend repo names most why
 
 -- the verdict is that a bundle is refused for this reason

@@ -39,7 +39,7 @@ fn bundle_for(
     ensures err { IfErr result (IsNoBundle is_minimal repo.now.patches names.now) }
 {
     let made = if is_minimal {
-        send_minimal(alloc, repo, names, usize::MAX)
+        send_minimal(alloc, repo, 0, names, usize::MAX)
     } else {
         send(alloc, repo, names, usize::MAX)
     };

@@ -15,6 +15,8 @@ pub(crate) enum Seeming {
     Signed,
     /// What `darcs log --context` wrote.
     Context,
+    /// The file of a mirror.
+    Mirror,
     /// Text in two bytes a character.
     Utf16,
     /// What `git bundle` wrote.
@@ -119,6 +121,10 @@ pub(crate) fn seeming_of(text: &[u8]) -> Option<Seeming> {
     if text.starts_with(b"\x1f\x8b".as_slice()) {
         return Some(Seeming::Gzip);
     }
+    // What the file of a mirror begins with, in each version (`dm_journal`).
+    if text.starts_with(b"dm journal ".as_slice()) {
+        return Some(Seeming::Mirror);
+    }
     if begins_as_html(begun) {
         return Some(Seeming::Html);
     }
@@ -155,6 +161,7 @@ impl Display for Seeming {
             Seeming::Context => {
                 "It looks like a context, as `darcs log --context` writes it: it has no new patches."
             }
+            Seeming::Mirror => "It looks like the file of a mirror: name it by `--mirror FILE`.",
             Seeming::Utf16 => {
                 "It looks like UTF-16: save it as it was sent, or give dm what `iconv -f utf-16 -t utf-8` makes of it."
             }

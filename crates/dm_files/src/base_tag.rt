@@ -6,16 +6,16 @@ use std::alloc::Global;
 use std::io;
 use std::rt::Runtime;
 
-/// Says on standard error with which tag a mirror begins, if it does.
-pub fn say_begun(rt: &HostRuntime, repo: &Repo<Global>) {
-    if let Some(tag) = base_tag(repo) {
+/// Says on standard error with which tag a mirror begins whose first patches, so many of them, are its base, if it does.
+pub fn say_begun(rt: &HostRuntime, repo: &Repo<Global>, base: usize) {
+    if let Some(tag) = base_tag(repo, base) {
         let _ = eprintln!(rt; "dm: the mirror begins at {tag}");
     }
 }
 
 /// The same with how many names are behind the tag.
-pub fn say_base(rt: &HostRuntime, repo: &Repo<Global>) {
-    let Some(tag) = base_tag(repo) else {
+pub fn say_base(rt: &HostRuntime, repo: &Repo<Global>, base: usize) {
+    let Some(tag) = base_tag(repo, base) else {
         return;
     };
     let _ = match tag.count() {
@@ -28,11 +28,12 @@ pub fn say_base(rt: &HostRuntime, repo: &Repo<Global>) {
 pub fn refuse_before_base<'a>(
     rt: &HostRuntime,
     repo: &Repo<Global>,
+    base: usize,
     left: &str,
 ) -> Result<u8, WordFault<'a>> {
     let line = before_base_line(rt.alloc())?;
     write_text(&line, &mut io::writer(rt))?;
-    if let Some(tag) = base_tag(repo) {
+    if let Some(tag) = base_tag(repo, base) {
         let _ = eprintln!(rt; "dm: {left}: the mirror begins at {tag}");
     }
     Ok(1)

@@ -2,7 +2,7 @@
 ghost use Rattle.std.specs.Prelude.{◌≡◌, ◌⊎◌, ℕ, List, [], length, IfErr, IfOk};
 ghost use Rattle.dm_disk.specs.States.{seen, may_leave, file_may_leave, left_since};
 ghost use Rattle.dm_journal.specs.Device.{IsDurable, LeavesOnly};
-ghost use Rattle.dm_store.specs.Keeping.{IsOrKeeps, IsStored};
+ghost use Rattle.dm_store.specs.Keeping.{IsOrKeeps, IsStored, kept_as, kept_in};
 ghost use Rattle.dm_store.specs.Kinds.{kinds_in};
 ghost use Rattle.dm_named.specs.declared.limits.Kinds.TheVariants.{Six};
 ghost use Rattle.dm_commands.specs.Mirrors.{IsInTheWay, IsMirrorOf};
@@ -26,6 +26,13 @@ use dm_store::Store;
 use std::alloc::Global;
 use std::io;
 use std::rt::Runtime;
+
+/// With what a new mirror begins: a repository, and how many of its patches are its base.
+#[derive(Drop)]
+struct Start {
+    repo: Repo<Global>,
+    base: usize,
+}
 
 /// Refuses a base whose hash is wrong: a mirror can't give it back.
 fn refuse_wrong_hash<'a>(
@@ -84,7 +91,8 @@ fn of_unbegun<'a>(path: &'a str, fault: Unbegun, file: &DiskFile) -> WordFault<'
     }
 }
 
-/// The mirror of a file: what it keeps, or where it has no bytes one of the six kinds that begins with this repository.
+/// The mirror of a file: what it keeps, or where it has no bytes one of the six kinds that begins with this repository, without a
+/// base.
 fn store_of<'a>(
     rt: &HostRuntime,
     path: &'a str,
@@ -93,13 +101,13 @@ fn store_of<'a>(
 ) -> Result<Store<DiskFile>, WordFault<'a>>
     requires { IsDurable seen may_leave file_may_leave file }
     ensures stored { IfOk result (IsStored seen may_leave file_may_leave) }
-    ensures kept { IfOk result (λ store. IsMirrorOf (kinds_in store) (seen file) store.repo.patches
-        ⊎ ((seen file ≡ []) × (store.repo ≡ start) × (kinds_in store ≡ Six))) }
-    ensures any_moment { IfOk result (λ store. LeavesOnly length left_since file store.journal.device (IsOrKeeps Six (seen file) start.patches)) }
+    ensures kept { IfOk result (λ store. IsMirrorOf (kinds_in store) (seen file) (kept_in store)
+        ⊎ ((seen file ≡ []) × (store.repo ≡ start) × (store.base ≡ 0) × (kinds_in store ≡ Six))) }
+    ensures any_moment { IfOk result (λ store. LeavesOnly length left_since file store.journal.device (IsOrKeeps Six (seen file) (kept_as 0 start.patches))) }
     ensures tells { IfErr result (TellsOf (seen file)) }
 {
     let is_empty = file.is_empty();
-    match kept_or_new_mirror(rt.alloc(), file, is_empty, start, Kinds::Six) {
+    match kept_or_new_mirror(rt.alloc(), file, is_empty, start, 0, Kinds::Six) {
         Ok(store) => Ok(store),
         Err((fault, file)) => Err(of_unbegun(path, fault, &file)),
     }
@@ -141,7 +149,7 @@ pub fn open_mirror<'a>(
     store_of(rt, path, file, start)
 }
 
-/// A repository, as a mirror of these kinds of which nothing is written.
+/// A repository without a base, as a mirror of these kinds of which nothing is written.
 pub fn rehearse_start<'a>(
     rt: &HostRuntime,
     start: Repo<Global>,
@@ -151,9 +159,10 @@ pub fn rehearse_start<'a>(
     ensures stored { IfOk result (IsStored seen may_leave file_may_leave) }
     ensures kinds { IfOk result (λ store. kinds_in store ≡ kinds) }
     ensures same { IfOk result (λ store. store.repo ≡ start) }
+    ensures base { IfOk result (λ store. store.base ≡ 0) }
 {
     let device = Rehearsal::new(Vec::new(rt.alloc()));
-    match Store::create(rt.alloc(), device, start, kinds) {
+    match Store::create(rt.alloc(), device, start, 0, kinds) {
         Ok(store) => Ok(store),
         Err((fault, _)) => Err(WordFault::Unwritten(path, fault)),
     }
@@ -191,38 +200,45 @@ fn refuse_place<'a>(rt: &HostRuntime, path: &'a str, file: DiskFile) -> WordFaul
     }
 }
 
-/// A mirror of these kinds that begins with a repository, where the file is empty.
+/// A mirror of these kinds that begins with a repository and a base, where the file is empty.
 fn begin_store<'a>(
     rt: &HostRuntime,
     path: &'a str,
     file: DiskFile,
-    start: Repo<Global>,
+    start: Start,
     kinds: Kinds,
 ) -> Result<Store<DiskFile>, WordFault<'a>>
     requires { IsDurable seen may_leave file_may_leave file }
     ensures stored { IfOk result (IsStored seen may_leave file_may_leave) }
     ensures kinds { IfOk result (λ store. kinds_in store ≡ kinds) }
-    ensures begun { IfOk result (λ store. (seen file ≡ []) × (store.repo ≡ start)) }
-    ensures any_moment { IfOk result (λ store. LeavesOnly length left_since file store.journal.device (IsOrKeeps kinds [] start.patches)) }
+    ensures begun { IfOk result (λ store. (seen file ≡ []) × (store.repo ≡ start.repo) × (store.base ≡ start.base)) }
+    ensures any_moment { IfOk result (λ store. LeavesOnly length left_since file store.journal.device (IsOrKeeps kinds [] (kept_as start.base start.repo.patches))) }
     ensures tells { IfErr result (TellsOf (seen file)) }
 {
     let is_empty = file.is_empty();
-    match new_mirror(rt.alloc(), file, is_empty, start, kinds) {
+    match new_mirror(rt.alloc(), file, is_empty, start.repo, start.base, kinds) {
         Ok(store) => Ok(store),
         Err((fault, file)) => Err(of_unbegun(path, fault, &file)),
     }
 }
 
-/// The repository with which a new mirror begins: at a tag, where the words name what it covers.
+/// With what a new mirror begins: at a tag, where the words name what it covers, and then all that there is is the base.
 fn read_first<'a>(
     rt: &HostRuntime,
     colour: Colour,
     reading: Reading,
     words: &ArgMatches<'a>,
-) -> Result<Repo<Global>, WordFault<'a>> {
+) -> Result<Start, WordFault<'a>> {
     match words.get_str("names") {
-        Some(names) => read_beginning(rt, words, names),
-        None => read_start(rt, colour, reading, words),
+        Some(names) => {
+            let repo = read_beginning(rt, words, names)?;
+            let base = repo.len();
+            Ok(Start { repo, base })
+        }
+        None => {
+            let repo = read_start(rt, colour, reading, words)?;
+            Ok(Start { repo, base: 0 })
+        }
     }
 }
 
@@ -262,6 +278,6 @@ pub fn init<'a>(
         count => format!(in rt.alloc(); "mirror {path}: {count} patches\n")?,
     };
     write_text(line.as_bytes(), &mut io::writer(rt))?;
-    say_begun(rt, store.repo());
+    say_begun(rt, store.repo(), store.base());
     Ok(0)
 }

@@ -10,9 +10,9 @@ use std::rt::Runtime;
 /// Says why a tree isn't written.
 fn say_unwritten(rt: &HostRuntime, folder: &str, fault: &CheckoutFault) {
     let _ = eprintln!(rt; "dm: cannot write {folder}: {fault}");
-    if let CheckoutFault::UnsafeNames(places) = fault {
-        for place in places {
-            let _ = eprintln!(rt; "{place}");
+    if let CheckoutFault::UnsafeNames(list) = fault {
+        for refused in list {
+            let _ = eprintln!(rt; "{refused}");
         }
         let _ = eprintln!(rt;
             "Other tools obey such names. To write them all the same: --all-names"
@@ -32,13 +32,13 @@ pub fn check_out<'a>(
     } else {
         Names::Safe
     };
-    let (repo, _) = read_repo(rt, words, is_terminal)?;
+    let kept = read_repo(rt, words, is_terminal)?;
     let mut meter = Meter::new(*rt, is_terminal);
     let mut disk = SystemDisk::new(*rt);
     let written = checkout(
         rt.alloc(),
         &mut disk,
-        repo.tree(),
+        kept.repo.tree(),
         folder,
         names,
         &mut meter,

@@ -1,7 +1,7 @@
 //! Bundles that are taken one after the other, into a mirror or a repository in memory: `dm apply --mirror`.
 ghost use Rattle.std.specs.Prelude.{◌≡◌, ◌↔◌, All, length, IfOk, IfErr, IsTrue, OnOk};
 ghost use Rattle.dm_disk.specs.States.{seen, may_leave, file_may_leave};
-ghost use Rattle.dm_store.specs.Keeping.{IsStored};
+ghost use Rattle.dm_store.specs.Keeping.{IsStored, kept_in};
 ghost use Rattle.dm_store.specs.Kinds.{kinds_in};
 ghost use Rattle.dm_deliver.specs.Answering.{IsAcceptedAnswer, IsOfStore};
 ghost use Rattle.dm_deliver.specs.Delivering.{Delivers};
@@ -16,7 +16,7 @@ use crate::mirror::blame;
 use crate::word_fault::WordFault;
 use crate::words::{kinds_of, policy_of, refuse_kinds};
 use clap::ArgMatches;
-use dm_commands::{ToolFault, base_tag, push_repo, write_text};
+use dm_commands::{ToolFault, push_repo, write_text};
 use dm_deliver::{AnswerError, DeliverError, Framed, HashRule, Watched, deliver};
 use dm_disk::DiskFile;
 use dm_journal::{Device, WriteError};
@@ -168,11 +168,11 @@ fn take_words<'a, D: Device, W: Write>(
     let explains = words.get_flag("explain");
     let reading = reading_of(words, store.kinds());
     if words.get_flag("stream") {
-        let mut watcher = Watcher::new(*rt, colour, explains, reading, &[]);
+        let mut watcher = Watcher::new(*rt, colour, explains, reading, store.base(), &[]);
         return take_stream(rt, store, policy, rule, &mut watcher, writer);
     }
     let names = words.get_strs("bundles").unwrap_or(&[INPUT]);
-    let mut watcher = Watcher::new(*rt, colour, explains, reading, names);
+    let mut watcher = Watcher::new(*rt, colour, explains, reading, store.base(), names);
     match take_named(rt, names, store, policy, rule, &mut watcher, writer) {
         Ok(all_accepted) => Ok(all_accepted),
         Err(stop) => Err(stop),
@@ -189,7 +189,7 @@ fn take_and_show<'a, D: Device>(
     rule: HashRule,
 ) -> Result<u8, Stop<'a>>
     requires { IsStored D.seen D.may_leave D.file_may_leave store.old }
-    ensures answers { IfOk result (AnswersAll (kinds_in store.old) policy rule store.old.repo.patches store.new.repo.patches) }
+    ensures answers { IfOk result (AnswersAll (kinds_in store.old) policy rule (kept_in store.old) (kept_in store.new)) }
     ensures stored { OnOk result (IsStored D.seen D.may_leave D.file_may_leave store.new) }
     ensures stored_err { IfErr result (λ e. MayGoOn e → IsStored D.seen D.may_leave D.file_may_leave store.new) }
 {
@@ -257,9 +257,9 @@ pub fn apply_each<'a>(
 fn refuse_bundle_of_base<'a>(
     words: &ArgMatches<'_>,
     path: &'a str,
-    repo: &Repo<Global>,
+    base: usize,
 ) -> Result<(), WordFault<'a>> {
-    if words.get_flag("bundle") && base_tag(repo).is_some() {
+    if words.get_flag("bundle") && base > 0 {
         return Err(WordFault::BeginsAtTag(path));
     }
     Ok(())
@@ -278,12 +278,12 @@ pub fn apply_to_mirror<'a>(
     let rule = rule_of(words, HashRule::NotWrong);
     if words.get_flag("dry-run") {
         let mut store = rehearse_mirror(rt, colour, words, path, is_terminal)?;
-        refuse_bundle_of_base(words, path, store.repo())?;
+        refuse_bundle_of_base(words, path, store.base())?;
         let tried = take_and_show(rt, colour, words, &mut store, policy, rule);
         return status_of_trial(tried, path);
     }
     let mut store = open_mirror(rt, colour, words, path, is_terminal)?;
-    refuse_bundle_of_base(words, path, store.repo())?;
+    refuse_bundle_of_base(words, path, store.base())?;
     match take_and_show(rt, colour, words, &mut store, policy, rule) {
         Ok(status) => {
             settle(rt, path, store);

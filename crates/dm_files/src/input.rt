@@ -30,12 +30,15 @@ pub enum InputFault {
 
 /// A file, or standard input. It is opened at once, and read as it is asked for. A reader of it learns of no fault but that there
 /// is one; [`Input::fault`] says which.
+///
+/// Only a file is asked whether it is a mirror: it was named, so the words are wrong. On standard input any text is one, since a
+/// stranger may have written it, and has to be answered.
 #[derive(Drop)]
 pub struct Input {
     rt: HostRuntime,
     // `None` for standard input, and where the file could not be opened.
     file: Option<File>,
-    has_begun: bool,
+    may_be_mirror: bool,
     fault: Option<InputFault>,
 }
 
@@ -52,8 +55,8 @@ impl Input {
         };
         Input {
             rt: *rt,
+            may_be_mirror: file.is_some(),
             file,
-            has_begun: false,
             fault,
         }
     }
@@ -81,12 +84,12 @@ impl Input {
 }
 
 impl Read for Input {
-    /// An error where the text begins as the file of a mirror does.
+    /// An error where a file begins as that of a mirror does.
     fn read(&mut self, buf: &mut [u8]) -> io::Result<usize> {
-        if self.has_begun {
+        if !self.may_be_mirror {
             return self.more(buf);
         }
-        self.has_begun = true;
+        self.may_be_mirror = false;
         let mut count = 0;
         for _ in 0..MIRROR.len() {
             if count >= MIRROR.len() || count >= buf.len() {

@@ -3,7 +3,8 @@ ghost use Rattle.std.specs.Prelude.{ℕ, List, IfErr, IfOk, IfSome};
 ghost use Rattle.dm_disk.specs.States.{seen, may_leave, file_may_leave};
 ghost use Rattle.dm_journal.specs.Device.{IsDurable};
 ghost use Rattle.dm_journal.specs.Ready.{IsUntouched};
-ghost use Rattle.dm_store.specs.Keeping.{IsStored};
+ghost use Rattle.dm_begin.specs.Bases.{MayHaveBase};
+ghost use Rattle.dm_store.specs.Keeping.{IsStored, kept_in};
 ghost use Rattle.dm_store.specs.Kinds.{kinds_in};
 ghost use Rattle.dm_commands.specs.Mirrors.{HasMirrorFault, IsMirrorOf};
 ghost use Rattle.dm_files.specs.Mirrors.{TellsOf, TellsUnkept};
@@ -12,10 +13,11 @@ use crate::word_fault::WordFault;
 use clap::ArgMatches;
 use dm_commands::{MirrorFault, kept_mirror};
 use dm_disk::{Access, DiskFile, Lock, OpenFault};
-use dm_journal::Device;
+use dm_journal::{Device, Fault, OpenError, unknown_field};
 use dm_named::Kinds;
+use dm_quoted::Quoted;
 use dm_repo::Repo;
-use dm_store::Store;
+use dm_store::{Store, StoreError};
 use std::alloc::Global;
 use std::rt::Runtime;
 use std::thread;
@@ -71,7 +73,35 @@ pub fn of_kept<'a>(path: &'a str, fault: MirrorFault) -> WordFault<'a>
     }
 }
 
-/// The mirror that a file keeps.
+/// Whether a file isn't opened since its header isn't known.
+fn is_unknown(fault: &MirrorFault) -> bool {
+    matches!(
+        fault,
+        MirrorFault::Bad(StoreError::Journal(OpenError::File(Fault::Unknown)))
+    )
+}
+
+/// How much of a field that isn't known is said.
+const SHOWN_BYTES: usize = 60;
+
+/// Says which field of a file's header isn't known here, where the file isn't opened for its header, and that has named fields.
+fn say_unknown_field<D: Device + Drop>(rt: &HostRuntime, fault: MirrorFault, device: D) {
+    if !is_unknown(&fault) {
+        return;
+    }
+    let mut device = device;
+    let Ok(bytes) = device.read(rt.alloc()) else {
+        return;
+    };
+    let Some(field) = unknown_field(&bytes) else {
+        return;
+    };
+    let text = &field[..field.len().min(SHOWN_BYTES)];
+    let shown = Quoted { text };
+    let _ = eprintln!(rt; "dm: the journal has a field that this dm doesn't know: {shown}");
+}
+
+/// The mirror that a file keeps. Where a field of its header isn't known, that is said on standard error.
 pub fn open_store<'a, D: Device + Drop>(
     rt: &HostRuntime,
     path: &'a str,
@@ -79,14 +109,28 @@ pub fn open_store<'a, D: Device + Drop>(
 ) -> Result<Store<D>, WordFault<'a>>
     requires { IsDurable D.seen D.may_leave D.file_may_leave device }
     ensures stored { IfOk result (IsStored D.seen D.may_leave D.file_may_leave) }
-    ensures keeps { IfOk result (λ store. IsMirrorOf (kinds_in store) (D.seen device) store.repo.patches) }
+    ensures keeps { IfOk result (λ store. IsMirrorOf (kinds_in store) (D.seen device) (kept_in store)) }
     ensures untouched { IfOk result (λ store. IsUntouched D.seen D.may_leave D.file_may_leave D.moment D.left_since device store.journal.device) }
     ensures tells { IfErr result (TellsUnkept (D.seen device)) }
 {
     match kept_mirror(rt.alloc(), device) {
         Ok(store) => Ok(store),
-        Err((fault, _)) => Err(of_kept(path, fault)),
+        Err((fault, device)) => {
+            say_unknown_field(rt, fault, device);
+            Err(of_kept(path, fault))
+        }
     }
+}
+
+/// What the file of a mirror keeps.
+#[derive(Drop)]
+pub struct KeptRepo {
+    /// The repository.
+    pub repo: Repo<Global>,
+    /// How many of its patches, from the first, are its base.
+    pub base: usize,
+    /// The kinds of primitives that the mirror reads.
+    pub kinds: Kinds,
 }
 
 /// The mirror of `--mirror`, to be read.
@@ -94,22 +138,27 @@ fn read_mirror<'a>(
     rt: &HostRuntime,
     words: &ArgMatches<'a>,
     is_terminal: bool,
-) -> Result<Store<DiskFile>, WordFault<'a>> {
+) -> Result<Store<DiskFile>, WordFault<'a>>
+    ensures { IfOk result (IsStored seen may_leave file_may_leave) }
+{
     let path = words.get_str("mirror").unwrap_or("");
     let file = open_file(rt, words, path, Access::Read, is_terminal)?;
     open_store(rt, path, file)
 }
 
-/// The repository of `--mirror`, whose file is let go, and the kinds of primitives that the mirror reads.
+/// What the mirror of `--mirror` keeps, whose file is let go.
 pub fn read_repo<'a>(
     rt: &HostRuntime,
     words: &ArgMatches<'a>,
     is_terminal: bool,
-) -> Result<(Repo<Global>, Kinds), WordFault<'a>> {
+) -> Result<KeptRepo, WordFault<'a>>
+    ensures { IfOk result (λ kept. MayHaveBase kept.repo.patches kept.base) }
+{
     let store = read_mirror(rt, words, is_terminal)?;
     let kinds = store.kinds();
+    let base = store.base();
     let (_, repo) = store.into_parts();
-    Ok((repo, kinds))
+    Ok(KeptRepo { repo, base, kinds })
 }
 
 /// The file of a mirror, if one stands at the path.

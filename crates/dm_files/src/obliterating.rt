@@ -2,13 +2,12 @@
 ghost use Rattle.std.specs.Prelude.{ℕ, List, IfOk};
 ghost use Rattle.dm_disk.specs.States.{seen, may_leave, file_may_leave};
 ghost use Rattle.dm_journal.specs.Device.{IsDurable};
-ghost use Rattle.dm_send.specs.Obliterating.{Obliterates};
 ghost use Rattle.dm_named.specs.Laws.{with_kinds};
 ghost use Rattle.dm_named.specs.Limits.{standard};
 ghost use Rattle.dm_scratch.specs.Taking.{ReadsWithin};
 ghost use Rattle.dm_store.specs.Keeping.{IsStored};
 ghost use Rattle.dm_store.specs.Kinds.{kinds_in};
-ghost use Rattle.dm_commands.specs.Obliterating.{TakesOut};
+ghost use Rattle.dm_commands.specs.Obliterating.{ObliteratesBehind, TakesOut};
 
 use crate::base_tag::refuse_before_base;
 use crate::choosing::{chosen_names, label_of};
@@ -18,8 +17,7 @@ use crate::word_fault::WordFault;
 use clap::ArgMatches;
 use dm_bundle::Bundle;
 use dm_commands::{
-    ToolFault, Unkept, keep_and_let_go, kept_bundle, obliterate_unless_base, refusal_line, text_of,
-    write_text,
+    ToolFault, Unkept, keep_and_let_go, obliterate_unless_base, refusal_line, text_of, write_text,
 };
 use dm_disk::{Access, DiskFile, Lock};
 use dm_info::Info;
@@ -240,16 +238,13 @@ fn take_out<'a>(
     out: Obliterated<Global>,
 ) -> Result<u8, WordFault<'a>>
     requires stored { IsStored seen may_leave file_may_leave store.old }
-    requires obliterates { Obliterates store.old.repo.patches chosen.now out.repo.patches out.bundle out.bound.items }
+    requires obliterates { ObliteratesBehind store.old.repo.patches store.old.base chosen.now out.repo.patches out.bundle out.bound.items }
 {
     let Obliterated { repo, bundle, .. } = out;
     if bundle.new_patches().is_empty() {
         return Err(WordFault::TakeBack(TakeBackFault::NothingToUndo));
     }
-    match kept_bundle(rt.alloc(), store.repo(), &repo, bundle) {
-        Ok(kept) => keep_or_show(rt, words, path, store, &kept, repo),
-        Err(why) => refuse(rt, why),
-    }
+    keep_or_show(rt, words, path, store, &bundle, repo)
 }
 
 /// Takes the patches that the words choose out of a mirror.
@@ -263,9 +258,14 @@ fn take_chosen<'a>(
     requires { IsStored seen may_leave file_may_leave store.old }
 {
     let chosen = chosen_names(rt, words, store.repo())?;
-    let out = match obliterate_unless_base(rt.alloc(), store.repo(), &chosen) {
+    let out = match obliterate_unless_base(rt.alloc(), store.repo(), store.base(), &chosen) {
         Ok(Some(out)) => out,
-        Ok(None) => return refuse_before_base(rt, store.repo(), "nothing was taken out"),
+        Ok(None) => return refuse_before_base(
+            rt,
+            store.repo(),
+            store.base(),
+            "nothing was taken out",
+        ),
         Err(why) => return refuse(rt, why),
     };
     if !out.bound.is_empty() && !words.get_flag("with-dependents") {

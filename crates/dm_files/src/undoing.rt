@@ -1,14 +1,14 @@
 //! `dm rollback`: the bundle of a patch that undoes others.
 use crate::base_tag::refuse_before_base;
 use crate::choosing::chosen_names;
-use crate::mirror::read_repo;
+use crate::mirror::{KeptRepo, read_repo};
 use crate::obliterating::{refuse, refuse_bound};
 use crate::take_back_fault::TakeBackFault;
 use crate::word_fault::WordFault;
 use clap::ArgMatches;
-use dm_commands::{names_base, rest_on_tag, text_of, write_text};
+use dm_commands::{names_base, text_of, undo_chosen, write_text};
 use dm_info::Info;
-use dm_send::{UndoFault, roll_back};
+use dm_send::UndoFault;
 use jiff_core::civil::DateTime;
 use jiff_core::{Offset, Timestamp};
 use std::alloc::Global;
@@ -115,20 +115,19 @@ fn refuse_undoing<'a>(rt: &HostRuntime, fault: UndoFault<Global>) -> Result<u8, 
 }
 
 /// `dm rollback`. The mirror's file is let go before anything is printed.
-pub fn undo_chosen<'a>(
+pub fn roll_back_chosen<'a>(
     rt: &HostRuntime,
     words: &ArgMatches<'a>,
     is_terminal: bool,
 ) -> Result<u8, WordFault<'a>> {
-    let (repo, kinds) = read_repo(rt, words, is_terminal)?;
+    let KeptRepo { repo, base, kinds } = read_repo(rt, words, is_terminal)?;
     let chosen = chosen_names(rt, words, &repo)?;
-    if names_base(&repo, &chosen) {
-        return refuse_before_base(rt, &repo, "no bundle was made");
+    if names_base(&repo, base, &chosen) {
+        return refuse_before_base(rt, &repo, base, "no bundle was made");
     }
     let info = info_of(rt, words, &chosen)?;
-    match roll_back(rt.alloc(), &repo, &chosen, info) {
+    match undo_chosen(rt.alloc(), &repo, base, &chosen, info) {
         Ok(bundle) => {
-            let bundle = rest_on_tag(rt.alloc(), &repo, bundle)?;
             let text = text_of(rt.alloc(), kinds, &bundle)?;
             write_text(&text, &mut io::writer(rt))?;
             Ok(0)

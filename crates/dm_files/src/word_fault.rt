@@ -26,7 +26,7 @@ pub enum WordFault<'a> {
     #[error("cannot read input")]
     UnreadableInput(io::Error),
     /// The file of this name keeps a mirror, where a text was due.
-    #[error("{} is a mirror; use --mirror FILE", said(.0))]
+    #[error("{0} is a mirror; use --mirror FILE")]
     Mirror(&'a str),
     /// The base of this name isn't taken into an empty repository.
     #[error("base {1}")]

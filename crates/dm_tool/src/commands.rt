@@ -11,7 +11,7 @@ use dm_commands::{
 use dm_files::{
     INPUT, Input, Listing, Manner, NO_ANSWER, WordFault, apply_each, apply_to_mirror, base_of,
     blame_input, check_out, exit_status, fixed_manner, init, kinds_of, obliterate_chosen,
-    policy_of, read_base, read_file, tell, undo_chosen,
+    policy_of, read_base, read_file, roll_back_chosen, tell,
 };
 use dm_named::Kinds;
 use dm_remarks::{Colour, Reading, colour_of, explain_applied, explain_hash, explain_unread};
@@ -261,7 +261,7 @@ fn answer<'a, R: Runtime + AllocGlobal + Threads + Wait + Sync>(
         Command::Init => init(host, colour, words, is_terminal),
         Command::Log => log(host, words, is_terminal),
         Command::Obliterate => obliterate_chosen(host, colour, words, is_terminal),
-        Command::Rollback => undo_chosen(host, words, is_terminal),
+        Command::Rollback => roll_back_chosen(host, words, is_terminal),
         Command::Run => run_plan(rt, host, colour, words),
         Command::Send => send(host, colour, words, is_terminal),
     }

@@ -12,14 +12,15 @@ use dm_scratch::Verdict;
 use std::alloc::Global;
 use std::io::{self, ErrorKind, Write};
 
-/// The text that the words ask for, of a repository.
+/// The text that the words ask for, of a repository whose first patches, so many of them, are its base.
 fn text_of_repo(
     rt: &HostRuntime,
     words: &ArgMatches<'_>,
     repo: &Repo<Global>,
+    base: usize,
 ) -> Result<Vec<u8>, ToolFault> {
     if words.get_flag("context") {
-        return Ok(context_of(rt.alloc(), repo)?);
+        return Ok(context_of(rt.alloc(), repo, base)?);
     }
     text_of(rt, words, repo)
 }
@@ -83,7 +84,7 @@ fn log_of_bundle<'a>(
 fn log_of_base<'a>(rt: &HostRuntime, words: &ArgMatches<'a>) -> Result<Vec<u8>, WordFault<'a>> {
     let file = read_base(rt, words)?;
     match (repo_of(rt.alloc(), base_of(&file)), &file) {
-        (Ok(repo), _) => Ok(text_of_repo(rt, words, &repo)?),
+        (Ok(repo), _) => Ok(text_of_repo(rt, words, &repo, 0)?),
         (Err(fault), Some(file)) => Err(WordFault::of_base(file.name, fault)),
         (Err(fault), None) => Err(WordFault::Tool(fault)),
     }
@@ -97,9 +98,9 @@ pub fn log<'a>(
 ) -> Result<u8, WordFault<'a>> {
     let text = if words.contains_id("mirror") {
         refuse_kinds(words)?;
-        let (repo, _) = read_repo(rt, words, is_terminal)?;
-        say_base(rt, &repo);
-        text_of_repo(rt, words, &repo)?
+        let kept = read_repo(rt, words, is_terminal)?;
+        say_base(rt, &kept.repo, kept.base);
+        text_of_repo(rt, words, &kept.repo, kept.base)?
     } else if let Some(name) = words.get_str("bundle") {
         log_of_bundle(rt, words, name)?
     } else {

@@ -38,13 +38,14 @@ fn read_theirs<'a>(
     }
 }
 
-/// `dm send` from a repository.
+/// `dm send` from a repository whose first patches, so many of them, are its base.
 fn send_from<'a>(
     rt: &HostRuntime,
     colour: Colour,
     reading: Reading,
     words: &ArgMatches<'a>,
     repo: &Repo<Global>,
+    base: usize,
 ) -> Result<u8, WordFault<'a>> {
     let file = read_theirs(rt, words)?;
     let theirs = match &file {
@@ -64,6 +65,7 @@ fn send_from<'a>(
         rt.alloc(),
         reading.kinds,
         repo,
+        base,
         theirs,
         most,
         is_minimal,
@@ -98,13 +100,14 @@ pub fn send<'a>(
 ) -> Result<u8, WordFault<'a>> {
     if words.contains_id("mirror") {
         refuse_kinds(words)?;
-        let (repo, kinds) = read_repo(rt, words, is_terminal)?;
-        return send_from(rt, colour, Reading::of_mirror(kinds), words, &repo);
+        let kept = read_repo(rt, words, is_terminal)?;
+        let reading = Reading::of_mirror(kept.kinds);
+        return send_from(rt, colour, reading, words, &kept.repo, kept.base);
     }
     let reading = Reading::of_words(kinds_of(words));
     let file = read_base(rt, words)?;
     match (repo_of(rt.alloc(), base_of(&file)), &file) {
-        (Ok(repo), _) => send_from(rt, colour, reading, words, &repo),
+        (Ok(repo), _) => send_from(rt, colour, reading, words, &repo, 0),
         (Err(fault), Some(file)) => {
             tell(rt, Manner::Full, WordFault::of_base(file.name, fault));
             if let (true, ToolFault::BadBase(verdict)) = (words.get_flag("explain"), fault) {

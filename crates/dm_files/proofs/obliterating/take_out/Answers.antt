@@ -1,8 +1,26 @@
-use Rattle.std.proofs.Common.{◌∙◌, sym}
+use Rattle.std.proofs.Common.{◌∙◌, sym, refl}
+use Rattle.dm_store.proofs.KeptBase.{fold_base}
+use Rattle.dm_store.specs.Keeping.{kept_in}
+use Rattle.dm_store.specs.Kinds.{kinds_in}
 use Rattle.dm_commands.proofs.TakenOut.{some_new, takes_gone}
 use Rattle.dm_files.proofs.obliterating.take_out.Goals as goal
 
-pub kept_bundle-requires : goal.kept_bundle-requires
-kept_bundle-requires c =
-    let some = some_new c.new_patches.result.now c.args.out.bundle.patches c.new_patches.ensures.value (sym c.is_empty.ensures ∙ c.if-is_empty.false) in
-    takes_gone c.args.store.now.repo.patches c.args.chosen.now c.args.out.repo.patches c.args.out.bundle c.args.out.bound.items c.requires.obliterates some
+pub keep_or_show-requires-clause-takes_out : goal.keep_or_show-requires-clause-takes_out
+keep_or_show-requires-clause-takes_out c =
+    let store = c.args.store.now in
+    let out = c.args.out in
+    let o = c.requires.obliterates in
+    let may = fold_base (kinds_in store) c.requires.stored.entries (kept_in store) c.requires.stored.folds in
+    let some = some_new c.new_patches.result.now out.bundle.patches c.new_patches.ensures.value (sym c.is_empty.ensures ∙ c.if-is_empty.false) in
+    λ text reads. record {
+      base = store.base;
+      chosen = c.args.chosen.now;
+      gone = o.gone;
+      bound = out.bound.items;
+      obliterates = o.obliterates;
+      some = λ none. some (o.cuts.patches ∙ none);
+      kept = out.bundle;
+      same = o.cuts.patches;
+      is_taken = takes_gone store.repo.patches store.base c.args.chosen.now out.repo.patches out.bundle out.bound.items may o some;
+      reads = reads;
+    }
