@@ -144,7 +144,7 @@ def check(counts, work):
     counts.holds("certificates aren't strict", signed.strict())
     signed.start()
     with open(signed.path("deny"), "w", encoding="ascii") as file:
-        file.write("")
+        file.write("# an empty list is an error\n%040d\n" % 0)
     mirror = signed.mirror(ALLOW=signed.path("allow"), DENY=signed.path("deny"))
     until = time.monotonic() + PATIENCE
     while not mirror.is_ready():
