@@ -18,7 +18,9 @@ NOTHING = b"New patches:\n\nContext:\n"
 
 def main(mirror, bundle="-"):
     with open(mirror, "rb") as file:
-        kinds = dm.Kinds.ALL if file.readline() == b"dm journal 4\n" else dm.Kinds.SIX
+        lines = [file.readline(64), file.readline(64)]
+        is_all = lines[0] == b"dm journal 4\n" or lines == [b"dm journal fields\n", b"kinds all\n"]
+        kinds = dm.Kinds.ALL if is_all else dm.Kinds.SIX
     words = [os.environ.get("DM", "dm"), "apply", "--mirror", mirror, "--dry-run", "--bundle"]
     held = subprocess.run(words, input=NOTHING, stdout=subprocess.PIPE, check=True).stdout.partition(b"\n")[2]
     with open(0 if bundle == "-" else bundle, "rb") as file:
