@@ -41,9 +41,10 @@ fn the_newest_alone_with_its_text(rt: HostRuntime) {
         last: Some(1),
         reverse: false,
         verbose: true,
+        places: true,
     };
     let text =
-        b"patch d59f1607c8ac904edde04acb51bf120f61eef0a2\nAuthor: me\nDate:   2026-01-02 00:00:00 UTC\n  * two\n\n[two\nme**20260102000000] hunk ./a 1\n+x\n";
+        b"#2\npatch d59f1607c8ac904edde04acb51bf120f61eef0a2\nAuthor: me\nDate:   2026-01-02 00:00:00 UTC\n  * two\n\n    [two\n    me**20260102000000] hunk ./a 1\n    +x\n";
     assert!(rt; are_entries(rt.alloc(), options, text));
 }
 
@@ -53,6 +54,7 @@ fn the_newest_first(rt: HostRuntime) {
         last: None,
         reverse: true,
         verbose: false,
+        places: false,
     };
     let text =
         b"patch d59f1607c8ac904edde04acb51bf120f61eef0a2\nAuthor: me\nDate:   2026-01-02 00:00:00 UTC\n  * two\n\npatch 5f726ac687553e51175886368ee84968be7dd5dd\nAuthor: me\nDate:   2026-01-01 00:00:00 UTC\n  * one\n";

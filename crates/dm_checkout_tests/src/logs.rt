@@ -59,7 +59,7 @@ fn control_characters_and_a_long_log(rt: HostRuntime) {
     let salt =
         b"Ignore-this: f89232b7208abe036f8ed9f5bc7bd45b4cdc9e1956d4ca9d4861023266941ea0d5da940c9cf3bc24";
     let text =
-        "patch f38f97a1432d4a44a4470b775a8bfbcb8017aba9\nAuthor: A\\x01uth <a@b>\nDate:   2026-11-26 14:27:47 UTC\n  * name with \\x1b esc\n  line one\n  longer \u{2603}\n  \n    indented\n  ctrl \\x01\\x1b[31m red\ttab\n  bad??bytes\n  nbsp\u{a0}x zw\u{200b}y bidi\\xe2\\x80\\xaez c1\\xc2\\x9b\n";
+        "patch f38f97a1432d4a44a4470b775a8bfbcb8017aba9\nAuthor: A\\x01uth <a@b>\nDate:   2026-11-26 14:27:47 UTC\n  * name with \\x1b esc\n  line one\n  longer \u{2603}\n  \n    indented\n  ctrl \\x01\\x1b[31m red\ttab\n  bad??bytes\n  nbsp\u{a0}x zw\\xe2\\x80\\x8by bidi\\xe2\\x80\\xaez c1\\xc2\\x9b\n";
     let log: [&[u8]; 8] = [
         salt,
         b"line one",

@@ -15,7 +15,7 @@ use Rattle.dm_store.proofs.StoredLemmas.{at_rest, weakened}
 use Rattle.dm_store.specs.Entries.{entry_of}
 use Rattle.dm_store.specs.Keeping.{HasTaken, TakesText, KeepsRepo, KeepsWithOrWithout, Kept, CrashesKeep, kept_as}
 use Rattle.dm_store.proofs.EntryLemmas.{one_entry}
-use Rattle.dm_deliver.specs.declared.hash_rule.HashRule.{HashRule}
+use Rattle.dm_deliver.specs.declared.bundle_rule.BundleRule.{BundleRule}
 use Rattle.dm_deliver.specs.declared.answers.Answer.{Answer}
 use Rattle.dm_deliver.specs.declared.fault.AnswerError.{AnswerError}
 use Rattle.dm_deliver.specs.declared.fault.AnswerError.TheVariants.{Store as OfStore, NoMemory as NoRoom, Write as Unwritten}
@@ -50,7 +50,7 @@ either_of kinds kept text policy v after taken takes same c (inl k) = inl k
 either_of kinds kept text policy v after taken takes same c (inr k) = inr (subst (λ (r : Kept). KeepsRepo kinds c r) (one_after kinds kept text policy v after k.0 taken takes same k.1) k.2)
 
 -- why a text has no answer, before a line of it
-pub not_answered : (kinds : Kinds) (e : AnswerError) (kept : Kept) (text : List ℕ) (policy : Policy) (rule : HashRule) (after : Kept) (out : Output) →
+pub not_answered : (kinds : Kinds) (e : AnswerError) (kept : Kept) (text : List ℕ) (policy : Policy) (rule : BundleRule) (after : Kept) (out : Output) →
     (e ≡ NoRoom → (after ≡ kept) ⊎ ((answer : Answer) × Answers kinds kept text policy rule answer after)) → e ≢ Unwritten → LeavesUnanswered e kinds kept text policy rule after out out
 not_answered kinds (OfStore why) kept text policy rule after out none only = refl
 not_answered kinds NoRoom kept text policy rule after out none only = (none refl, refl)
@@ -62,12 +62,12 @@ module _ {D : Type 0} (moment : D → ℕ) (left_since : D → ℕ → List ℕ 
   pub untaken : (kinds : Kinds) (journal : Journal D) (kept after : Kept) → CrashesKeep kinds may_leave journal.device kept → LeavesOnly moment left_since journal.device journal.device (KeepsEither kinds kept after)
   untaken kinds journal kept after keeps = at_rest moment left_since journal.device (KeepsEither kinds kept after) (λ c left. inl (keeps c (only_now journal.device c left)))
 
-  pub unread : (kinds : Kinds) (journal : Journal D) (kept : Kept) (text : List ℕ) (policy : Policy) (rule : HashRule) → CrashesKeep kinds may_leave journal.device kept →
+  pub unread : (kinds : Kinds) (journal : Journal D) (kept : Kept) (text : List ℕ) (policy : Policy) (rule : BundleRule) → CrashesKeep kinds may_leave journal.device kept →
       LeavesOnly moment left_since journal.device journal.device (KeepsAnswered kinds kept text policy rule)
   unread kinds journal kept text policy rule keeps = at_rest moment left_since journal.device (KeepsAnswered kinds kept text policy rule) (λ c left. inl (keeps c (only_now journal.device c left)))
 
   -- the text was taken, since no rule refuses it
-  pub passed : (kinds : Kinds) (old new : D) (kept : Kept) (text : List ℕ) (policy : Policy) (rule : HashRule) → PassesRules kinds kept rule text →
+  pub passed : (kinds : Kinds) (old new : D) (kept : Kept) (text : List ℕ) (policy : Policy) (rule : BundleRule) → PassesRules kinds kept rule text →
       LeavesOnly moment left_since old new (KeepsWithOrWithout kinds kept text policy) → LeavesOnly moment left_since old new (KeepsAnswered kinds kept text policy rule)
   passed kinds old new kept text policy rule passes run = weakened moment left_since old new (KeepsWithOrWithout kinds kept text policy) (KeepsAnswered kinds kept text policy rule) (λ c k. inr (passes, k)) run
 

@@ -22,14 +22,14 @@ use Rattle.dm_deliver.specs.declared.answers.Answer.{Answer}
 use Rattle.dm_deliver.specs.declared.answers.Answer.TheVariants.{Verdict}
 use Rattle.dm_deliver.specs.declared.fault.AnswerError.{AnswerError}
 use Rattle.dm_deliver.specs.declared.fault.AnswerError.TheVariants.{Store as OfStore}
-use Rattle.dm_deliver.specs.declared.hash_rule.HashRule.{HashRule}
+use Rattle.dm_deliver.specs.declared.bundle_rule.BundleRule.{BundleRule}
 use Rattle.dm_deliver.specs.Answering.{answer_line, Answers, AnswersEach, IsAcceptedAnswer, KeepsEither, KeepsAnswered, LeavesUnanswered}
 use Rattle.dm_deliver.specs.Delivering.{lines_of, KeepsFirst, KeepsSome, Delivers, DeliversAllBut, DeliversButLast}
 use Rattle.dm_deliver.specs.Outputs.{Output, Puts, PutsEach}
 use Rattle.dm_deliver.proofs.AnswerLemmas.{takes_of_entry}
 
 -- one text more is answered
-pub answers_more : (kinds : Kinds) (repo : Kept) (texts : List (List ℕ)) (policy : Policy) (rule : HashRule) (answers : List Answer) (mid : Kept) (text : List ℕ) (answer : Answer) (after : Kept) →
+pub answers_more : (kinds : Kinds) (repo : Kept) (texts : List (List ℕ)) (policy : Policy) (rule : BundleRule) (answers : List Answer) (mid : Kept) (text : List ℕ) (answer : Answer) (after : Kept) →
     AnswersEach kinds repo texts policy rule answers mid → Answers kinds mid text policy rule answer after → AnswersEach kinds repo (texts ++ text ∷ []) policy rule (answers ++ answer ∷ []) after
 answers_more kinds repo [] policy rule [] mid text answer after so_far last = (after, rw so_far at last, refl)
 answers_more kinds repo [] policy rule (v ∷ vs) mid text answer after so_far last = absurd so_far
@@ -46,7 +46,7 @@ lines_more : (vs : List Answer) (v : Answer) → lines_of (vs ++ v ∷ []) ≡ l
 lines_more vs v = flat_map-append answer_line vs (v ∷ []) ∙ ap (λ (l : List ℕ). lines_of vs ++ l) (append-nil (answer_line v))
 
 -- the first of them are the first of more
-first_of_more : (kinds : Kinds) (repo : Kept) (texts : List (List ℕ)) (policy : Policy) (rule : HashRule) (answers : List Answer) (text : List ℕ) (v : Answer) (c : List ℕ) → KeepsFirst kinds repo texts policy rule answers c → KeepsFirst kinds repo (texts ++ text ∷ []) policy rule (answers ++ v ∷ []) c
+first_of_more : (kinds : Kinds) (repo : Kept) (texts : List (List ℕ)) (policy : Policy) (rule : BundleRule) (answers : List Answer) (text : List ℕ) (v : Answer) (c : List ℕ) → KeepsFirst kinds repo texts policy rule answers c → KeepsFirst kinds repo (texts ++ text ∷ []) policy rule (answers ++ v ∷ []) c
 first_of_more kinds repo texts policy rule answers text v c k = record {
   first = k.first;
   others = k.others ++ text ∷ [];
@@ -60,7 +60,7 @@ first_of_more kinds repo texts policy rule answers text v c k = record {
 }
 
 -- all of them are the first of them
-pub all_are_first : (kinds : Kinds) (repo : Kept) (texts : List (List ℕ)) (policy : Policy) (rule : HashRule) (answers : List Answer) (after : Kept) (c : List ℕ) → AnswersEach kinds repo texts policy rule answers after → KeepsRepo kinds c after → KeepsFirst kinds repo texts policy rule answers c
+pub all_are_first : (kinds : Kinds) (repo : Kept) (texts : List (List ℕ)) (policy : Policy) (rule : BundleRule) (answers : List Answer) (after : Kept) (c : List ℕ) → AnswersEach kinds repo texts policy rule answers after → KeepsRepo kinds c after → KeepsFirst kinds repo texts policy rule answers c
 all_are_first kinds repo texts policy rule answers after c takes keeps = record {
   first = texts;
   others = [];
@@ -74,14 +74,14 @@ all_are_first kinds repo texts policy rule answers after c takes keeps = record 
 }
 
 -- one text more, and the repository before it or after it
-either_is_first : (kinds : Kinds) (repo : Kept) (texts : List (List ℕ)) (policy : Policy) (rule : HashRule) (answers : List Answer) (mid : Kept) (text : List ℕ) (v : Answer) (after : Kept) →
+either_is_first : (kinds : Kinds) (repo : Kept) (texts : List (List ℕ)) (policy : Policy) (rule : BundleRule) (answers : List Answer) (mid : Kept) (text : List ℕ) (v : Answer) (after : Kept) →
     AnswersEach kinds repo texts policy rule answers mid → Answers kinds mid text policy rule v after → (c : List ℕ) → KeepsEither kinds mid after c → KeepsFirst kinds repo (texts ++ text ∷ []) policy rule (answers ++ v ∷ []) c
 either_is_first kinds repo texts policy rule answers mid text v after takes last c (inl k) = first_of_more kinds repo texts policy rule answers text v c (all_are_first kinds repo texts policy rule answers mid c takes k)
 either_is_first kinds repo texts policy rule answers mid text v after takes last c (inr k) =
     all_are_first kinds repo (texts ++ text ∷ []) policy rule (answers ++ v ∷ []) after c (answers_more kinds repo texts policy rule answers mid text v after takes last) k
 
 -- one text more, which isn't answered, and the repository before it
-before_last : (kinds : Kinds) (repo : Kept) (texts : List (List ℕ)) (policy : Policy) (rule : HashRule) (answers : List Answer) (mid : Kept) (text : List ℕ) →
+before_last : (kinds : Kinds) (repo : Kept) (texts : List (List ℕ)) (policy : Policy) (rule : BundleRule) (answers : List Answer) (mid : Kept) (text : List ℕ) →
     AnswersEach kinds repo texts policy rule answers mid → (c : List ℕ) → KeepsRepo kinds c mid → KeepsFirst kinds repo (texts ++ text ∷ []) policy rule answers c
 before_last kinds repo texts policy rule answers mid text takes c keeps = record {
   first = texts;
@@ -96,7 +96,7 @@ before_last kinds repo texts policy rule answers mid text takes c keeps = record
 }
 
 -- one text more, which isn't answered, and the repository before it or after it
-unanswered_is_first : (kinds : Kinds) (repo : Kept) (texts : List (List ℕ)) (policy : Policy) (rule : HashRule) (answers : List Answer) (mid : Kept) (text : List ℕ) →
+unanswered_is_first : (kinds : Kinds) (repo : Kept) (texts : List (List ℕ)) (policy : Policy) (rule : BundleRule) (answers : List Answer) (mid : Kept) (text : List ℕ) →
     AnswersEach kinds repo texts policy rule answers mid → (c : List ℕ) → KeepsAnswered kinds mid text policy rule c → (vs : List Answer) × KeepsFirst kinds repo (texts ++ text ∷ []) policy rule vs c
 unanswered_is_first kinds repo texts policy rule answers mid text takes c (inl k) = (answers, before_last kinds repo texts policy rule answers mid text takes c k)
 unanswered_is_first kinds repo texts policy rule answers mid text takes c (inr (passes, inl k)) = (answers, before_last kinds repo texts policy rule answers mid text takes c k)
@@ -117,13 +117,13 @@ all_more P all more vs v so_far (inr x) = (
 )
 
 -- texts were delivered, and this says whether all were accepted
-abbrev pub Accepts : {D : Type 0} → (D → ℕ) → (D → ℕ → List ℕ → Type 0) → (List (List ℕ) → Type 0) → Policy → HashRule → Store D → Store D → Output → Output → Bool → Type 0
+abbrev pub Accepts : {D : Type 0} → (D → ℕ) → (D → ℕ → List ℕ → Type 0) → (List (List ℕ) → Type 0) → Policy → BundleRule → Store D → Store D → Output → Output → Bool → Type 0
 Accepts moment left_since Gave policy rule old new before now all = (d : Delivers moment left_since Gave policy rule old new before now) × (IsTrue all ↔ All IsAcceptedAnswer d.answers)
 
 module _ {D : Type 0} (moment : D → ℕ) (left_since : D → ℕ → List ℕ → Type 0) where
   -- nothing came yet
   pub begun : (may_leave : D → List ℕ → Type 0) (only_now : (device : D) (c : List ℕ) → left_since device (moment device) c → may_leave device c)
-      (Gave : List (List ℕ) → Type 0) (policy : Policy) (rule : HashRule) (store : Store D) (out : Output) → Gave [] → CrashesKeep (kinds_in store) may_leave store.journal.device (kept_in store) →
+      (Gave : List (List ℕ) → Type 0) (policy : Policy) (rule : BundleRule) (store : Store D) (out : Output) → Gave [] → CrashesKeep (kinds_in store) may_leave store.journal.device (kept_in store) →
       Accepts moment left_since Gave policy rule store store out out true
   begun may_leave only_now Gave policy rule store out none keeps = (
     record {
@@ -141,7 +141,7 @@ module _ {D : Type 0} (moment : D → ℕ) (left_since : D → ℕ → List ℕ 
   )
 
   -- one text more was answered, and its line written
-  pub one_more : (Gave Gives : List (List ℕ) → Type 0) (policy : Policy) (rule : HashRule) (old mid new : Store D) (before out now : Output) (all more : Bool)
+  pub one_more : (Gave Gives : List (List ℕ) → Type 0) (policy : Policy) (rule : BundleRule) (old mid new : Store D) (before out now : Output) (all more : Bool)
       (s : Accepts moment left_since Gave policy rule old mid before out all) (text : List ℕ) (v : Answer) → Gives (s.0.texts ++ text ∷ []) →
       kinds_in new ≡ kinds_in mid → Answers (kinds_in mid) (kept_in mid) text policy rule v (kept_in new) → Puts out now (answer_line v) →
       LeavesOnly moment left_since mid.journal.device new.journal.device (KeepsEither (kinds_in mid) (kept_in mid) (kept_in new)) →
@@ -168,7 +168,7 @@ module _ {D : Type 0} (moment : D → ℕ) (left_since : D → ℕ → List ℕ 
       )
 
   -- a checkpoint was made, or tried
-  pub settled : (Gave : List (List ℕ) → Type 0) (policy : Policy) (rule : HashRule) (old mid new : Store D) (before now : Output) (all : Bool)
+  pub settled : (Gave : List (List ℕ) → Type 0) (policy : Policy) (rule : BundleRule) (old mid new : Store D) (before now : Output) (all : Bool)
       (s : Accepts moment left_since Gave policy rule old mid before now all) → new.repo ≡ mid.repo → new.base ≡ mid.base → kinds_in new ≡ kinds_in mid →
       LeavesOnly moment left_since mid.journal.device new.journal.device (λ file. KeepsRepo (kinds_in mid) file (kept_in mid)) →
       Accepts moment left_since Gave policy rule old new before now all
@@ -191,7 +191,7 @@ module _ {D : Type 0} (moment : D → ℕ) (left_since : D → ℕ → List ℕ 
       )
 
   -- no text more
-  pub no_more : (Gave Gives : List (List ℕ) → Type 0) (policy : Policy) (rule : HashRule) (old new : Store D) (before now : Output) (all : Bool) (s : Accepts moment left_since Gave policy rule old new before now all) →
+  pub no_more : (Gave Gives : List (List ℕ) → Type 0) (policy : Policy) (rule : BundleRule) (old new : Store D) (before now : Output) (all : Bool) (s : Accepts moment left_since Gave policy rule old new before now all) →
       Gives s.0.texts → Accepts moment left_since Gives policy rule old new before now all
   no_more Gave Gives policy rule old new before now all s came = (
     record {
@@ -208,13 +208,13 @@ module _ {D : Type 0} (moment : D → ℕ) (left_since : D → ℕ → List ℕ 
   )
 
   -- a crash leaves what some of them leave
-  pub keeps_some : (Gave : List (List ℕ) → Type 0) (policy : Policy) (rule : HashRule) (old new : Store D) (before now : Output) (d : Delivers moment left_since Gave policy rule old new before now) →
+  pub keeps_some : (Gave : List (List ℕ) → Type 0) (policy : Policy) (rule : BundleRule) (old new : Store D) (before now : Output) (d : Delivers moment left_since Gave policy rule old new before now) →
       LeavesOnly moment left_since old.journal.device new.journal.device (KeepsSome Gave (kinds_in old) (kept_in old) policy rule)
   keeps_some Gave policy rule old new before now d =
       weakened moment left_since old.journal.device new.journal.device (KeepsFirst (kinds_in old) (kept_in old) d.texts policy rule d.answers) (KeepsSome Gave (kinds_in old) (kept_in old) policy rule) (λ c k. (d.texts, d.answers, d.came, k)) d.any_moment
 
   -- so it does after the last, which isn't answered
-  pub unanswered_keeps_some : (Gave Gives : List (List ℕ) → Type 0) (policy : Policy) (rule : HashRule) (old mid new : Store D) (before out : Output) (d : Delivers moment left_since Gave policy rule old mid before out)
+  pub unanswered_keeps_some : (Gave Gives : List (List ℕ) → Type 0) (policy : Policy) (rule : BundleRule) (old mid new : Store D) (before out : Output) (d : Delivers moment left_since Gave policy rule old mid before out)
       (text : List ℕ) → Gives (d.texts ++ text ∷ []) → LeavesOnly moment left_since mid.journal.device new.journal.device (KeepsAnswered (kinds_in mid) (kept_in mid) text policy rule) →
       LeavesOnly moment left_since old.journal.device new.journal.device (KeepsSome Gives (kinds_in old) (kept_in old) policy rule)
   unanswered_keeps_some Gave Gives policy rule old mid new before out d text came run' =
@@ -226,7 +226,7 @@ module _ {D : Type 0} (moment : D → ℕ) (left_since : D → ℕ → List ℕ 
       (λ c k. let u = unanswered_is_first (kinds_in old) (kept_in old) d.texts policy rule d.answers (kept_in mid) text d.takes c k in (d.texts ++ text ∷ [], u.0, came, u.1)) run)
 
   -- all but the last are answered
-  pub but_last : (seen : D → List ℕ) (faults : D → ℕ) (Gave Gives : List (List ℕ) → Type 0) (policy : Policy) (rule : HashRule) (error : AnswerError) (old mid new : Store D) (before out now : Output)
+  pub but_last : (seen : D → List ℕ) (faults : D → ℕ) (Gave Gives : List (List ℕ) → Type 0) (policy : Policy) (rule : BundleRule) (error : AnswerError) (old mid new : Store D) (before out now : Output)
       (d : Delivers moment left_since Gave policy rule old mid before out) (text : List ℕ) → Gives (d.texts ++ text ∷ []) → kinds_in new ≡ kinds_in mid →
       LeavesUnanswered error (kinds_in mid) (kept_in mid) text policy rule (kept_in new) out now →
       LeavesOnly moment left_since mid.journal.device new.journal.device (KeepsAnswered (kinds_in mid) (kept_in mid) text policy rule) →
@@ -247,7 +247,7 @@ module _ {D : Type 0} (moment : D → ℕ) (left_since : D → ℕ → List ℕ 
   }
 
   -- all but the last are answered, and a checkpoint failed
-  pub checkpoint_failed : (faults : D → ℕ) (Gave Gives : List (List ℕ) → Type 0) (policy : Policy) (rule : HashRule) (error : WriteError) (old mid new : Store D) (before now : Output)
+  pub checkpoint_failed : (faults : D → ℕ) (Gave Gives : List (List ℕ) → Type 0) (policy : Policy) (rule : BundleRule) (error : WriteError) (old mid new : Store D) (before now : Output)
       (d : Delivers moment left_since Gave policy rule old mid before now) (text : List ℕ) → Gives (d.texts ++ text ∷ []) → new.repo ≡ mid.repo → new.base ≡ mid.base → kinds_in new ≡ kinds_in mid →
       LeavesOnly moment left_since mid.journal.device new.journal.device (λ file. KeepsRepo (kinds_in mid) file (kept_in mid)) →
       (IsFailure error → faults mid.journal.device < faults new.journal.device) → (error ≢ TooLong) × (error ≢ Full) →
@@ -265,7 +265,7 @@ module _ {D : Type 0} (moment : D → ℕ) (left_since : D → ℕ → List ℕ 
   }
 
   -- a crash by then leaves what some of them leave
-  pub checkpoint_keeps_some : (Gave Gives : List (List ℕ) → Type 0) (policy : Policy) (rule : HashRule) (old mid new : Store D) (before now : Output)
+  pub checkpoint_keeps_some : (Gave Gives : List (List ℕ) → Type 0) (policy : Policy) (rule : BundleRule) (old mid new : Store D) (before now : Output)
       (d : Delivers moment left_since Gave policy rule old mid before now) (text : List ℕ) → Gives (d.texts ++ text ∷ []) →
       LeavesOnly moment left_since mid.journal.device new.journal.device (λ file. KeepsRepo (kinds_in mid) file (kept_in mid)) →
       LeavesOnly moment left_since old.journal.device new.journal.device (KeepsSome Gives (kinds_in old) (kept_in old) policy rule)

@@ -6,3 +6,4 @@ pub mod LineLemmas
 pub mod LawLemmas
 pub mod HashLemmas
 pub mod BaseLemmas
+pub mod DateLemmas

@@ -12,7 +12,7 @@ use Rattle.dm_store.specs.declared.store.Store.{Store}
 use Rattle.dm_store.specs.Kinds.{kinds_in}
 use Rattle.dm_store.specs.Keeping.{KeepsRepo, Kept, kept_in}
 use Rattle.dm_deliver.specs.declared.answers.Answer.{Answer as Reply}
-use Rattle.dm_deliver.specs.declared.hash_rule.HashRule.{HashRule}
+use Rattle.dm_deliver.specs.declared.bundle_rule.BundleRule.{BundleRule}
 use Rattle.dm_deliver.specs.declared.fault.AnswerError.{AnswerError}
 use Rattle.dm_deliver.specs.declared.fault.AnswerError.TheVariants.{Store as OfStore}
 use Rattle.dm_deliver.specs.declared.fault.DeliverError.{DeliverError}
@@ -25,7 +25,7 @@ abbrev pub lines_of : List Reply → List ℕ
 lines_of answers = flat_map answer_line answers
 
 -- the file keeps the repository that the first of the texts leave, some of them or all, which have the first of the answers
-pub record KeepsFirst (kinds : Kinds) (kept : Kept) (texts : List (List ℕ)) (policy : Policy) (rule : HashRule) (answers : List Reply) (file : List ℕ) : Type 0 where
+pub record KeepsFirst (kinds : Kinds) (kept : Kept) (texts : List (List ℕ)) (policy : Policy) (rule : BundleRule) (answers : List Reply) (file : List ℕ) : Type 0 where
   pub first : List (List ℕ)
   pub others : List (List ℕ)
   pub made : List Reply
@@ -39,7 +39,7 @@ pub record KeepsFirst (kinds : Kinds) (kept : Kept) (texts : List (List ℕ)) (p
 -- These texts came, each was answered by the repository that the one before it left, and the line of its answer written, and flushed before the next
 -- was begun. A crash at any moment of it left a file that keeps the repository after the first of them.
 pub record Delivers {D : Type 0} (moment : D → ℕ) (left_since : D → ℕ → List ℕ → Type 0) (Gave : List (List ℕ) → Type 0) (policy : Policy)
-    (rule : HashRule) (old new : Store D) (before now : Output) : Type 0 where
+    (rule : BundleRule) (old new : Store D) (before now : Output) : Type 0 where
   pub texts : List (List ℕ)
   pub answers : List Reply
   pub came : Gave texts
@@ -51,7 +51,7 @@ pub record Delivers {D : Type 0} (moment : D → ℕ) (left_since : D → ℕ �
 
 -- One text more came after those that were delivered, and isn't answered: what was done of it, and why, by the store as it was before it.
 pub record DeliversButLast {D : Type 0} (seen : D → List ℕ) (moment : D → ℕ) (left_since : D → ℕ → List ℕ → Type 0) (faults : D → ℕ) (Gave : List (List ℕ) → Type 0) (policy : Policy)
-    (rule : HashRule) (error : AnswerError) (old new : Store D) (before now : Output) : Type 0 where
+    (rule : BundleRule) (error : AnswerError) (old new : Store D) (before now : Output) : Type 0 where
   pub last : List ℕ
   pub mid : Store D
   pub written : Output
@@ -66,7 +66,7 @@ pub record DeliversButLast {D : Type 0} (seen : D → List ℕ) (moment : D → 
 -- One text more came after those that were delivered, and isn't taken, since a checkpoint failed before it, which leaves the repository as it is: why, by
 -- the store as it was before that.
 pub record DeliversAllBut {D : Type 0} (moment : D → ℕ) (left_since : D → ℕ → List ℕ → Type 0) (faults : D → ℕ) (Gave : List (List ℕ) → Type 0) (policy : Policy)
-    (rule : HashRule) (error : WriteError) (old new : Store D) (before now : Output) : Type 0 where
+    (rule : BundleRule) (error : WriteError) (old new : Store D) (before now : Output) : Type 0 where
   pub last : List ℕ
   pub mid : Store D
   pub delivered : Delivers moment left_since (λ texts. Gave (texts ++ last ∷ [])) policy rule old mid before now
@@ -79,7 +79,7 @@ pub record DeliversAllBut {D : Type 0} (moment : D → ℕ) (left_since : D → 
 
 -- what was delivered by an error: all texts that came, or all but the last
 abbrev pub DeliversUntil : {E D : Type 0} → (D → List ℕ) → (D → ℕ) → (D → ℕ → List ℕ → Type 0) → (D → ℕ) → (List (List ℕ) → Type 0) → Policy →
-    HashRule → DeliverError E → Store D → Store D → Output → Output → Type 0
+    BundleRule → DeliverError E → Store D → Store D → Output → Output → Type 0
 DeliversUntil seen moment left_since faults Gave policy rule (Source why) old new before now = Delivers moment left_since Gave policy rule old new before now
 DeliversUntil seen moment left_since faults Gave policy rule (Checkpoint why) old new before now = DeliversAllBut moment left_since faults Gave policy rule why old new before now
 DeliversUntil seen moment left_since faults Gave policy rule (Answer why) old new before now = DeliversButLast seen moment left_since faults Gave policy rule why old new before now
@@ -91,5 +91,5 @@ EndsStore (Checkpoint why) = Unit {0}
 EndsStore (Answer why) = IsOfStore why
 
 -- texts came, and the file keeps the repository that the first of them leave, some or all
-abbrev pub KeepsSome : (List (List ℕ) → Type 0) → Kinds → Kept → Policy → HashRule → List ℕ → Type 0
+abbrev pub KeepsSome : (List (List ℕ) → Type 0) → Kinds → Kept → Policy → BundleRule → List ℕ → Type 0
 KeepsSome Gave kinds kept policy rule file = (texts : List (List ℕ)) × (answers : List Reply) × Gave texts × KeepsFirst kinds kept texts policy rule answers file

@@ -3,6 +3,7 @@ pub mod FrameReading
 pub mod Calls
 pub mod Outputs
 pub mod Hashes
+pub mod Dates
 pub mod Answering
 pub mod Delivering
 pub mod Laws

@@ -14,6 +14,8 @@ pub enum Answer {
     Verdict(Verdict),
     /// It is a bundle whose hash the rule refuses. Nothing was taken.
     Hash(HashFault),
+    /// It is a bundle with a new patch whose date Darcs can't read; the text tells it at this byte. Nothing was taken.
+    Date(usize),
     /// It is a bundle that doesn't rest on the whole base with which the repository begins. Nothing was taken.
     BeforeBase,
 }
@@ -26,6 +28,7 @@ impl Answer {
         match self {
             Answer::Verdict(verdict) => verdict.is_accepted(),
             Answer::Hash(_) => false,
+            Answer::Date(_) => false,
             Answer::BeforeBase => false,
         }
     }
@@ -41,6 +44,7 @@ impl fmt::Display for Answer {
         match self {
             Answer::Verdict(verdict) => write!(f, "{verdict}"),
             Answer::Hash(fault) => write!(f, "malformed {} {}", fault.kind.word(), fault.at),
+            Answer::Date(at) => write!(f, "malformed bad-date {at}"),
             Answer::BeforeBase => f.write_str("refused before-base"),
         }
     }

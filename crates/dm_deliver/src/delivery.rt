@@ -14,8 +14,10 @@ ghost use Rattle.dm_deliver.specs.Outputs.{output, Puts};
 
 use crate::answers::{Answer, push_answer};
 use crate::base_rule::text_is_before_base;
+use crate::bundle_rule::BundleRule;
+use crate::date_rule::date_fault_within;
 use crate::fault::{AnswerError, DeliverError};
-use crate::hash_rule::{HashRule, hash_fault_within};
+use crate::hash_rule::hash_fault_within;
 use crate::line::write_line;
 use crate::observer::Observer;
 use crate::source::Source;
@@ -35,15 +37,18 @@ fn refusal_of_rules(
     base: usize,
     text: &[u8],
     kinds: Kinds,
-    rule: HashRule,
+    rule: BundleRule,
 ) -> Result<Option<Answer>, AllocError>
     ensures some { IfOk result (λ found. IfSome found (λ answer. (policy : Policy)
         → Answers kinds (kept_as base repo.now.patches) text.now policy rule answer (kept_as base repo.now.patches))) }
     ensures none { IfOk result (λ found. IfNone found (PassesRules kinds (kept_as base repo.now.patches) rule text.now)) }
 {
     let limits = Limits::STANDARD.with_kinds(kinds);
-    if let Some(fault) = hash_fault_within(alloc, text, limits, rule)? {
+    if let Some(fault) = hash_fault_within(alloc, text, limits, rule.hash)? {
         return Ok(Some(Answer::Hash(fault)));
+    }
+    if let Some(at) = date_fault_within(alloc, text, limits, rule.date)? {
+        return Ok(Some(Answer::Date(at)));
     }
     if text_is_before_base(alloc, repo, base, text, kinds)? {
         return Ok(Some(Answer::BeforeBase));
@@ -57,7 +62,7 @@ fn take_text<D: Device>(
     store: &mut Store<D>,
     text: &[u8],
     policy: Policy,
-    rule: HashRule,
+    rule: BundleRule,
 ) -> Result<Answer, AnswerError>
     requires { IsStored D.seen D.may_leave D.file_may_leave store.old }
 
@@ -97,7 +102,7 @@ fn take_text<D: Device>(
 }
 
 /// Takes a text into a store, and then writes the line of its answer and flushes the writer: a byte of the line is written only
-/// once each crash leaves a file that keeps what was taken. A bundle whose hash the rule refuses is answered by that, and not
+/// once each crash leaves a file that keeps what was taken. A bundle whose hash or date the rule refuses is answered by that, and not
 /// taken; nor is one that doesn't rest on the whole base with which the repository begins. A refused bundle is answered too,
 /// but not one for which there was no memory: that says nothing of the bundle.
 ///
@@ -108,7 +113,7 @@ pub fn answer<D: Device, W: Write>(
     store: &mut Store<D>,
     text: &[u8],
     policy: Policy,
-    rule: HashRule,
+    rule: BundleRule,
     writer: &mut Watched<W>,
 ) -> Result<Answer, AnswerError>
     requires { IsStored D.seen D.may_leave D.file_may_leave store.old }
@@ -180,7 +185,7 @@ pub fn deliver<D: Device, S: Source, O: Observer, W: Write>(
     store: &mut Store<D>,
     source: &mut S,
     policy: Policy,
-    rule: HashRule,
+    rule: BundleRule,
     observer: &mut O,
     writer: &mut Watched<W>,
 ) -> Result<bool, DeliverError<S::Error>>

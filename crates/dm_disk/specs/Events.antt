@@ -14,10 +14,12 @@ pub data Event : Type 0 where
   wrote_beside : (mode : ℕ) (bytes : List ℕ) (done : Bool) → Event
   -- the new file was synced
   synced_beside : (done : Bool) → Event
-  -- the new file was given the name; the file had the one owner, group and mode, and the new file the other
-  renamed : (old new : List ℕ) (done : Bool) → Event
+  -- the new file was given the name; the file had the one owner, group and mode, and the new file the other; it was made with this mode
+  renamed : (made : ℕ) (old new : List ℕ) (done : Bool) → Event
   -- the folder was synced
   synced_folder : (done : Bool) → Event
+  -- the file that had the name was given it again, once it had all bytes of the new file, and was synced
+  gave_back : (done : Bool) → Event
   -- a read was refused
   refused : Event
 
@@ -29,8 +31,9 @@ event_of_kind kind at rights bytes done =
     if kind == 2 then synced done else
     if kind == 3 then wrote_beside at bytes done else
     if kind == 4 then synced_beside done else
-    if kind == 5 then renamed (take 3 rights) (drop 3 rights) done else
+    if kind == 5 then renamed at (take 3 rights) (drop 3 rights) done else
     if kind == 6 then synced_folder done else
+    if kind == 7 then gave_back done else
     refused
 
 -- the event that the kind, the place, size or mode, a 1 for done, the owners, groups and modes, and the bytes stand for

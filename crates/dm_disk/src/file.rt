@@ -1,9 +1,11 @@
 //! A file on a disk. Each method makes the call that it notes, and notes it with its outcome.
-ghost use Rattle.std.specs.Prelude.{◌≡◌, ℕ, List, [], length, IfOk, Ok, IfSome, IsTrue};
+ghost use Rattle.std.specs.Prelude.{◌≡◌, ◌<◌, ℕ, List, [], length, IfOk, OnOk, IsErrOf, Ok, IfSome, IsTrue};
+ghost use Rattle.dm_journal.specs.declared.device.DeviceError.TheVariants.{Failed};
 ghost use Rattle.dm_journal.specs.Device.{IsDurable};
-ghost use Rattle.dm_disk.specs.States.{seen, may_leave, file_may_leave, beside, beside_may_leave, other_may_leave, left_since, faults, IsFresh, KeepsRights, left_now, leaves_some, left_only_now};
+ghost use Rattle.dm_disk.specs.States.{seen, may_leave, file_may_leave, beside, beside_may_leave, other_may_leave, left_since, faults, IsFresh, KeepsRights, IsGivenBack, HasNoOther, left_now, leaves_some, left_only_now};
 
-use crate::beside::{NEW_MODE, NO_RIGHTS, NewFile, take_name, write_new};
+use crate::back::{OldFile, give_back, hold, old_file};
+use crate::beside::{NEW_MODE, NOT_TAKEN, NewFile, take_name, write_new};
 use crate::fault::OpenFault;
 use crate::limit::{size_limit, write_within};
 use crate::opening::{
@@ -14,8 +16,8 @@ use crate::rehearsal::Rehearsal;
 use dm_journal::{Device, DeviceError};
 use std::alloc::Global;
 use std::fs::File;
-use std::io;
 use std::marker::Model;
+use std::{io, mem};
 
 // Which calls are made.
 #[derive(Clone, Copy, PartialEq, Eq)]
@@ -43,6 +45,8 @@ pub struct DiskFile {
     folder: File,
     // Made by the last `write_beside`.
     new_file: Option<NewFile>,
+    // The file that had the name before the last rename, until it is given back.
+    old_file: Option<OldFile>,
     path: String,
     // How many bytes a file may have.
     limit: u64,
@@ -50,6 +54,8 @@ pub struct DiskFile {
     // What was read, until it is handed out or the file is written.
     bytes: Option<Vec<u8>>,
     failure: Option<Failure>,
+    // Whether the file that has the name now has fewer rights than one that had it before.
+    lost_rights: bool,
     log: Record,
 }
 
@@ -61,11 +67,13 @@ impl Drop for DiskFile {
             file: _,
             folder: _,
             new_file: _,
+            old_file: _,
             path: _,
             limit: _,
             phase: _,
             bytes: _,
             failure: _,
+            lost_rights: _,
             log: _,
         } = self;
     }
@@ -185,28 +193,31 @@ impl Device for DiskFile {
         self.bytes = None;
         if self.phase == Phase::Ready
             && let Some(new_file) = self.new_file.take()
-            && let Some((old, new)) = done(
+            && let Some(taking) = done(
                 &mut self.failure,
                 take_name(&self.rt, self.path.as_str(), &self.file, &new_file),
             )
         {
-            self.file = new_file.file;
+            let old = mem::replace(&mut self.file, new_file.file);
+            self.lost_rights |= taking.loses_rights();
+            self.old_file = old_file(old, taking.second);
             self.phase = Phase::Renamed;
-            self.log.renamed(old, new, true);
+            self.log.renamed(taking.taken, true);
             return Ok(());
         }
-        self.log.renamed(NO_RIGHTS, NO_RIGHTS, false);
+        self.log.renamed(NOT_TAKEN, false);
         self.phase = Phase::Stopped;
         Err(DeviceError::Failed)
     }
 
+    /// A file that had the name before gets it back then, with the same bytes, and the folder is synced again.
     fn sync_folder(&mut self) -> Result<(), DeviceError> {
         if self.phase != Phase::Stopped
             && sync_done(&mut self.failure, self.folder.sync_all()).is_some()
         {
             self.log.synced_folder(true);
             self.phase = Phase::Ready;
-            return Ok(());
+            return self.give_back();
         }
         self.log.synced_folder(false);
         self.phase = Phase::Stopped;
@@ -241,11 +252,13 @@ impl DiskFile {
             file,
             folder,
             new_file: None,
+            old_file: None,
             path: path.to_string(rt.alloc())?,
             limit,
             phase: phase_of(access),
             bytes: Some(bytes),
             failure: None,
+            lost_rights: false,
             log,
         })
     }
@@ -277,7 +290,40 @@ impl DiskFile {
         failure.is_sync
     }
 
-    /// A new file was made for its owner alone, and took the name only from a file of the same owner, group and mode.
+    /// Whether rights were lost: a new file took the name, with the rights of its owner alone, and the old file, which has others,
+    /// didn't get it back. They have to be given again.
+    pub fn lost_rights(&self) -> bool {
+        self.lost_rights
+    }
+
+    // Gives the name back to the file that had it, and syncs the folder. Where that fails before it has the name, the file that
+    // has it keeps it.
+    fn give_back(&mut self) -> Result<(), DeviceError>
+        ensures given { IsGivenBack self.old self.new }
+        ensures named { OnOk result (HasNoOther self.old → HasNoOther self.new) }
+        ensures failed { IsErrOf result Failed → faults self.old < faults self.new }
+    {
+        let Some(old) = self.old_file.take() else {
+            return Ok(());
+        };
+        let given = give_back(&self.rt, self.path.as_str(), self.limit, &self.file, &old);
+        self.lost_rights = given != Some(true);
+        let Some(done) = given else {
+            return Ok(());
+        };
+        hold(&mut self.file, old, done);
+        self.log.gave_back(done);
+        if sync_done(&mut self.failure, self.folder.sync_all()).is_some() {
+            self.log.synced_folder(true);
+            return Ok(());
+        }
+        self.log.synced_folder(false);
+        self.phase = Phase::Stopped;
+        Err(DeviceError::Failed)
+    }
+
+    /// A new file was made for its owner alone, and took the name with the same owner and group. It took the mode only where the
+    /// group and others have the same bits, or where the file system gave it by itself, else the bits of its owner alone.
     pub fn keeps_rights(&self)
         ensures { KeepsRights self.now }
     {

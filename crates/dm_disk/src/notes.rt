@@ -1,8 +1,8 @@
 //! The events by name.
 ghost use Rattle.std.specs.Prelude.{◌≡◌, ◌∷◌};
-ghost use Rattle.dm_disk.specs.Events.{opened, wrote, synced, wrote_beside, synced_beside, renamed, synced_folder, refused, rights};
+ghost use Rattle.dm_disk.specs.Events.{opened, wrote, synced, wrote_beside, synced_beside, renamed, synced_folder, gave_back, refused, rights};
 
-use crate::beside::Rights;
+use crate::beside::Taken;
 use crate::record::Record;
 
 const OPENED: u64 = 0;
@@ -19,7 +19,9 @@ const RENAMED: u64 = 5;
 
 const SYNCED_FOLDER: u64 = 6;
 
-const REFUSED: u64 = 7;
+const GAVE_BACK: u64 = 7;
+
+const REFUSED: u64 = 8;
 
 impl Record {
     // The file and its name are on the disk, these bytes were read, and the system told this size.
@@ -57,21 +59,21 @@ impl Record {
         self.note(&[SYNCED_BESIDE, 0, u64::from(done)], &[]);
     }
 
-    // The new file was given the name; the rights of the file, and its own.
-    pub(crate) fn renamed(&mut self, old: Rights, new: Rights, done: bool)
-        ensures { self.new.events ≡ renamed (rights old) (rights new) done ∷ self.old.events }
+    // The new file was given the name; the rights of the file, and its own, and the mode that it was made with.
+    pub(crate) fn renamed(&mut self, taken: Taken, done: bool)
+        ensures { self.new.events ≡ renamed taken.made (rights taken.old) (rights taken.new) done ∷ self.old.events }
     {
         self.note(
             &[
                 RENAMED,
-                0,
+                u64::from(taken.made),
                 u64::from(done),
-                u64::from(old.owner),
-                u64::from(old.group),
-                u64::from(old.mode),
-                u64::from(new.owner),
-                u64::from(new.group),
-                u64::from(new.mode),
+                u64::from(taken.old.owner),
+                u64::from(taken.old.group),
+                u64::from(taken.old.mode),
+                u64::from(taken.new.owner),
+                u64::from(taken.new.group),
+                u64::from(taken.new.mode),
             ],
             &[],
         );
@@ -82,6 +84,13 @@ impl Record {
         ensures { self.new.events ≡ synced_folder done ∷ self.old.events }
     {
         self.note(&[SYNCED_FOLDER, 0, u64::from(done)], &[]);
+    }
+
+    // The file that had the name was given it again.
+    pub(crate) fn gave_back(&mut self, done: bool)
+        ensures { self.new.events ≡ gave_back done ∷ self.old.events }
+    {
+        self.note(&[GAVE_BACK, 0, u64::from(done)], &[]);
     }
 
     // A read was refused.

@@ -7,13 +7,16 @@
 //! name is given, once somebody has removed the file or put another in its place.
 ghost use Rattle.std.specs.Prelude.{◌≡◌, length, IfOk};
 
-use crate::beside::longest_path;
+use crate::back::{old_path, remove_name};
+use crate::beside::{longest_path, new_paths};
 use crate::fault::OpenFault;
 use std::fs::{self, File, Metadata, OpenOptions, TryLockError};
 use std::io::{self, Read};
 use std::os::fd::AsRawFd;
 use std::os::unix::fs::{MetadataExt, OpenOptionsExt};
 use std::path::Path;
+use std::thread;
+use std::time::Duration;
 
 /// What a file is opened for.
 #[derive(Clone, Copy, Debug, PartialEq, Eq)]
@@ -41,6 +44,9 @@ const MODE: u32 = 0o666;
 // How often the name may lead to another file once the lock is there.
 const TRIES: usize = 1000;
 
+// How long to wait between two of them, where the file is about to get its rights.
+const PAUSE_MILLIS: u64 = 10;
+
 // The file at the path, locked.
 pub(crate) fn open_locked(
     rt: &HostRuntime,
@@ -48,24 +54,80 @@ pub(crate) fn open_locked(
     access: Access,
     lock: Lock,
 ) -> Result<File, OpenFault> {
+    let mut fault = OpenFault::Busy;
     for _ in 0..TRIES {
-        let Some(file) = find_or_make(rt, path, access)? else {
-            continue;
+        let found = match find_or_make(rt, path, access) {
+            Err(OpenFault::Io(error)) if gets_rights(rt, path, error) => {
+                if lock == Lock::Try {
+                    return Err(OpenFault::Busy);
+                }
+                fault = OpenFault::Io(error);
+                thread::sleep(rt, Duration::from_millis(PAUSE_MILLIS));
+                None
+            }
+            found => found?,
         };
-        take_lock(&file, access, lock)?;
-        if leads_to(rt, path, &file) {
-            refuse_unfit(&file.metadata()?, access)?;
+        if let Some(file) = found
+            && is_locked(rt, path, &file, access, lock)?
+        {
             return Ok(file);
         }
     }
-    Err(OpenFault::Busy)
+    Err(fault)
+}
+
+// Whether the file, once it is locked, stands at the path. What a checkpoint that was cut short has left of a second name is
+// removed.
+fn is_locked(
+    rt: &HostRuntime,
+    path: &str,
+    file: &File,
+    access: Access,
+    lock: Lock,
+) -> Result<bool, OpenFault> {
+    take_lock(file, access, lock)?;
+    if !leads_to(rt, path, file) {
+        return Ok(false);
+    }
+    if access != Access::Read && file.metadata()?.nlink() > 1 {
+        remove_second(rt, path, file)?;
+    }
+    refuse_unfit(&file.metadata()?, access)?;
+    Ok(true)
+}
+
+// Removes the second name that this file got for a checkpoint, whose new file has not taken its name.
+fn remove_second(rt: &HostRuntime, path: &str, file: &File) -> Result<(), OpenFault> {
+    for new_path in &new_paths(rt, path, file)? {
+        if let Ok(new_file) = fs::symlink_metadata(rt, new_path.as_str()) {
+            remove_name(rt, old_path(rt, path, new_file.ino())?.as_str(), file);
+        }
+    }
+    Ok(())
+}
+
+// Whether a file was refused by its rights, and the file of the name before is about to get that back.
+fn gets_rights(rt: &HostRuntime, path: &str, error: io::Error) -> bool {
+    if error.kind() != io::ErrorKind::PermissionDenied {
+        return false;
+    }
+    let Ok(found) = fs::symlink_metadata(rt, path) else {
+        return false;
+    };
+    let Ok(name) = old_path(rt, path, found.ino()) else {
+        return false;
+    };
+    match fs::symlink_metadata(rt, name.as_str()) {
+        Ok(old) => old.is_file(),
+        Err(_) => false,
+    }
 }
 
 // The file at the path. `None` if somebody has removed or made it meanwhile.
 fn find_or_make(rt: &HostRuntime, path: &str, access: Access) -> Result<Option<File>, OpenFault> {
     match fs::symlink_metadata(rt, path) {
         Ok(found) => {
-            refuse_unfit(&found, access)?;
+            refuse_kind(&found)?;
             let mut how = OpenOptions::new();
             how.read(true).write(access != Access::Read);
             unless(io::ErrorKind::NotFound, how.open(rt, path))
@@ -138,13 +200,18 @@ pub(crate) fn refuse_name(rt: &HostRuntime, path: &str, access: Access) -> Resul
     }
 }
 
-fn refuse_unfit(found: &Metadata, access: Access) -> Result<(), OpenFault> {
+fn refuse_kind(found: &Metadata) -> Result<(), OpenFault> {
     if found.is_symlink() {
         return Err(OpenFault::Link);
     }
     if !found.is_file() {
         return Err(OpenFault::NotAFile);
     }
+    Ok(())
+}
+
+fn refuse_unfit(found: &Metadata, access: Access) -> Result<(), OpenFault> {
+    refuse_kind(found)?;
     if access != Access::Read && found.nlink() > 1 {
         return Err(OpenFault::TwoNames);
     }

@@ -3,7 +3,7 @@ ghost use Rattle.std.specs.Prelude.{◌≡◌, ℕ, List, length, IfSome};
 ghost use Rattle.dm_journal.specs.Device.{IsDurable};
 ghost use Rattle.dm_disk.specs.States.{seen, may_leave, file_may_leave, beside, beside_may_leave, left_since, faults, left_now, leaves_some, left_only_now};
 
-use crate::beside::{NEW_MODE, NO_RIGHTS};
+use crate::beside::{NEW_MODE, NOT_TAKEN};
 use crate::record::Record;
 use dm_journal::{Device, DeviceError};
 use std::alloc::Global;
@@ -116,7 +116,7 @@ impl Device for Rehearsal {
     fn rename(&mut self) -> Result<(), DeviceError> {
         self.bytes = None;
         self.phase = Phase::Renamed;
-        self.log.renamed(NO_RIGHTS, NO_RIGHTS, true);
+        self.log.renamed(NOT_TAKEN, true);
         Ok(())
     }
 

@@ -84,6 +84,7 @@ fn a_journal_in_a_file_lasts(rt: HostRuntime) -> Result<(), Fail> {
         "it is opened again, and another put in its place"
     );
     assert_eq!(rt; fs::metadata(&rt, PATH)?.mode() & 0o777, 0o640);
+    assert_eq!(rt; fs::metadata(&rt, PATH)?.ino(), inode);
     assert_eq!(rt;
         fs::read(&rt, "dm_disk_test/other")?.as_slice(),
         b"kept".as_slice()

@@ -2,12 +2,12 @@
 use Rattle.std.proofs.Common.{◌≡◌, ◌+◌, ◌↔◌, ℕ, List, Bool, All, IsTrue, arith}
 use Rattle.dm_repo.specs.declared.policy.Policy.{Policy}
 use Rattle.dm_store.specs.declared.store.Store.{Store}
-use Rattle.dm_deliver.specs.declared.hash_rule.HashRule.{HashRule}
+use Rattle.dm_deliver.specs.declared.bundle_rule.BundleRule.{BundleRule}
 use Rattle.dm_deliver.specs.Outputs.{Output}
 use Rattle.dm_deliver.specs.Answering.{IsAcceptedAnswer}
 use Rattle.dm_deliver.specs.Delivering.{Delivers}
 
-pub told_less : {D : Type 0} {moment : D → ℕ} {left_since : D → ℕ → List ℕ → Type 0} {Gave Told : List (List ℕ) → Type 0} {policy : Policy} {rule : HashRule}
+pub told_less : {D : Type 0} {moment : D → ℕ} {left_since : D → ℕ → List ℕ → Type 0} {Gave Told : List (List ℕ) → Type 0} {policy : Policy} {rule : BundleRule}
     {old new : Store D} {before now : Output} (all : Bool) → ((texts : List (List ℕ)) → Gave texts → Told texts)
     → (d : Delivers moment left_since Gave policy rule old new before now) × (IsTrue all ↔ All IsAcceptedAnswer d.answers)
     → (d : Delivers moment left_since Told policy rule old new before now) × (IsTrue all ↔ All IsAcceptedAnswer d.answers)

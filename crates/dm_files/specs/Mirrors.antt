@@ -4,7 +4,7 @@ use Rattle.dm_named.specs.declared.limits.Kinds.{Kinds}
 use Rattle.dm_repo.specs.declared.policy.Policy.{Policy}
 use Rattle.dm_store.specs.Keeping.{Kept}
 use Rattle.dm_deliver.specs.declared.answers.Answer.{Answer}
-use Rattle.dm_deliver.specs.declared.hash_rule.HashRule.{HashRule}
+use Rattle.dm_deliver.specs.declared.bundle_rule.BundleRule.{BundleRule}
 use Rattle.dm_deliver.specs.Answering.{AnswersEach, IsAcceptedAnswer}
 use Rattle.dm_commands.specs.Mirrors.{HasMirrorFault, IsInTheWay}
 use Rattle.dm_commands.specs.declared.mirror.MirrorFault.TheVariants.{Bad}
@@ -16,7 +16,7 @@ use Rattle.dm_files.specs.declared.delivering.Stop.{Stop}
 use Rattle.dm_files.specs.declared.delivering.Stop.TheVariants.{Mirror, Beside}
 
 -- texts that may have primitives of these kinds were answered in turn, each by the repository that the one before it left, and the exit status says whether all were accepted
-pub record AnswersAll (kinds : Kinds) (policy : Policy) (rule : HashRule) (old new : Kept) (status : ℕ) : Type 0 where
+pub record AnswersAll (kinds : Kinds) (policy : Policy) (rule : BundleRule) (old new : Kept) (status : ℕ) : Type 0 where
   pub texts : List (List ℕ)
   pub answers : List Answer
   pub takes : AnswersEach kinds old texts policy rule answers new

@@ -17,10 +17,10 @@ use crate::word_fault::WordFault;
 use crate::words::kinds_of;
 use clap::ArgMatches;
 use dm_commands::{ToolFault, Unbegun, kept_or_new_mirror, new_mirror, repo_of, write_text};
-use dm_deliver::{Answer, HashRule, hash_fault_within};
+use dm_deliver::{Answer, DateRule, HashRule, date_fault_within, hash_fault_within};
 use dm_disk::{Access, DiskFile, Rehearsal};
 use dm_named::Kinds;
-use dm_remarks::{Colour, Reading, explain_base, explain_hash_fault};
+use dm_remarks::{Colour, Reading, explain_base, explain_date, explain_hash_fault};
 use dm_repo::Repo;
 use dm_store::Store;
 use std::alloc::Global;
@@ -34,25 +34,40 @@ struct Start {
     base: usize,
 }
 
-/// Refuses a base whose hash is wrong: a mirror can't give it back.
-fn refuse_wrong_hash<'a>(
+/// Refuses a base whose hash is wrong, or with a date that Darcs can't read: a mirror can't give it back.
+fn refuse_unfit_base<'a>(
     rt: &HostRuntime,
     colour: Colour,
     words: &ArgMatches<'_>,
     file: &BaseFile<'_>,
 ) -> Result<(), WordFault<'a>> {
     let base = file.base();
-    let found = hash_fault_within(rt.alloc(), base.text, base.limits, HashRule::NotWrong)?;
-    let Some(fault) = found else {
-        return Ok(());
-    };
-    let name = file.name;
-    let answer = Answer::Hash(fault);
-    let _ = eprintln!(rt; "dm: {name}: {answer}");
-    if words.get_flag("explain") {
-        explain_hash_fault(rt, colour, fault);
+    let explains = words.get_flag("explain");
+    if let Some(fault) = hash_fault_within(
+        rt.alloc(),
+        base.text,
+        base.limits,
+        HashRule::NotWrong,
+    )? {
+        say_unfit(rt, file.name, Answer::Hash(fault));
+        if explains {
+            explain_hash_fault(rt, colour, fault);
+        }
+        return Err(WordFault::Said);
     }
-    Err(WordFault::Said)
+    if let Some(at) = date_fault_within(rt.alloc(), base.text, base.limits, DateRule::Readable)? {
+        say_unfit(rt, file.name, Answer::Date(at));
+        if explains {
+            explain_date(rt, colour, at);
+        }
+        return Err(WordFault::Said);
+    }
+    Ok(())
+}
+
+/// Says why a base isn't taken.
+fn say_unfit(rt: &HostRuntime, name: &str, answer: Answer) {
+    let _ = eprintln!(rt; "dm: {name}: {answer}");
 }
 
 /// The repository with which a mirror begins: that of `--base` or `--repository`, or an empty one. Why it isn't taken is explained
@@ -65,7 +80,7 @@ fn read_start<'a>(
 ) -> Result<Repo<Global>, WordFault<'a>> {
     let file = read_base(rt, words)?;
     if let Some(file) = &file {
-        refuse_wrong_hash(rt, colour, words, file)?;
+        refuse_unfit_base(rt, colour, words, file)?;
     }
     match (repo_of(rt.alloc(), base_of(&file)), &file) {
         (Ok(repo), _) => Ok(repo),

@@ -76,6 +76,12 @@ fn choose<'a>(
     Ok(names)
 }
 
+/// A patch's place as `dm log --places` prints it, and its label.
+fn placed_label(alloc: Global, place: usize, info: &Info<Global>) -> Result<String, AllocError> {
+    let label = label_of(alloc, info)?;
+    format!(in alloc; "#{place} {label}")
+}
+
 /// Why words choose nothing; of two patches that a word names, both are told.
 fn refuse_choice<'a>(
     rt: &HostRuntime,
@@ -92,10 +98,10 @@ fn refuse_choice<'a>(
     if first >= repo.len() || second >= repo.len() {
         return Ok(WordFault::TakeBack(TakeBackFault::UnknownPatch(word)));
     }
-    let first = label_of(rt.alloc(), repo.patch(first).info())?;
-    let second = label_of(rt.alloc(), repo.patch(second).info())?;
+    let first = placed_label(rt.alloc(), first + 1, repo.patch(first).info())?;
+    let second = placed_label(rt.alloc(), second + 1, repo.patch(second).info())?;
     let _ = eprintln!(rt;
-        "dm: {word} names two patches: {first} and {second}; more digits of a hash tell them apart"
+        "dm: {word} names two patches: {first} and {second}; their places tell them apart"
     );
     Ok(WordFault::Said)
 }

@@ -12,12 +12,14 @@ use crate::beginning::{open_mirror, rehearse_mirror, rehearse_start};
 use crate::bundles::Bundles;
 use crate::input::INPUT;
 use crate::listing::Listing;
-use crate::mirror::blame;
+use crate::mirror::{blame, say_lost_rights};
 use crate::word_fault::WordFault;
 use crate::words::{kinds_of, policy_of, refuse_kinds};
 use clap::ArgMatches;
 use dm_commands::{ToolFault, push_repo, write_text};
-use dm_deliver::{AnswerError, DeliverError, Framed, HashRule, Watched, deliver};
+use dm_deliver::{
+    AnswerError, BundleRule, DateRule, DeliverError, Framed, HashRule, Watched, deliver,
+};
 use dm_disk::DiskFile;
 use dm_journal::{Device, WriteError};
 use dm_named::Kinds;
@@ -48,13 +50,27 @@ impl<'a> Stop<'a> {
     }
 }
 
-/// What is asked of the hash behind a bundle.
-fn rule_of(words: &ArgMatches<'_>, otherwise: HashRule) -> HashRule {
+/// What is asked of a bundle where no mirror is: that its hash is right, if the words ask for it.
+const ANY: BundleRule = BundleRule {
+    hash: HashRule::Any,
+    date: DateRule::Any,
+};
+
+/// What is asked of a bundle for a mirror, besides: that darcs can take it too.
+const FIT_FOR_DARCS: BundleRule = BundleRule {
+    hash: HashRule::NotWrong,
+    date: DateRule::Readable,
+};
+
+/// What is asked of a bundle.
+fn rule_of(words: &ArgMatches<'_>, otherwise: BundleRule) -> BundleRule {
     if words.get_flag("hash") {
-        HashRule::Right
-    } else {
-        otherwise
+        return BundleRule {
+            hash: HashRule::Right,
+            ..otherwise
+        };
     }
+    otherwise
 }
 
 /// Takes each of these bundles in turn, and answers each.
@@ -63,7 +79,7 @@ fn take_named<'a, D: Device, W: Write>(
     names: &[&'a str],
     store: &mut Store<D>,
     policy: Policy,
-    rule: HashRule,
+    rule: BundleRule,
     watcher: &mut Watcher<'_, 'a>,
     writer: &mut Watched<W>,
 ) -> Result<bool, Stop<'a>>
@@ -96,7 +112,7 @@ fn take_stream<'a, D: Device, W: Write>(
     rt: &HostRuntime,
     store: &mut Store<D>,
     policy: Policy,
-    rule: HashRule,
+    rule: BundleRule,
     watcher: &mut Watcher<'_, 'a>,
     writer: &mut Watched<W>,
 ) -> Result<bool, Stop<'a>>
@@ -156,7 +172,7 @@ fn take_words<'a, D: Device, W: Write>(
     words: &ArgMatches<'a>,
     store: &mut Store<D>,
     policy: Policy,
-    rule: HashRule,
+    rule: BundleRule,
     writer: &mut Watched<W>,
 ) -> Result<bool, Stop<'a>>
     requires { IsStored D.seen D.may_leave D.file_may_leave store.old }
@@ -186,7 +202,7 @@ fn take_and_show<'a, D: Device>(
     words: &ArgMatches<'a>,
     store: &mut Store<D>,
     policy: Policy,
-    rule: HashRule,
+    rule: BundleRule,
 ) -> Result<u8, Stop<'a>>
     requires { IsStored D.seen D.may_leave D.file_may_leave store.old }
     ensures answers { IfOk result (AnswersAll (kinds_in store.old) policy rule (kept_in store.old) (kept_in store.new)) }
@@ -210,11 +226,15 @@ fn settle(rt: &HostRuntime, path: &str, store: Store<DiskFile>)
 {
     let mut store = store;
     if !store.wants_checkpoint() {
+        say_lost_rights(rt, path, &store.into_device());
         return;
     }
-    if let Err(fault) = store.checkpoint(rt.alloc()) {
-        say_unsettled(rt, path, fault, &store.into_device());
+    let done = store.checkpoint(rt.alloc());
+    let file = store.into_device();
+    if let Err(fault) = done {
+        say_unsettled(rt, path, fault, &file);
     }
+    say_lost_rights(rt, path, &file);
 }
 
 fn say_unsettled(rt: &HostRuntime, path: &str, fault: WriteError, file: &DiskFile) {
@@ -248,7 +268,7 @@ pub fn apply_each<'a>(
         words,
         &mut store,
         policy_of(words),
-        rule_of(words, HashRule::Any),
+        rule_of(words, ANY),
     );
     status_of_trial(tried, path)
 }
@@ -275,7 +295,7 @@ pub fn apply_to_mirror<'a>(
 ) -> Result<u8, WordFault<'a>> {
     refuse_kinds(words)?;
     let policy = policy_of(words);
-    let rule = rule_of(words, HashRule::NotWrong);
+    let rule = rule_of(words, FIT_FOR_DARCS);
     if words.get_flag("dry-run") {
         let mut store = rehearse_mirror(rt, colour, words, path, is_terminal)?;
         refuse_bundle_of_base(words, path, store.base())?;

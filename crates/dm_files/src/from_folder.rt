@@ -61,8 +61,8 @@ fn read_tree<'a>(rt: &HostRuntime, words: &ArgMatches<'a>) -> Result<Tree<Global
     } else {
         Special::Refuse
     };
-    let source = SystemFolder::new(*rt);
-    match read_folder(rt.alloc(), &source, folder, special) {
+    let mut source = SystemFolder::new(*rt);
+    match read_folder(rt.alloc(), &mut source, folder, special) {
         Ok(tree) => Ok(tree),
         Err(fault) => Err(refuse_folder(rt, folder, &fault)),
     }

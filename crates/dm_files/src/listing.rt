@@ -1,11 +1,9 @@
 //! Standard output, on which a listing is printed.
-use std::alloc::Global;
+use dm_quoted::Lines;
 use std::io::{self, IsTerminal, Write};
 
-const DIGITS: &[u8; 16] = b"0123456789abcdef";
-
-/// Standard output. Where it is a terminal, and a listing is printed, a control byte of a name is shown as `\x1b`, so that no name
-/// moves what stands on the screen; elsewhere each byte stays as it is.
+/// Standard output. Where it is a terminal, and a listing is printed, it is shown as [`Lines`], so that no name moves what stands on
+/// the screen; elsewhere each byte stays as it is.
 #[derive(Drop)]
 pub struct Listing {
     rt: HostRuntime,
@@ -22,29 +20,15 @@ impl Listing {
     }
 }
 
-/// The bytes as a terminal is given them.
-fn shown(alloc: Global, bytes: &[u8]) -> io::Result<Vec<u8>> {
-    let mut out = Vec::new(alloc);
-    for byte in bytes {
-        if (*byte < 32 && *byte != b'\n' && *byte != b'\t') || *byte == 127 {
-            let high = DIGITS[(*byte / 16) as usize];
-            let low = DIGITS[(*byte % 16) as usize];
-            out.extend_from_slice(&[b'\\', b'x', high, low])?;
-        } else {
-            out.push(*byte)?;
-        }
-    }
-    Ok(out)
-}
-
 impl Write for Listing {
     fn write(&mut self, bytes: &[u8]) -> io::Result<usize> {
         let mut writer = io::writer(&self.rt);
         if !self.is_shown {
             return writer.write(bytes);
         }
-        let out = shown(self.rt.alloc(), bytes)?;
-        writer.write_all(&out)?;
+        let lines = Lines { text: bytes };
+        let shown = format!(in self.rt.alloc(); "{lines}")?;
+        writer.write_all(shown.as_bytes())?;
         Ok(bytes.len())
     }
 

@@ -19,6 +19,8 @@ use dm_quoted::Quoted;
 use dm_repo::Repo;
 use dm_store::{Store, StoreError};
 use std::alloc::Global;
+use std::fs::File;
+use std::io::Read;
 use std::rt::Runtime;
 use std::thread;
 use std::time::Duration;
@@ -84,16 +86,23 @@ fn is_unknown(fault: &MirrorFault) -> bool {
 /// How much of a field that isn't known is said.
 const SHOWN_BYTES: usize = 60;
 
-/// Says which field of a file's header isn't known here, where the file isn't opened for its header, and that has named fields.
-fn say_unknown_field<D: Device + Drop>(rt: &HostRuntime, fault: MirrorFault, device: D) {
-    if !is_unknown(&fault) {
+/// How much of a file is read for its header.
+const HEADER_BYTES: usize = 4096;
+
+/// Says which field of a file's header isn't known here, where the file isn't opened for its header, and that has named fields and
+/// stands within the first 4,096 bytes.
+fn say_unknown_field(rt: &HostRuntime, path: &str, fault: &MirrorFault) {
+    if !is_unknown(fault) {
         return;
     }
-    let mut device = device;
-    let Ok(bytes) = device.read(rt.alloc()) else {
+    let Ok(mut file) = File::open(rt, path) else {
         return;
     };
-    let Some(field) = unknown_field(&bytes) else {
+    let mut bytes = [0; HEADER_BYTES];
+    let Ok(count) = file.read(&mut bytes) else {
+        return;
+    };
+    let Some(field) = unknown_field(&bytes[..count]) else {
         return;
     };
     let text = &field[..field.len().min(SHOWN_BYTES)];
@@ -116,7 +125,8 @@ pub fn open_store<'a, D: Device + Drop>(
     match kept_mirror(rt.alloc(), device) {
         Ok(store) => Ok(store),
         Err((fault, device)) => {
-            say_unknown_field(rt, fault, device);
+            drop(device);
+            say_unknown_field(rt, path, &fault);
             Err(of_kept(path, fault))
         }
     }
@@ -175,6 +185,15 @@ pub fn find_file<'a>(
         Ok(file) => Ok(Some(file)),
         Err(WordFault::Unopened(_, OpenFault::Missing)) => Ok(None),
         Err(fault) => Err(fault),
+    }
+}
+
+/// Says that a mirror's file has the rights of its owner alone, where others had some.
+pub fn say_lost_rights(rt: &HostRuntime, path: &str, file: &DiskFile) {
+    if file.lost_rights() {
+        let _ = eprintln!(rt;
+            "dm: {path} has its owner's rights alone now: give the others theirs again"
+        );
     }
 }
 

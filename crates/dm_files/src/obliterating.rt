@@ -11,7 +11,7 @@ ghost use Rattle.dm_commands.specs.Obliterating.{ObliteratesBehind, TakesOut};
 
 use crate::base_tag::refuse_before_base;
 use crate::choosing::{chosen_names, label_of};
-use crate::mirror::{blame, open_file, open_store, unopened};
+use crate::mirror::{blame, open_file, open_store, say_lost_rights, unopened};
 use crate::take_back_fault::TakeBackFault;
 use crate::word_fault::WordFault;
 use clap::ArgMatches;
@@ -297,8 +297,11 @@ pub fn obliterate_chosen<'a>(
     };
     let file = open_file(rt, words, path, access, is_terminal)?;
     let mut store = open_store(rt, path, file)?;
-    match take_chosen(rt, colour, words, path, &mut store) {
+    let taken = take_chosen(rt, colour, words, path, &mut store);
+    let file = store.into_device();
+    say_lost_rights(rt, path, &file);
+    match taken {
         Ok(status) => Ok(status),
-        Err(fault) => Err(blame(fault, &store.into_device())),
+        Err(fault) => Err(blame(fault, &file)),
     }
 }

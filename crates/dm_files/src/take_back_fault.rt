@@ -5,8 +5,8 @@ use thiserror::Error;
 /// Why patches aren't taken out of a mirror, or not undone.
 #[derive(Clone, Copy, Debug, Error)]
 pub enum TakeBackFault<'a> {
-    /// No patch of the mirror has this name, nor a hash that begins so.
-    #[error("the mirror holds no patch {0}: a name or the first seven digits of a hash are wanted, as dm log prints them")]
+    /// No patch of the mirror has this name, this place, or a hash that begins so.
+    #[error("the mirror holds no patch {0}: a name, the first seven digits of a hash or a place is wanted, as dm log --places prints them")]
     UnknownPatch(&'a str),
     /// The file of this name was to be made, and has bytes.
     #[error("{0} is there already")]
@@ -17,7 +17,7 @@ pub enum TakeBackFault<'a> {
     /// What would stay in the mirror of this name is past the limits of a repository of one's own.
     #[error("what stays is too large for {0}")]
     TooLargeToStay(&'a str),
-    /// A date isn't fourteen digits.
+    /// A date isn't fourteen digits, or Darcs can't read it.
     #[error("bad date {0}: fourteen digits are wanted, as 20261127093000, in UTC")]
     BadDate(&'a str),
     /// The system's clock can't be read.

@@ -7,6 +7,7 @@ use crate::take_back_fault::TakeBackFault;
 use crate::word_fault::WordFault;
 use clap::ArgMatches;
 use dm_commands::{names_base, text_of, undo_chosen, write_text};
+use dm_date::is_readable;
 use dm_info::Info;
 use dm_send::UndoFault;
 use jiff_core::civil::DateTime;
@@ -39,7 +40,8 @@ fn read_clock(rt: &HostRuntime) -> Option<DateTime> {
 /// The date of a new patch: that of the words, or the system's.
 fn date_of<'a>(rt: &HostRuntime, words: &ArgMatches<'a>) -> Result<String, WordFault<'a>> {
     if let Some(date) = words.get_str("date") {
-        if date.len() != 14 || !date.bytes().all(|byte| byte.is_ascii_digit()) {
+        let are_digits = date.len() == 14 && date.bytes().all(|byte| byte.is_ascii_digit());
+        if !are_digits || !is_readable(date.as_bytes()) {
             return Err(WordFault::TakeBack(TakeBackFault::BadDate(date)));
         }
         return Ok(format!(in rt.alloc(); "{date}")?);

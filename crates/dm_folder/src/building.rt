@@ -5,6 +5,7 @@ ghost use Rattle.dm_tree.specs.Trees.{Entry, File};
 ghost use Rattle.dm_tree.specs.Changes.{AddAnswers};
 ghost use Rattle.dm_folder.specs.Walks.{rows_in};
 ghost use Rattle.dm_folder.specs.Builds.{IsBuilt, IsHeld, is_dir};
+ghost use Rattle.dm_folder.specs.Keeps.{Keeps};
 ghost use Rattle.dm_folder.specs.Faults.{IsBuildFault, IsRowFault, IsTreeFault};
 
 use crate::cutting::lines_of;
@@ -18,12 +19,13 @@ use std::alloc::{AllocError, Global};
 /// The tree of these directories and files, whose bytes are asked for.
 pub(crate) fn build<S: Source>(
     alloc: Global,
-    source: &S,
+    source: &mut S,
     top: &str,
     rows: &[Row],
 ) -> Result<Tree<Global>, FolderFault>
-    ensures ok { IfOk result (IsBuilt (S.Holds source.now) top.now (rows_in rows.now)) }
-    ensures err { IfErr result (IsBuildFault (S.Holds source.now) (S.Fails source.now) top.now (rows_in rows.now)) }
+    ensures ok { IfOk result (IsBuilt (S.Holds source.new) top.now (rows_in rows.now)) }
+    ensures err { IfErr result (IsBuildFault (S.Holds source.new) (S.Fails source.new) top.now (rows_in rows.now)) }
+    ensures keeps { Keeps (S.Lists source.old) (S.Lists source.new) (S.Holds source.old) (S.Holds source.new) (S.Fails source.old) (S.Fails source.new) }
 {
     let mut tree = Tree::new(alloc);
     for row in rows {
@@ -35,13 +37,14 @@ pub(crate) fn build<S: Source>(
 /// Adds a directory, or a file and its lines.
 fn add_row<S: Source>(
     alloc: Global,
-    source: &S,
+    source: &mut S,
     top: &str,
     tree: &mut Tree<Global>,
     row: &Row,
 ) -> Result<(), FolderFault>
-    ensures ok { OnOk result ((e : Entry) × (is_dir e ≡ row.now.is_dir) × IsHeld (S.Holds source.now) top.now (row.now.path, e) × (map.get tree.old row.now.path ≡ None) × (tree.new ≡ map.insert tree.old row.now.path e)) }
-    ensures err { IfErr result (IsRowFault (S.Fails source.now) top.now tree.old row.now.path) }
+    ensures ok { OnOk result ((e : Entry) × (is_dir e ≡ row.now.is_dir) × IsHeld (S.Holds source.new) top.now (row.now.path, e) × (map.get tree.old row.now.path ≡ None) × (tree.new ≡ map.insert tree.old row.now.path e)) }
+    ensures err { IfErr result (IsRowFault (S.Fails source.new) top.now tree.old row.now.path) }
+    ensures keeps { Keeps (S.Lists source.old) (S.Lists source.new) (S.Holds source.old) (S.Holds source.new) (S.Fails source.old) (S.Fails source.new) }
 {
     let place = place_of(alloc, top, &row.path)?;
     if row.is_dir {

@@ -6,15 +6,18 @@
 //! neither a directory nor a file, as a symbolic link.
 //!
 //! It sees the folder as a [`Source`], which says in contracts what it answered. The crate's theorem is which tree comes of which answers,
-//! and which fault ([`read_folder`]). [`SystemFolder`] is a folder of the system: that it follows no link, and asks for what it says, is
-//! read from the code, since no contract of the system's calls can say it.
+//! and which fault ([`read_folder`]). [`SystemFolder`] is a folder of the system. It notes each answer of the system right at the call, and
+//! gives in contracts what was noted: the names, each with the kind that the system told, and the bytes. That a note is the call's own answer
+//! is read from the code, since no contract of the system's calls can say it.
 #![tactic(auto)]
 
 mod building;
 mod cutting;
 mod fault;
 mod found;
+mod notes;
 mod reading;
+mod record;
 mod row;
 mod source;
 mod stamp;

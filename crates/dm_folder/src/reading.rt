@@ -1,5 +1,6 @@
 //! A folder as a tree.
 ghost use Rattle.std.specs.Prelude.{IfOk, IfErr};
+ghost use Rattle.dm_folder.specs.Keeps.{Keeps};
 ghost use Rattle.dm_folder.specs.Reads.{HasFault, Reads};
 
 use crate::building::build;
@@ -17,12 +18,13 @@ use std::alloc::Global;
 /// place twice.
 pub fn read_folder<S: Source>(
     alloc: Global,
-    source: &S,
+    source: &mut S,
     top: &str,
     special: Special,
 ) -> Result<Tree<Global>, FolderFault>
-    ensures ok { IfOk result (Reads (S.Lists source.now) (S.Holds source.now) special top.now) }
-    ensures err { IfErr result (HasFault (S.Lists source.now) (S.Holds source.now) (S.Fails source.now) special top.now) }
+    ensures ok { IfOk result (Reads (S.Lists source.new) (S.Holds source.new) special top.now) }
+    ensures err { IfErr result (HasFault (S.Lists source.new) (S.Holds source.new) (S.Fails source.new) special top.now) }
+    ensures keeps { Keeps (S.Lists source.old) (S.Lists source.new) (S.Holds source.old) (S.Holds source.new) (S.Fails source.old) (S.Fails source.new) }
 {
     let Walk { rows, refused } = walk_folder(alloc, source, top, special)?;
     if !refused.is_empty() {

@@ -1,6 +1,7 @@
 //! Whether a file stayed as it was while it was read.
 ghost use Rattle.std.specs.Prelude.{◌≡◌, ◌↔◌, length, IfOk, IfErr};
-ghost use Rattle.std.specs.Fs.{IsDir, IsFile, file_type};
+ghost use Rattle.std.specs.Fs.{IsDir, IsFile, file_type, metadata_mode};
+ghost use Rattle.dm_folder.specs.Listed.{kind_of_mode};
 ghost use Rattle.dm_folder.specs.declared.fault.Trouble.TheVariants.{Changed};
 
 use crate::fault::Trouble;
@@ -57,6 +58,7 @@ pub(crate) fn whole(before: Stamp, after: Stamp, bytes: Vec<u8>) -> Result<Vec<u
 pub(crate) fn kind_of(metadata: &Metadata) -> Kind
     ensures dir { (result ≡ Kind.Dir) ↔ IsDir (file_type metadata.now) }
     ensures file { (result ≡ Kind.File) ↔ IsFile (file_type metadata.now) }
+    ensures mode { result ≡ kind_of_mode (metadata_mode metadata.now) }
 {
     if metadata.is_dir() {
         return Kind::Dir;

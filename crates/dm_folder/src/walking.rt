@@ -4,6 +4,7 @@ ghost use Rattle.dm_tree.specs.Validity.{is_name};
 ghost use Rattle.dm_checkout.specs.Places.{place_text};
 ghost use Rattle.dm_folder.specs.Found.{Told, told};
 ghost use Rattle.dm_folder.specs.Walks.{IsWalk, is_left_out, kind_refusal, name_place, path_of, refused_in, refused_of, refused_of_listing, refused_when, row_of, row_when, rows_in, rows_of_listing};
+ghost use Rattle.dm_folder.specs.Keeps.{Keeps};
 ghost use Rattle.dm_folder.specs.Faults.{IsListFault, IsTrouble};
 
 use crate::fault::{FolderFault, Refused, Why};
@@ -33,12 +34,13 @@ pub(crate) struct Walk {
 /// What the folder has, with each directory before what is inside it.
 pub(crate) fn walk_folder<S: Source>(
     alloc: Global,
-    source: &S,
+    source: &mut S,
     top: &str,
     special: Special,
 ) -> Result<Walk, FolderFault>
-    ensures ok { IfOk result (λ walk. IsWalk (S.Lists source.now) special top.now (rows_in walk.rows.items) (rows_in walk.rows.items) (refused_in walk.refused.items)) }
-    ensures err { IfErr result (IsListFault (S.Lists source.now) (S.Fails source.now) special top.now) }
+    ensures ok { IfOk result (λ walk. IsWalk (S.Lists source.new) special top.now (rows_in walk.rows.items) (rows_in walk.rows.items) (refused_in walk.refused.items)) }
+    ensures err { IfErr result (IsListFault (S.Lists source.new) (S.Fails source.new) special top.now) }
+    ensures keeps { Keeps (S.Lists source.old) (S.Lists source.new) (S.Holds source.old) (S.Holds source.new) (S.Fails source.old) (S.Fails source.new) }
 {
     let mut walk = Walk {
         rows: Vec::new(alloc),
@@ -59,16 +61,17 @@ pub(crate) fn walk_folder<S: Source>(
 /// Adds what is right inside a directory.
 fn list_into<S: Source>(
     alloc: Global,
-    source: &S,
+    source: &mut S,
     top: &str,
     special: Special,
     dir: &Dir,
     walk: &mut Walk,
 ) -> Result<(), FolderFault>
-    ensures ok { OnOk result ((found : List Told) × S.Lists source.now (place_text top.now (path_of dir.now)) found
+    ensures ok { OnOk result ((found : List Told) × S.Lists source.new (place_text top.now (path_of dir.now)) found
         × (rows_in walk.new.rows.items ≡ rows_in walk.old.rows.items ++ rows_of_listing special (path_of dir.now, found))
         × (refused_in walk.new.refused.items ≡ refused_in walk.old.refused.items ++ refused_of_listing special top.now (path_of dir.now, found))) }
-    ensures err { IfErr result (IsTrouble (S.Fails source.now) (place_text top.now (path_of dir.now))) }
+    ensures err { IfErr result (IsTrouble (S.Fails source.new) (place_text top.now (path_of dir.now))) }
+    ensures keeps { Keeps (S.Lists source.old) (S.Lists source.new) (S.Holds source.old) (S.Holds source.new) (S.Fails source.old) (S.Fails source.new) }
 {
     let place = place_of_dir(alloc, top, dir)?;
     let found = match source.list(&place) {
@@ -142,7 +145,7 @@ fn is_left_out(special: Special, dir: &Dir, found: &Found) -> bool
 }
 
 /// Whether both are the same bytes.
-fn is_same(name: &[u8], word: &[u8]) -> bool
+pub(crate) fn is_same(name: &[u8], word: &[u8]) -> bool
     ensures { result ≡ is_name name.now word.now }
 {
     name.cmp(word).is_eq()

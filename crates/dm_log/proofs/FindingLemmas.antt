@@ -4,7 +4,7 @@ use Rattle.std.proofs.lemmas.Bool.{cases_lt}
 use Rattle.dm_info.specs.PatchInfo.{PatchInfo}
 use Rattle.dm_named.specs.Patches.{Patch}
 use Rattle.dm_bundle.specs.Patches.{infos_of}
-use Rattle.dm_log.specs.Finding.{Finds, Names, NamesAt, found_with}
+use Rattle.dm_log.specs.Finding.{Finds, NamesAt, NamesHere, found_with}
 use Rattle.dm_log.specs.declared.finding.Found.{Found}
 use Rattle.dm_log.specs.declared.finding.Found.TheVariants.{Nothing, One, Several}
 
@@ -29,14 +29,14 @@ one_there xs k x y e f = cc
 
 module _ (infos : List PatchInfo) (word : List ℕ) (k : ℕ) (i : PatchInfo) (at : slice_get infos k ≡ Some i) where
   -- the next place isn't named, or is the one
-  module _ (unnamed : Names word i → ⊥) where
+  module _ (unnamed : NamesHere word (k + 1) i → ⊥) where
     not_here : NamesAt infos word k → ⊥
     not_here n = unnamed (rw (one_there infos k n.0 i n.1 at) at n.2)
 
     only_before : (h : ℕ) → h < k + 1 → NamesAt infos word h → h < k
     only_before h b n = elim (cases_lt h k) [ inl l ↦ l | inr l ↦ let e : h ≡ k = omega (arith, b, l) in absurd (not_here (rw e at n)) ]
 
-  step : (found : Found) (b : Bool) → (b ≡ true) ↔ Names word i → FindsSoFar infos word k found → FindsSoFar infos word (k + 1) (found_with found k b)
+  step : (found : Found) (b : Bool) → (b ≡ true) ↔ NamesHere word (k + 1) i → FindsSoFar infos word k found → FindsSoFar infos word (k + 1) (found_with found k b)
   step Nothing false n f = λ h b m. f h (only_before (λ x. absurd (false_true (n.1 x))) h b m) m
     where
       false_true : false ≡ true → ⊥
@@ -50,7 +50,7 @@ module _ (infos : List PatchInfo) (word : List ℕ) (k : ℕ) (i : PatchInfo) (a
   step (One j) true n (a, l, f) = (a, (i, at, n.0 refl), l, omega arith, f)
   step (Several p j) true n (a, d, o, l, f) = (a, d, o, omega (arith, l), f)
 
-pub found_next : (patches : List Patch) (word : List ℕ) (k : ℕ) (x : Patch) (found : Found) (b : Bool) → slice_get patches k ≡ Some x → (b ≡ true) ↔ Names word x.info → FindsSoFar (infos_of patches) word k found →
+pub found_next : (patches : List Patch) (word : List ℕ) (k : ℕ) (x : Patch) (found : Found) (b : Bool) → slice_get patches k ≡ Some x → (b ≡ true) ↔ NamesHere word (k + 1) x.info → FindsSoFar (infos_of patches) word k found →
     FindsSoFar (infos_of patches) word (k + 1) (found_with found k b)
 found_next patches word k x found b e n f = step (infos_of patches) word k x.info (info_there patches k x e) found b n f
 

@@ -1,5 +1,6 @@
 pub mod ShownLemmas
 pub mod LogLemmas
+pub mod SplitLemmas
 pub mod PlainLemmas
 pub mod KeysLemmas
 pub mod TouchedLemmas

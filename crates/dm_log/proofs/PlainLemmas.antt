@@ -6,15 +6,18 @@ use borrow.Author.Tests.{ltb-true}
 use Rattle.std.proofs.lemmas.List.Folds.{list_all-append, list_all_at}
 use Rattle.std.proofs.lemmas.Str.{encode_ascii, encodes-append, IsUtf8-from_is_utf8, scalars-chars}
 use Rattle.std.specs.Prelude.{codes, slice_index, ◌==◌}
-use Rattle.std.specs.List.{flat_map, join_by, list_all}
+use Rattle.std.specs.List.{flat_map, join_by, list_all, slice_split}
+use Rattle.std.specs.Fmt.{decimal, digit_glyph, digits as digits_of_number, digits_onto}
 use Rattle.std.specs.Int.{is_in_range}
 use Rattle.std.specs.Char.{encode_utf8, is_ascii_digit}
 use Rattle.std.specs.Str.{all_scalars, chars, is_utf8}
 use Rattle.dm_info.specs.PatchInfo.{PatchInfo}
-use Rattle.dm_log.specs.Shown.{digits, escape, is_command, is_turn, shown, shown_byte, shown_char}
+use Rattle.dm_log.specs.Shown.{digits, escape, is_escaped, shown, shown_byte, shown_char}
 use Rattle.dm_log.specs.Dates.{date_text, day_text, is_day, is_moment, is_time, moment_text, part, time_text}
 use Rattle.dm_log.specs.Entries.{begins, entry_text, labelled, line_text, patch_hash, title}
-use Rattle.dm_log.specs.Choices.{chosen, long_entry}
+use Rattle.dm_log.specs.Choices.{chosen, long_entry, long_shown, place_shown, placed_from}
+use Rattle.dm_log.specs.Verbose.{detail, details, patch_shown}
+use Rattle.dm_named.specs.Patches.{Patch}
 use Rattle.dm_log.specs.Plain.{EntriesArePlain, IsPlain, LogsArePlain, is_plain}
 use lib.Utf8.{scalar}
 
@@ -120,7 +123,7 @@ or_right false b e = e
 
 plain_shown_char : (c : ℕ) → scalar c ≡ true → IsPlain (shown_char c)
 plain_shown_char c s =
-    let acts : Bool = is_command c || is_turn c in
+    let acts : Bool = is_escaped c in
     plain_if acts (flat_map escape (encode_utf8 c)) (encode_utf8 c) (λ e. plain_flat escape (encode_utf8 c) plain_escape) (λ e. plain_char c s (or_right (c == 10) (not acts) (not_true acts e)))
 
 plain_shown_chars : (cs : List ℕ) → all_scalars cs ≡ true → IsPlain (flat_map shown_char cs)
@@ -196,6 +199,37 @@ plain_entry i =
 pub logs_are_plain : LogsArePlain
 logs_are_plain infos = plain_join entry_text infos plain_entry
 
+plain_glyph : (n : ℕ) → IsPlain (digit_glyph false (n % 10) ∷ [])
+plain_glyph n =
+    let small : n % 10 < 10 = omega arith in
+    plain_byte (digit_glyph false (n % 10)) (agree_below_at (λ d. is_plain_byte (digit_glyph false d)) (λ d. true) 10 (n % 10) refl small)
+
+plain_onto : (k n : ℕ) (acc : List ℕ) → IsPlain acc → IsPlain (digits_onto k 10 false n acc)
+plain_onto zero n acc p = p
+plain_onto (suc k) n acc p =
+    let more : IsPlain (digit_glyph false (n % 10) ∷ acc) = plain_append (digit_glyph false (n % 10) ∷ []) acc (plain_glyph n) p in
+    plain_if (n / 10 == 0) (digit_glyph false (n % 10) ∷ acc) (digits_onto k 10 false (n / 10) (digit_glyph false (n % 10) ∷ acc)) (λ e. more) (λ e. plain_onto k (n / 10) (digit_glyph false (n % 10) ∷ acc) more)
+
+plain_decimal : (n : ℕ) → IsPlain (decimal n)
+unfolding digits_of_number
+plain_decimal n = plain_onto 64 n [] plain_nil
+
+plain_place : (places : Bool) (n : ℕ) → IsPlain (place_shown places n)
+plain_place true n = plain_append (codes "#") (decimal n ++ codes "\n") (plain_bytes (codes "#") refl) (plain_append (decimal n) (codes "\n") (plain_decimal n) (plain_bytes (codes "\n") refl))
+plain_place false n = plain_nil
+
+plain_detail : (line : List ℕ) → IsPlain (detail line)
+plain_detail line = plain_labelled (codes "    ") (shown line) refl (plain_shown line)
+
+plain_details : (text : List ℕ) → IsPlain (details text)
+plain_details text = plain_flat detail (slice_split (λ b. b == 10) (take (length text - 1) text)) plain_detail
+
+plain_long : (verbose : Bool) (p : Patch) → IsPlain (long_shown verbose p)
+plain_long true p = plain_append (codes "\n") (details (patch_shown p)) (plain_bytes (codes "\n") refl) (plain_details (patch_shown p))
+plain_long false p = plain_nil
+
 pub entries_are_plain : EntriesArePlain
-entries_are_plain o patches e =
-    plain_join (long_entry o.verbose) (chosen o patches) (λ p. subst (λ b. IsPlain (long_entry b p)) (sym e) (plain_entry p.info))
+entries_are_plain o patches =
+    plain_join (long_entry o) (chosen o (placed_from 1 patches))
+    (λ q. plain_append (place_shown o.places q.0) (entry_text q.1.info ++ long_shown o.verbose q.1) (plain_place o.places q.0)
+    (plain_append (entry_text q.1.info) (long_shown o.verbose q.1) (plain_entry q.1.info) (plain_long o.verbose q.1)))

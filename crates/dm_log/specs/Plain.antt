@@ -1,17 +1,17 @@
 -- Texts on which no terminal acts.
-use Rattle.std.specs.Prelude.{◌≡◌, ℕ, ◌==◌, Bool, true, false, not, ◌||◌, List}
+use Rattle.std.specs.Prelude.{◌≡◌, ℕ, ◌==◌, Bool, true, not, ◌||◌, List}
 use Rattle.std.specs.List.{list_all}
 use Rattle.std.specs.Str.{all_scalars, encode_utf8_all}
 use Rattle.dm_info.specs.PatchInfo.{PatchInfo}
 use Rattle.dm_named.specs.Patches.{Patch}
-use Rattle.dm_log.specs.Shown.{is_command, is_turn}
+use Rattle.dm_log.specs.Shown.{is_escaped}
 use Rattle.dm_log.specs.Entries.{log_text}
 use Rattle.dm_log.specs.Choices.{entries_text}
 use Rattle.dm_log.specs.declared.options.LogOptions.{LogOptions}
 
--- a newline, or neither a control character but the tab, nor a mark that ends a line or turns the direction of text
+-- a newline, a tab, or a character on which no terminal acts
 abbrev pub is_plain : ℕ → Bool
-is_plain c = c == 10 || not (is_command c || is_turn c)
+is_plain c = c == 10 || not (is_escaped c)
 
 -- the text is characters in UTF-8, and each of them is plain
 pub record IsPlain (text : List ℕ) : Type 0 where
@@ -24,6 +24,6 @@ pub record IsPlain (text : List ℕ) : Type 0 where
 abbrev pub LogsArePlain : Type 0
 LogsArePlain = (infos : List PatchInfo) → IsPlain (log_text infos)
 
--- and so are the entries that are chosen, without the texts of the patches
+-- and so are the entries that are chosen, however much of each is shown
 abbrev pub EntriesArePlain : Type 0
-EntriesArePlain = (o : LogOptions) (patches : List Patch) → o.verbose ≡ false → IsPlain (entries_text o patches)
+EntriesArePlain = (o : LogOptions) (patches : List Patch) → IsPlain (entries_text o patches)

@@ -2,8 +2,9 @@
 use Rattle.std.specs.Prelude.{ℕ, ◌/◌, ◌%◌, ◌==◌, Bool, not, ◌&&◌, ◌||◌, List, [], ◌∷◌, codes, slice_index, if◌then◌else◌}
 use Rattle.std.specs.List.{flat_map}
 use Rattle.std.specs.Int.{is_in_range}
-use Rattle.std.specs.Char.{is_control, encode_utf8}
+use Rattle.std.specs.Char.{encode_utf8}
 use Rattle.std.specs.Str.{chars, is_utf8}
+use Rattle.dm_quoted.specs.Quoting.{acts}
 
 -- a byte as two digits
 abbrev pub digits : ℕ → List ℕ
@@ -13,17 +14,13 @@ digits b = slice_index (codes "0123456789abcdef") (b / 16 % 16) ∷ slice_index 
 abbrev pub escape : ℕ → List ℕ
 escape b = 92 ∷ 120 ∷ digits b
 
--- a control character, but for the tab
-abbrev pub is_command : ℕ → Bool
-is_command c = is_control c && not (c == 9)
+-- a terminal might act on the character, or show nothing for it, and it isn't the tab
+abbrev pub is_escaped : ℕ → Bool
+is_escaped c = acts c && not (c == 9)
 
--- a mark that ends a line or turns the direction in which text runs
-abbrev pub is_turn : ℕ → Bool
-is_turn c = c == 0x61C || (is_in_range 0x200E 0x200F c || (is_in_range 0x2028 0x202E c || is_in_range 0x2066 0x2069 c))
-
--- a character: itself in UTF-8, or each of these bytes escaped where a terminal might act on it
+-- a character: itself in UTF-8, or each of these bytes escaped
 abbrev pub shown_char : ℕ → List ℕ
-shown_char c = if is_command c || is_turn c then flat_map escape (encode_utf8 c) else encode_utf8 c
+shown_char c = if is_escaped c then flat_map escape (encode_utf8 c) else encode_utf8 c
 
 -- a byte of a text that isn't UTF-8: itself, or escaped if it is past ASCII or a terminal might act on it
 abbrev pub shown_byte : ℕ → List ℕ

@@ -54,7 +54,7 @@ fn is_time(date: &[u8]) -> bool
     two_digits(date, 8) < 24 && two_digits(date, 10) < 60 && two_digits(date, 12) < 60
 }
 
-fn are_digits(date: &[u8]) -> bool
+pub(crate) fn are_digits(date: &[u8]) -> bool
     ensures value { result ≡ list_all is_ascii_digit date.now }
     ensures digits { IsTrue result ↔ All IsAsciiDigit date.now }
 {

@@ -48,7 +48,7 @@ fn push_hash_line<A: Allocator, B: Allocator>(
 }
 
 /// Appends a line of a label and a text as it is shown.
-fn push_labelled<A: Allocator>(
+pub(crate) fn push_labelled<A: Allocator>(
     label: &[u8],
     text: &[u8],
     out: &mut Vec<u8, A>,

@@ -5,10 +5,10 @@
 //! ([`LogOptions`]): its canonical text, but of a binary its path alone. [`write_context`] writes what `darcs log --context` prints, which `darcs send --context` reads. The theorem of
 //! the crate is what the text is, byte for byte. [`write_paths`] writes a line for each path that the patches touch.
 //!
-//! What a stranger wrote is shown by one rule. A text in UTF-8 stands as it is, but for control characters other than the
-//! tab, and for marks that end a line or turn the direction of writing: of these each byte is escaped, as `\x1b`. Of a text
-//! that isn't UTF-8 each byte past ASCII is escaped too. A backslash stands as it is. So no terminal acts on a log ([`laws`]).
-//! What a patch does, and a context, stand as they are: they are for a pipe.
+//! What a stranger wrote is shown by the rule of `dm_quoted`, but that tabs stay. A text in UTF-8 stands as it is, but for what a
+//! terminal might act on: of these characters each byte is escaped, as `\x1b`. Of a text that isn't UTF-8 each byte past ASCII is
+//! escaped too. A backslash stands as it is. What a patch does stands line by line, each behind four spaces. So no terminal acts on a
+//! log ([`laws`]), and no patch forges an entry. A context stands as it is: it is for a pipe.
 #![tactic(auto)]
 
 mod context;

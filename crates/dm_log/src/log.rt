@@ -2,12 +2,12 @@
 ghost use Rattle.std.specs.Prelude.{◌≡◌, ◌++◌, ◌<◌, ◌≤◌, length, IfOk, OnOk};
 ghost use Rattle.dm_bundle.specs.Patches.{infos_of};
 ghost use Rattle.dm_log.specs.Entries.{log_text};
-ghost use Rattle.dm_log.specs.Choices.{count_of, entries_text, long_entry, place_of};
+ghost use Rattle.dm_log.specs.Choices.{count_of, entries_text, long_entry, long_shown, place_of, place_shown};
 
 use crate::entry::push_entry;
 use crate::options::LogOptions;
 use crate::patches::Patches;
-use crate::verbose::push_patch;
+use crate::verbose::push_details;
 use dm_named::Named;
 use dm_repo::Repo;
 use std::alloc::{AllocError, Allocator};
@@ -37,24 +37,53 @@ fn place_of(reverse: bool, all: usize, count: usize, k: usize) -> usize
     }
 }
 
-/// Appends the entry of a patch, and all that it does if that is asked for.
-fn push_long_entry<A: Allocator, B: Allocator + Copy>(
-    patch: &Named<A>,
-    verbose: bool,
+/// Appends the line of a place, if that is asked for.
+fn push_place<B: Allocator + Copy>(
+    options: LogOptions,
+    place: usize,
     out: &mut Vec<u8, B>,
 ) -> Result<(), AllocError>
-    ensures { OnOk result (out.new.items ≡ out.old.items ++ long_entry verbose patch.now) }
+    ensures { OnOk result (out.new.items ≡ out.old.items ++ place_shown options.places place) }
 {
-    push_entry(patch.info(), out)?;
-    if verbose {
-        out.push(b'\n')?;
-        push_patch(patch, out)?;
+    if !options.places {
+        return Ok(());
     }
+    let line = format!(in *out.allocator(); "#{place}\n")?;
+    out.extend_from_slice(line.as_bytes())?;
     Ok(())
 }
 
-/// The entries that are chosen, with an empty line between each two; no text where there is none. What a patch does
-/// stands as it is, byte for byte, and is no text for a terminal.
+/// Appends all that a patch does, if that is asked for.
+fn push_long<A: Allocator, B: Allocator + Copy>(
+    options: LogOptions,
+    patch: &Named<A>,
+    out: &mut Vec<u8, B>,
+) -> Result<(), AllocError>
+    ensures { OnOk result (out.new.items ≡ out.old.items ++ long_shown options.verbose patch.now) }
+{
+    if !options.verbose {
+        return Ok(());
+    }
+    out.push(b'\n')?;
+    push_details(patch, out)
+}
+
+/// Appends the entry of the patch at a place, with what is asked for.
+fn push_long_entry<A: Allocator, B: Allocator + Copy>(
+    options: LogOptions,
+    place: usize,
+    patch: &Named<A>,
+    out: &mut Vec<u8, B>,
+) -> Result<(), AllocError>
+    ensures { OnOk result (out.new.items ≡ out.old.items ++ long_entry options (place, patch.now)) }
+{
+    push_place(options, place, out)?;
+    push_entry(patch.info(), out)?;
+    push_long(options, patch, out)?;
+    Ok(())
+}
+
+/// The entries that are chosen, with an empty line between each two; no text where there is none.
 pub fn write_entries<B: Allocator + Copy, P: Patches>(
     alloc: B,
     patches: &P,
@@ -70,7 +99,7 @@ pub fn write_entries<B: Allocator + Copy, P: Patches>(
             text.push(b'\n')?;
         }
         let i = place_of(options.reverse, all, count, k);
-        push_long_entry(patches.at(i), options.verbose, &mut text)?;
+        push_long_entry(options, i + 1, patches.at(i), &mut text)?;
     }
     Ok(text)
 }
@@ -86,6 +115,7 @@ pub fn write_log<A: Allocator, B: Allocator + Copy>(
         last: None,
         reverse: false,
         verbose: false,
+        places: false,
     };
     write_entries(alloc, repo, all)
 }

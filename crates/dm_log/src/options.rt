@@ -7,6 +7,8 @@ pub struct LogOptions {
     pub last: Option<usize>,
     /// The newest first.
     pub reverse: bool,
-    /// The text of each patch too.
+    /// The text of each patch too, line by line, each behind four spaces.
     pub verbose: bool,
+    /// The place of each patch before its entry, counted from 1, the oldest.
+    pub places: bool,
 }

@@ -1,9 +1,10 @@
 //! How what a stranger wrote is shown.
-ghost use Rattle.std.specs.Prelude.{◌≡◌, ◌++◌, ◌||◌, OnOk};
+ghost use Rattle.std.specs.Prelude.{◌≡◌, ◌++◌, OnOk};
 ghost use Rattle.std.specs.List.{flat_map};
 ghost use Rattle.std.specs.Str.{chars};
-ghost use Rattle.dm_log.specs.Shown.{digits, escape, is_command, is_turn, shown, shown_byte, shown_char};
+ghost use Rattle.dm_log.specs.Shown.{digits, escape, is_escaped, shown, shown_byte, shown_char};
 
+use dm_quoted::is_acting;
 use std::alloc::{AllocError, Allocator};
 use std::str;
 
@@ -34,17 +35,10 @@ fn push_escapes<A: Allocator>(bytes: &[u8], out: &mut Vec<u8, A>) -> Result<(), 
     Ok(())
 }
 
-/// Whether a terminal might act on the character, or show what follows it in another place.
-fn is_acting(c: char) -> bool
-    ensures { result ≡ (is_command c || is_turn c) }
+fn is_escaped(c: char) -> bool
+    ensures { result ≡ is_escaped c }
 {
-    (c.is_control() && c != '\t') || is_turning(c)
-}
-
-fn is_turning(c: char) -> bool
-    ensures { result ≡ is_turn c }
-{
-    matches!(c, '\u{61c}' | '\u{200e}'..='\u{200f}' | '\u{2028}'..='\u{202e}' | '\u{2066}'..='\u{2069}')
+    is_acting(c) && c != '\t'
 }
 
 fn push_char<A: Allocator>(c: char, out: &mut Vec<u8, A>) -> Result<(), AllocError>
@@ -52,7 +46,7 @@ fn push_char<A: Allocator>(c: char, out: &mut Vec<u8, A>) -> Result<(), AllocErr
 {
     let mut buffer = [0; 4];
     let bytes = c.encode_utf8(&mut buffer).as_bytes();
-    if is_acting(c) {
+    if is_escaped(c) {
         return push_escapes(bytes, out);
     }
     out.extend_from_slice(bytes)?;

@@ -1,14 +1,16 @@
 //! What a patch does, as a log shows it.
-ghost use Rattle.std.specs.Prelude.{◌≡◌, ◌++◌, ◌∷◌, [], codes, OnOk};
-ghost use Rattle.std.specs.List.{flat_map};
+ghost use Rattle.std.specs.Prelude.{◌≡◌, ◌==◌, ◌++◌, ◌∷◌, [], codes, OnOk};
+ghost use Rattle.std.specs.List.{flat_map, slice_split};
 ghost use Rattle.dm_named.specs.Canonical.{path_text};
 ghost use Rattle.dm_prim.specs.Prims.{prim_of, prims_of};
-ghost use Rattle.dm_log.specs.Verbose.{body_shown, patch_shown, prim_shown};
+ghost use Rattle.dm_log.specs.Verbose.{body_shown, detail, details, patch_shown, prim_shown};
 
+use crate::entry::push_labelled;
 use dm_info::push_info;
 use dm_named::{Named, push_deps, push_prim, write_path};
 use dm_prim::Prim;
 use dm_tree::Path;
+use memchr::memchr;
 use std::alloc::{AllocError, Allocator};
 
 fn push_binary<A: Allocator, B: Allocator + Copy>(
@@ -69,8 +71,8 @@ fn push_shown_body<A: Allocator, B: Allocator + Copy>(
     Ok(())
 }
 
-/// Appends the canonical text of a patch, but of a binary its path alone. If an allocation fails, a part of it may stand there.
-pub(crate) fn push_patch<A: Allocator, B: Allocator + Copy>(
+/// Appends the canonical text of a patch, but of a binary its path alone.
+fn push_patch<A: Allocator, B: Allocator + Copy>(
     patch: &Named<A>,
     out: &mut Vec<u8, B>,
 ) -> Result<(), AllocError>
@@ -80,4 +82,29 @@ pub(crate) fn push_patch<A: Allocator, B: Allocator + Copy>(
     push_deps(patch.deps(), out)?;
     push_shown_body(patch.prims(), out)?;
     Ok(())
+}
+
+/// Appends each line of a text, behind four spaces, as it is shown.
+fn push_lines<A: Allocator>(text: &[u8], out: &mut Vec<u8, A>) -> Result<(), AllocError>
+    ensures { OnOk result (out.new.items ≡ out.old.items ++ flat_map detail (slice_split (λ b. b == 10) text.now)) }
+{
+    let mut rest = text;
+    while let Some(end) = memchr(b'\n', rest) {
+        push_labelled(b"    ", &rest[..end], out)?;
+        let more = &rest[end..];
+        rest = &more[1..];
+    }
+    push_labelled(b"    ", rest, out)
+}
+
+/// Appends what a patch does. If an allocation fails, a part of it may stand there.
+pub(crate) fn push_details<A: Allocator, B: Allocator + Copy>(
+    patch: &Named<A>,
+    out: &mut Vec<u8, B>,
+) -> Result<(), AllocError>
+    ensures { OnOk result (out.new.items ≡ out.old.items ++ details (patch_shown patch.now)) }
+{
+    let mut text = Vec::new(*out.allocator());
+    push_patch(patch, &mut text)?;
+    push_lines(&text[..text.len().saturating_sub(1)], out)
 }

@@ -1,12 +1,17 @@
-//! What a stranger wrote, in quotes: of what a terminal might act on, each byte is escaped as `\x1b`, as in a log.
+//! What a stranger wrote, as people are shown it: of what a terminal might act on, each byte is escaped as `\x1b`.
+//!
+//! One rule ([`is_acting`]) for all: a text in quotes, on one line ([`Quoted`]), a text of lines ([`Lines`]), and the log of `dm_log`.
 #![tactic(auto)]
 
 ghost use Rattle.std.specs.Prelude.{◌≡◌, ◌<◌, ◌==◌, ◌||◌, ◌∷◌, [], length, Some};
 ghost use Rattle.std.specs.List.{flat_map};
 ghost use Rattle.std.specs.Char.{encode_utf8};
 ghost use Rattle.std.specs.Fmt.{WritesOnOk};
-ghost use Rattle.dm_quoted.specs.Quoting.{acts, digit, escape, is_format, is_private, quoted, shown_from, shown_piece};
+ghost use Rattle.dm_quoted.specs.Quoting.{acts, digit, escape, is_format, is_private, line_char, quoted_char, safe_char, shown_from, shown_piece};
 
+mod manner;
+
+use crate::manner::Manner;
 use bstr::decode_utf8;
 use std::fmt::{self, Display, Formatter, Write};
 
@@ -17,8 +22,15 @@ pub struct Quoted<'a> {
     pub text: &'a [u8],
 }
 
+/// A text of lines. Newlines and tabs stay. Of another character that a terminal might act on, and of what is no UTF-8, each byte is
+/// escaped.
+#[derive(Clone, Copy)]
+pub struct Lines<'a> {
+    pub text: &'a [u8],
+}
+
 /// Whether a terminal might act on a character, or show nothing for it.
-fn is_acting(c: char) -> bool
+pub fn is_acting(c: char) -> bool
     ensures { result ≡ acts c }
 {
     c.is_control() || is_formatting(c) || is_private_use(c)
@@ -98,40 +110,81 @@ fn write_escapes<W: Write>(f: &mut Formatter<W>, bytes: &[u8]) -> fmt::Result
 }
 
 /// Writes a piece of a text: a character, or bytes that are none.
-fn write_piece<W: Write>(f: &mut Formatter<W>, found: Option<char>, bytes: &[u8]) -> fmt::Result
-    ensures { WritesOnOk W.write_str_gives f.old result (shown_piece found bytes.now) f.new }
+fn write_piece<W: Write>(
+    f: &mut Formatter<W>,
+    manner: Manner,
+    found: Option<char>,
+    bytes: &[u8],
+) -> fmt::Result
+    ensures { WritesOnOk W.write_str_gives f.old result (shown_piece manner found bytes.now) f.new }
 {
     let Some(c) = found else {
         return write_escapes(f, bytes);
     };
+    match manner {
+        Manner::InQuotes => write_quoted_char(f, c),
+        Manner::InLines => write_line_char(f, c),
+    }
+}
+
+fn write_quoted_char<W: Write>(f: &mut Formatter<W>, c: char) -> fmt::Result
+    ensures { WritesOnOk W.write_str_gives f.old result (quoted_char c) f.new }
+{
     if is_quoting(c) {
         f.write_str("\\")?;
         return f.write_char(c);
     }
+    write_safe_char(f, c)
+}
+
+fn write_line_char<W: Write>(f: &mut Formatter<W>, c: char) -> fmt::Result
+    ensures { WritesOnOk W.write_str_gives f.old result (line_char c) f.new }
+{
+    if c == '\n' || c == '\t' {
+        return f.write_char(c);
+    }
+    write_safe_char(f, c)
+}
+
+fn write_safe_char<W: Write>(f: &mut Formatter<W>, c: char) -> fmt::Result
+    ensures { WritesOnOk W.write_str_gives f.old result (safe_char c) f.new }
+{
     if is_acting(c) {
         return write_escapes(f, c.encode_utf8(&mut [0; 4]).as_bytes());
     }
     f.write_char(c)
 }
 
-fn write_pieces<W: Write>(f: &mut Formatter<W>, text: &[u8]) -> fmt::Result
-    ensures { WritesOnOk W.write_str_gives f.old result (shown_from (length text.now) text.now) f.new }
+fn write_pieces<W: Write>(f: &mut Formatter<W>, manner: Manner, text: &[u8]) -> fmt::Result
+    ensures { WritesOnOk W.write_str_gives f.old result (shown_from manner (length text.now) text.now) f.new }
 {
     let mut rest = text;
     'pieces: while !rest.is_empty() {
         let (found, size) = decode_utf8(rest);
-        write_piece(f, found, &rest[..size])?;
+        write_piece(f, manner, found, &rest[..size])?;
         rest = &rest[size..];
     }
     Ok(())
 }
 
 impl Display for Quoted<'_> {
+    ghost use Rattle.dm_quoted.specs.Quoting.{quoted};
+
     ghost output = { λ q. Some (quoted q.text.now) };
 
     fn fmt<W: Write>(&self, f: &mut Formatter<W>) -> fmt::Result {
         f.write_char('"')?;
-        write_pieces(f, self.text)?;
+        write_pieces(f, Manner::InQuotes, self.text)?;
         f.write_char('"')
+    }
+}
+
+impl Display for Lines<'_> {
+    ghost use Rattle.dm_quoted.specs.Quoting.{lines_shown};
+
+    ghost output = { λ l. Some (lines_shown l.text.now) };
+
+    fn fmt<W: Write>(&self, f: &mut Formatter<W>) -> fmt::Result {
+        write_pieces(f, Manner::InLines, self.text)
     }
 }

@@ -103,6 +103,17 @@ pub fn explain_before_base<R: Runtime + AllocGlobal>(
     }
 }
 
+/// Says of a date that Darcs can't read what that means.
+pub fn explain_date<R: Runtime + AllocGlobal>(rt: &R, colour: Colour, at: usize) {
+    say(
+        rt,
+        colour,
+        &format_args!(
+            "Darcs can't read the date of a new patch, which stands at byte {at}, so darcs apply would end with an exception. Its sender has to make the patch anew.\n"
+        ),
+    );
+}
+
 /// Says where the hash of a bundle is wrong; and where one has to stand, that there is none.
 pub fn explain_hash<R: Runtime + AllocGlobal>(
     rt: &R,

@@ -15,8 +15,8 @@ mod watching;
 pub use agreeing::explain_agreement;
 pub use colour::{Colour, colour_of, say};
 pub use explaining::{
-    explain_applied, explain_base, explain_hash, explain_hash_fault, explain_run, explain_theirs,
-    explain_unread,
+    explain_applied, explain_base, explain_date, explain_hash, explain_hash_fault, explain_run,
+    explain_theirs, explain_unread,
 };
 pub use reading::Reading;
 pub use watching::Watcher;

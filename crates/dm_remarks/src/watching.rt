@@ -1,7 +1,7 @@
 //! What `--explain` says while bundles are taken.
 use crate::colour::{Colour, say};
 use crate::explaining::{
-    explain_before_base, explain_hash, explain_hash_fault, explain_taken, skips_ahead,
+    explain_before_base, explain_date, explain_hash, explain_hash_fault, explain_taken, skips_ahead,
 };
 use crate::reading::Reading;
 use dm_deliver::{Answer, Observer};
@@ -88,6 +88,7 @@ impl Observer for Watcher<'_, '_> {
                 explain_hash(&self.rt, self.colour, reading, text, false);
             }
             Answer::Hash(fault) => explain_hash_fault(&self.rt, self.colour, fault),
+            Answer::Date(at) => explain_date(&self.rt, self.colour, at),
             Answer::BeforeBase => { explain_before_base(&self.rt, self.colour, repo, self.base) },
         }
     }

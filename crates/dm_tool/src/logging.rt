@@ -47,6 +47,7 @@ fn text_of<P: Patches>(
         last,
         reverse: words.get_flag("reverse"),
         verbose: words.get_flag("verbose"),
+        places: words.get_flag("places"),
     };
     Ok(write_entries(rt.alloc(), patches, options)?)
 }

@@ -134,6 +134,13 @@ pub fn quiet<'a>(alloc: Global) -> Result<Arg<'a>, AllocError> {
     flag(alloc, "quiet", help::QUIET).conflicts_with("bundle")
 }
 
+/// The word that asks for places.
+pub fn places<'a>(alloc: Global) -> Result<Arg<'a>, AllocError> {
+    flag(alloc, "places", help::PLACES)
+        .conflicts_with("count")?
+        .conflicts_with("context")
+}
+
 /// The word that has patches counted.
 pub fn count<'a>(alloc: Global) -> Result<Arg<'a>, AllocError> {
     flag(alloc, "count", help::COUNT)

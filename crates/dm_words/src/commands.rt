@@ -2,8 +2,8 @@
 use crate::arguments::{
     all_kinds, bundle, bundles, context, count, dry_run, dry_run_at_mirror, explain, file, first,
     flag, folder, hash, last, minimal, mirror, names, no_wait, no_wait_at_mirror, number,
-    one_bundle, output, patches, place, posters, quiet, repository, skip, skip_special, stream,
-    text,
+    one_bundle, output, patches, place, places, posters, quiet, repository, skip, skip_special,
+    stream, text,
 };
 use crate::building::Building;
 use crate::help;
@@ -79,6 +79,7 @@ fn log_words<'a>(alloc: Global) -> Result<Command<'a>, AllocError> {
         .arg(last(alloc))
         .arg(flag(alloc, "reverse", help::REVERSE))
         .arg(flag(alloc, "verbose", help::VERBOSE))
+        .try_arg(places(alloc))
         .try_arg(count(alloc))
         .try_arg(context(alloc))
         .arg(all_kinds(alloc, help::READ_ALL_HERE))

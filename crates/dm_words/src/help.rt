@@ -52,6 +52,9 @@ pub const REVERSE: &str = "Newest first";
 /// Of `--verbose`.
 pub const VERBOSE: &str = "Print the text of each patch, too";
 
+/// Of `--places`.
+pub const PLACES: &str = "Print the place of each patch, counted from the oldest";
+
 /// Of `--count`.
 pub const COUNT: &str = "Print how many patches there are, and nothing else";
 
@@ -180,7 +183,7 @@ pub const SKIP_SPECIAL: &str = "Pass over links and special files in FOLDER";
 pub const FOLDER: &str = "With --names: the tree at the tag";
 
 /// Of the patches of `dm obliterate` and `dm rollback`.
-pub const PATCHES: &str = "A patch's name, or the first digits of its hash";
+pub const PATCHES: &str = "A patch's name, the first digits of its hash, or its place";
 
 /// What the exit status of `dm apply` says, and an example.
 pub const AFTER_APPLY: &str = "\
@@ -215,14 +218,14 @@ Example: dm checkout --mirror shelf.dm shelf";
 
 /// What the exit status of `dm obliterate` says, and an example.
 pub const AFTER_OBLITERATE: &str = "\
-PATCH is the name of one patch of the mirror, or the first digits of its hash, seven at least, as dm log prints it.
+PATCH is the name of one patch of the mirror, the first digits of its hash, seven at least, both with a space between them, or its place such as #3, as dm log --places prints it.
 Exit status: 0 if the patches were taken out, 1 if others rest on them, 2 if there is no answer.
 
 Example: dm obliterate --mirror shelf.dm -o gone.dpatch 5e1f9a2";
 
 /// What the exit status of `dm rollback` says, and an example.
 pub const AFTER_ROLLBACK: &str = "\
-PATCH is the name of one patch of the mirror, or the first digits of its hash, seven at least, as dm log prints it.
+PATCH is the name of one patch of the mirror, the first digits of its hash, seven at least, both with a space between them, or its place such as #3, as dm log --places prints it.
 Exit status: 0 if a bundle was made, 1 if other patches rest on these, 2 if there is no answer.
 
 Example: dm rollback --mirror shelf.dm --author 'Ann <ann@example.org>' 5e1f9a2 > undo.dpatch";

@@ -46,13 +46,13 @@ pieces-preserved g c plain =
     let size = c.decode-found.result.1 in
     let some : 0 < length bs = grind (arith, nat_tests, c.is_empty.ensures, c.pieces-test.true) in
     let now = c.pieces.invariant plain in
-    let step : shown_from (length bs) bs ≡ shown_piece found (take size bs) ++ shown_from (length (drop size bs)) (drop size bs) =
-    rw (c.decode-found.ensures.char, c.decode-found.ensures.size) (shown-step bs some) in
+    let step : shown_from c.args.manner (length bs) bs ≡ shown_piece c.args.manner found (take size bs) ++ shown_from c.args.manner (length (drop size bs)) (drop size bs) =
+    rw (c.decode-found.ensures.char, c.decode-found.ensures.size) (shown-step c.args.manner bs some) in
     let whole : take (length bs - size) (drop size bs) ≡ drop size bs = take_all _ _ (omega (arith, length-drop size bs)) in
-    let shown = shown_piece found (take size bs) in (
+    let shown = shown_piece c.args.manner found (take size bs) in (
       now.0 ++ shown,
       has_written_append _ _ _ _ _ _ now.1 (search rules),
-      ap (λ l. (now.0 ++ shown) ++ shown_from (length l) l) whole ∙ append_assoc now.0 shown _ ∙ ap (λ l. now.0 ++ l) (sym step) ∙ now.2,
+      ap (λ l. (now.0 ++ shown) ++ shown_from c.args.manner (length l) l) whole ∙ append_assoc now.0 shown _ ∙ ap (λ l. now.0 ++ l) (sym step) ∙ now.2,
     )
 
 pub returns : goal.returns
@@ -60,4 +60,4 @@ returns g c = λ plain ok.
     let now = c.pieces.invariant plain in
     let none : length c.pieces.rest.now ≡ 0 = grind (arith, nat_tests, c.is_empty.ensures, c.pieces-test.false) in
     subst (λ l. HasWritten g.W.Write.write_str_gives c.args.f.now l c.pieces.f)
-    (sym (append-nil now.0) ∙ ap (λ l. now.0 ++ l) (sym (shown-none c.pieces.rest.now none)) ∙ now.2) now.1
+    (sym (append-nil now.0) ∙ ap (λ l. now.0 ++ l) (sym (shown-none c.args.manner c.pieces.rest.now none)) ∙ now.2) now.1
