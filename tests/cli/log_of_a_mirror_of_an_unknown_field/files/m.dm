@@ -1,0 +1,5 @@
+dm journal fields
+kinds six
+checksum sha256
+conflicts kept
+
