@@ -15,7 +15,7 @@ _dm()
     check) options='--paths --hash --all-kinds --explain' ;;
     checkout) options='--mirror --no-wait --all-names' ;;
     init) options='--mirror --base --repository --all-kinds --names --skip-special --no-wait --explain' ;;
-    log) options='--mirror --base --repository --last --reverse --verbose --count --context --all-kinds --no-wait' ;;
+    log) options='--mirror --base --repository --last --reverse --verbose --places --count --context --all-kinds --no-wait' ;;
     obliterate) options='-o --mirror --output --with-dependents --dry-run --no-wait --explain' ;;
     rollback) options='--mirror --author --date --name --log --no-wait' ;;
     run) options='--mirrors --bound --base --repository --explain --skip' ;;
