@@ -5,28 +5,29 @@ _dm()
   local word=${COMP_WORDS[COMP_CWORD]} before=${COMP_WORDS[COMP_CWORD - 1]} command=${COMP_WORDS[1]} options i
   COMPREPLY=()
   if [ "$COMP_CWORD" -eq 1 ] || { [ "$COMP_CWORD" -eq 2 ] && [ "$command" = help ]; }; then
-    options='apply check checkout init log obliterate rollback run send'
+    options='apply check checkout init log obliterate rollback run send upgrade'
     [ "$COMP_CWORD" -eq 1 ] && options="$options help --help --version"
     mapfile -t COMPREPLY < <(compgen -W "$options" -- "$word")
     return
   fi
   case $command in
-    apply) options='--base --repository --mirror --no-wait --dry-run --bundle --quiet --hash --all-kinds --explain --skip --stream' ;;
+    apply) options='--base --repository --mirror --no-wait --dry-run --bundle --quiet --hash --all-kinds --six-kinds --explain --skip --stream' ;;
     check) options='--paths --hash --all-kinds --explain' ;;
     checkout) options='--mirror --no-wait --all-names' ;;
-    init) options='--mirror --base --repository --all-kinds --names --skip-special --no-wait --explain' ;;
-    log) options='--mirror --base --repository --last --reverse --verbose --places --count --context --all-kinds --no-wait' ;;
+    init) options='--mirror --base --repository --all-kinds --six-kinds --names --skip-special --no-wait --explain' ;;
+    log) options='-n -v --mirror --base --repository --last --reverse --verbose --places --count --context --kinds --all-kinds --no-wait' ;;
     obliterate) options='-o --mirror --output --with-dependents --dry-run --no-wait --explain' ;;
     rollback) options='--mirror --author --date --name --log --no-wait' ;;
     run) options='--mirrors --bound --base --repository --explain --skip' ;;
     send) options='--mirror --base --repository --first --minimal --all-kinds --no-wait --explain --to' ;;
+    upgrade) options='--mirror --no-wait' ;;
     *) return ;;
   esac
   case $before in
     --base | --repository | --mirror | --names | --to | --output | -o)
       _dm_files -f "$word"
       return ;;
-    --mirrors | --bound | --first | --last | --author | --date | --name | --log) return ;;
+    --mirrors | --bound | --first | --last | -n | --author | --date | --name | --log) return ;;
   esac
   if [[ $word = -* ]]; then
     mapfile -t COMPREPLY < <(compgen -W "$options --help" -- "$word")

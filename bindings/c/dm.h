@@ -155,7 +155,7 @@ dm_status dm_repo_send(const dm_repo *repo, const uint8_t *theirs, size_t len, c
 dm_status dm_repo_explain(const dm_repo *repo, const uint8_t *text, size_t len, const dm_limits *limits, uint32_t policy,
                           const dm_verdict *verdict, uint8_t *out, size_t cap, size_t *needed);
 
-/* The version, as `dm --version` has it behind the name: 0.1.0 */
+/* The version, as `dm --version` has it behind the name: 0.2.0 */
 dm_status dm_version(uint8_t *out, size_t cap, size_t *needed);
 
 #ifdef __cplusplus

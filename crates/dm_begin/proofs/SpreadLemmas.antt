@@ -1,5 +1,5 @@
 -- What holds of primitives that are spread over names.
-use Rattle.std.proofs.Common.{◌≡◌, ◌≢◌, ◌<◌, ◌≤◌, ◌-◌, ◌*◌, ℕ, zero, suc, List, [], ◌∷◌, ◌++◌, length, take, drop, refl, ap, ◌∙◌, arith}
+use Rattle.std.proofs.Common.{◌≡◌, ◌≢◌, ◌⊎◌, inl, ◌<◌, ◌≤◌, ◌-◌, ◌*◌, ℕ, zero, suc, List, [], ◌∷◌, ◌++◌, length, take, drop, refl, ap, ◌∙◌, arith}
 use Rattle.std.proofs.lemmas.List.{length-drop, length-take-le, take-append-drop}
 use Rattle.std.specs.List.{AllByRecursion, Contains}
 use Rattle.std.proofs.lemmas.List.Elements.{Contains-append_right}
@@ -59,7 +59,7 @@ filled_all deps (i ∷ is) ps e =
     let n : ℕ = first_count (length ps) (length is) in
     let l : length (take n ps) ≡ n = length-take-le n ps (omega arith) in
     let r : length (drop n ps) ≡ length ps - n = length-drop n ps in
-    (omega (arith, l, e), filled_all (i ∷ []) is (drop n ps) (omega (arith, r, e)))
+    (inl (omega (arith, l, e)), filled_all (i ∷ []) is (drop n ps) (omega (arith, r, e)))
 
 taken_some : (n : ℕ) (ps : List Prim) → take n ps ≢ [] → 0 < n
 taken_some zero ps some = absurd (some refl)

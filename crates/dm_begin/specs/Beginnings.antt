@@ -1,10 +1,10 @@
 -- What a mirror begins with at a tag: patches of the names that the tag covers, which make the tag's tree.
-use Rattle.std.specs.Prelude.{◌≡◌, ◌≢◌, ℕ, List, [], ◌∷◌, ◌++◌, length}
+use Rattle.std.specs.Prelude.{◌≡◌, ◌≢◌, ◌⊎◌, ℕ, List, [], ◌∷◌, ◌++◌, length}
 use Rattle.std.specs.List.{AllByRecursion}
 use Rattle.dm_info.specs.PatchInfo.{PatchInfo}
 use Rattle.dm_tree.specs.Trees.{Tree}
 use Rattle.dm_prim.specs.Primitives.{Prim}
-use Rattle.dm_named.specs.Limits.{own}
+use Rattle.dm_named.specs.Limits.{own, standard}
 use Rattle.dm_named.specs.Patches.{Patch}
 use Rattle.dm_named.specs.declared.limits.Kinds.TheVariants as these
 use Rattle.dm_bundle.specs.Patches.{infos_of, AreFewWithin, AreAllOf}
@@ -20,9 +20,9 @@ abbrev pub IsChain : List PatchInfo → List Patch → Type 0
 IsChain deps [] = Unit {0}
 IsChain deps (x ∷ xs) = (x.deps ≡ deps) × IsChain (x.info ∷ []) xs
 
--- the patch has as many primitives as one may have
+-- the patch has as many primitives as one may have, or as one of somebody else may have: mirrors of before were filled so far
 abbrev pub IsFilled : Patch → Type 0
-IsFilled x = length x.prims ≡ most_prims
+IsFilled x = (length x.prims ≡ most_prims) ⊎ (length x.prims ≡ standard.prims)
 
 -- after a patch with a primitive all are filled: the primitives stand in the last patch, or in the last few
 abbrev pub IsPacked : List Patch → Type 0

@@ -1,5 +1,5 @@
 //! The base of a repository that begins at a tag.
-ghost use Rattle.std.specs.Prelude.{◌≡◌, ◌≢◌, ◌↔◌, [], IsTrue};
+ghost use Rattle.std.specs.Prelude.{◌≡◌, ◌≢◌, ◌↔◌, [], IsTrue, length};
 ghost use Rattle.dm_begin.specs.Beginnings.{IsFilled};
 ghost use Rattle.dm_begin.specs.Bases.{BeginsWith, IsTagWithTree, MayHaveBase};
 ghost use Rattle.dm_begin.specs.Chains.{last_name};
@@ -28,11 +28,18 @@ fn has_prims<A: Allocator>(patch: &Named<A>) -> bool
     !patch.prims().is_empty()
 }
 
-/// Whether it has as many primitives as a patch may have.
+/// Whether it has so many primitives.
+fn has_count<A: Allocator>(patch: &Named<A>, count: usize) -> bool
+    ensures { IsTrue result ↔ (length patch.now.prims ≡ count) }
+{
+    patch.prims().len() == count
+}
+
+/// Whether it has as many primitives as a patch may have, or as one of somebody else may have.
 fn is_filled<A: Allocator>(patch: &Named<A>) -> bool
     ensures { IsTrue result ↔ IsFilled patch.now }
 {
-    patch.prims().len() == Limits::OWN.prims
+    has_count(patch, Limits::OWN.prims) || has_count(patch, Limits::STANDARD.prims)
 }
 
 /// Whether it is a tag that has a primitive.

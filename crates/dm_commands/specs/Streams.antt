@@ -1,5 +1,5 @@
 -- What was read of a reader, and what was written of an answer.
-use Rattle.std.specs.Prelude.{◌≡◌, ◌+◌, ◌≤◌, ◌⊎◌, ℕ, List, length, take, Option}
+use Rattle.std.specs.Prelude.{◌≡◌, ◌≢◌, ◌+◌, ◌≤◌, ◌⊎◌, ℕ, List, length, take, Option}
 use Rattle.dm_named.specs.Limits.{standard}
 use Rattle.dm_named.specs.declared.limits.Limits.{Limits}
 use Rattle.std.specs.Io.KnownBytes.{Appends, Consumes, IsAtEnd}
@@ -27,3 +27,23 @@ pub record WritesPrefix (IsAnswer : List ℕ → ℕ → Type 0) (before after :
   pub count : ℕ
   pub answers : IsAnswer out status
   pub written : Appends before after (take count out)
+
+-- of two writers the first got this text where the status is 0, else the other; the one that got nothing is as it was
+abbrev pub AppendsApart : Option (List ℕ) → Option (List ℕ) → Option (List ℕ) → Option (List ℕ) → ℕ → List ℕ → Type 0
+AppendsApart before after other_before other_after status text =
+    ((status ≡ 0) × (Appends before after text × (other_after ≡ other_before)))
+        ⊎ ((status ≢ 0) × ((after ≡ before) × Appends other_before other_after text))
+
+-- an answer was written whole to one of two writers, by its exit status
+pub record WritesApart (IsAnswer : List ℕ → ℕ → Type 0) (before after other_before other_after : Option (List ℕ)) (status : ℕ) : Type 0 where
+  pub out : List ℕ
+  pub answers : IsAnswer out status
+  pub written : AppendsApart before after other_before other_after status out
+
+-- what was written, to one of two writers, is a prefix of an answer
+pub record WritesPrefixApart (IsAnswer : List ℕ → ℕ → Type 0) (before after other_before other_after : Option (List ℕ)) : Type 0 where
+  pub out : List ℕ
+  pub status : ℕ
+  pub count : ℕ
+  pub answers : IsAnswer out status
+  pub written : AppendsApart before after other_before other_after status (take count out)

@@ -1,6 +1,5 @@
 //! The command `dm send`.
-ghost use Rattle.std.specs.Prelude.{◌≡◌, ◌≢◌, ◌⊎◌, IfOk, IfErr};
-ghost use Rattle.std.specs.Io.KnownBytes.{Keeps};
+ghost use Rattle.std.specs.Prelude.{◌≡◌, ◌≢◌, ◌⊎◌, ℕ, take, IfOk, IfErr, OnErr, OnOk};
 ghost use Rattle.dm_named.specs.Laws.{with_kinds};
 ghost use Rattle.dm_named.specs.Limits.{standard};
 ghost use Rattle.dm_scratch.specs.declared.verdict.Verdict.TheVariants.{Refused};
@@ -9,7 +8,7 @@ ghost use Rattle.dm_scratch.specs.Taking.{ReadsWithin};
 ghost use Rattle.dm_scratch.specs.Words.{verdict_text};
 ghost use Rattle.dm_begin.specs.Bases.{KnowsBase};
 ghost use Rattle.dm_send.specs.Telling.{TellsNames};
-ghost use Rattle.dm_commands.specs.Streams.{Writes, WritesPrefix};
+ghost use Rattle.dm_commands.specs.Streams.{AppendsApart, WritesApart, WritesPrefixApart};
 ghost use Rattle.dm_commands.specs.Sending.{AnswersNames, AnswersTexts, CountsUnheld, hashed_text, IsPastLimits, IsWithinLimits, RefusesNames, RefusesTexts, RefusesTheirs, TheirNames};
 ghost use Rattle.dm_commands.specs.Sending.{RefusesToSendFor, SendsFor, TellsNumbers, TellsTexts};
 
@@ -220,19 +219,37 @@ fn answer_to(
     Ok(answer)
 }
 
+/// Writes an answer with the status 0 to the first writer, and any other to the second.
+fn write_apart<W: Write, E: Write>(
+    out: &[u8],
+    status: u8,
+    writer: &mut W,
+    errors: &mut E,
+) -> Result<(), ToolFault>
+    ensures ok { OnOk result (AppendsApart (W.contents writer.old) (W.contents writer.new) (E.contents errors.old) (E.contents errors.new) status out.now) }
+    ensures prefix { OnErr result ((count : ℕ) ×
+        AppendsApart (W.contents writer.old) (W.contents writer.new) (E.contents errors.old) (E.contents errors.new) status (take count out.now)) }
+    ensures fault { IfErr result (λ e. e ≡ ToolFault.Write) }
+{
+    if status == 0 {
+        return write_text(out, writer);
+    }
+    write_text(out, errors)
+}
+
 /// Writes the canonical bundle of the patches that somebody lacks, as they stand behind what both hold: the first `most` of
 /// those of a repository, whose primitives are of these kinds. Another text tells what they hold; without one they hold nothing. A minimal bundle names in its context
 /// only what its patches rest on. Behind the context stands the hash of the patches. Where a patch that they hold rests on one
-/// that they don't, or a repository of what both hold would refuse the bundle, it writes the line of the refusal. Returns the exit
-/// status, 0 with a bundle and 1 with a refusal, and what it tells.
+/// that they don't, or a repository of what both hold would refuse the bundle, it writes the line of the refusal instead, to `errors`:
+/// who awaits a bundle gets nothing. Returns the exit status, 0 with a bundle and 1 with a refusal, and what it tells.
 ///
-/// The first patches of the repository, so many of them, are its base. Where they don't have all of it, it writes the line `refused
+/// The first patches of the repository, so many of them, are its base. Where they don't have all of it, that line is `refused
 /// before-base`. Of a base that they have the context names the last patch, and no other.
 ///
 /// Errors: [`ToolFault::BadNames`] where the other text tells no names; [`ToolFault::TooManyToSend`] where the bundle is past a
 /// limit of what `dm` reads; [`ToolFault::NoMemory`]; [`ToolFault::Write`]. Only after the last has anything been written, which
 /// is a prefix of the output.
-pub fn send_over<W: Write>(
+pub fn send_over<W: Write, E: Write>(
     alloc: Global,
     kinds: Kinds,
     repo: &Repo<Global>,
@@ -241,16 +258,19 @@ pub fn send_over<W: Write>(
     most: usize,
     is_minimal: bool,
     writer: &mut W,
+    errors: &mut E,
 ) -> Result<Sent, ToolFault>
-    ensures ok { IfOk result (λ sent. Writes (AnswersTexts kinds is_minimal repo.now.patches base theirs.entry most)
-        (W.contents writer.old) (W.contents writer.new) sent.status) }
+    ensures ok { IfOk result (λ sent. WritesApart (AnswersTexts kinds is_minimal repo.now.patches base theirs.entry most)
+        (W.contents writer.old) (W.contents writer.new) (E.contents errors.old) (E.contents errors.new) sent.status) }
     ensures told { IfOk result (TellsTexts is_minimal repo.now.patches base theirs.entry most) }
     ensures fault { IfErr result (λ e. (e ≢ ToolFault.Write) → RefusesTexts kinds is_minimal repo.now.patches base theirs.entry most e) }
-    ensures silent { IfErr result (λ e. (e ≢ ToolFault.Write) → Keeps (W.contents writer.old) (W.contents writer.new)) }
+    ensures silent { IfErr result (λ e. (e ≢ ToolFault.Write) →
+        (W.contents writer.new ≡ W.contents writer.old) × (E.contents errors.new ≡ E.contents errors.old)) }
     ensures prefix { IfErr result (λ e. (e ≡ ToolFault.Write) →
-        WritesPrefix (AnswersTexts kinds is_minimal repo.now.patches base theirs.entry most) (W.contents writer.old) (W.contents writer.new)) }
+        WritesPrefixApart (AnswersTexts kinds is_minimal repo.now.patches base theirs.entry most)
+            (W.contents writer.old) (W.contents writer.new) (E.contents errors.old) (E.contents errors.new)) }
 {
     let (out, sent) = answer_to(alloc, kinds, repo, base, theirs, most, is_minimal)?;
-    write_text(&out, writer)?;
+    write_apart(&out, sent.status, writer, errors)?;
     Ok(sent)
 }

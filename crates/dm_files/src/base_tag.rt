@@ -1,9 +1,9 @@
 //! What is said and refused of the tag with which a mirror begins.
+use crate::telling::{Output, write_refusal};
 use crate::word_fault::WordFault;
-use dm_commands::{base_tag, before_base_line, write_text};
+use dm_commands::{base_tag, before_base_line};
 use dm_repo::Repo;
 use std::alloc::Global;
-use std::io;
 use std::rt::Runtime;
 
 /// Says on standard error with which tag a mirror begins whose first patches, so many of them, are its base, if it does.
@@ -24,15 +24,16 @@ pub fn say_base(rt: &HostRuntime, repo: &Repo<Global>, base: usize) {
     };
 }
 
-/// Prints the line where something doesn't rest on the whole base, and says what was left.
+/// Writes the line where something doesn't rest on the whole base, and says what was left.
 pub fn refuse_before_base<'a>(
     rt: &HostRuntime,
+    output: Output,
     repo: &Repo<Global>,
     base: usize,
     left: &str,
 ) -> Result<u8, WordFault<'a>> {
     let line = before_base_line(rt.alloc())?;
-    write_text(&line, &mut io::writer(rt))?;
+    write_refusal(rt, output, &line)?;
     if let Some(tag) = base_tag(repo, base) {
         let _ = eprintln!(rt; "dm: {left}: the mirror begins at {tag}");
     }

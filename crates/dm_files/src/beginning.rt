@@ -4,17 +4,16 @@ ghost use Rattle.dm_disk.specs.States.{seen, may_leave, file_may_leave, left_sin
 ghost use Rattle.dm_journal.specs.Device.{IsDurable, LeavesOnly};
 ghost use Rattle.dm_store.specs.Keeping.{IsOrKeeps, IsStored, kept_as, kept_in};
 ghost use Rattle.dm_store.specs.Kinds.{kinds_in};
-ghost use Rattle.dm_named.specs.declared.limits.Kinds.TheVariants.{Six};
 ghost use Rattle.dm_commands.specs.Mirrors.{IsInTheWay, IsMirrorOf};
 ghost use Rattle.dm_files.specs.Mirrors.{TellsOf};
 
 use crate::base_tag::say_begun;
-use crate::files::{BaseFile, base_of, read_base};
+use crate::files::{BaseFile, base_of, read_base_in};
 use crate::from_folder::read_beginning;
 use crate::mirror::{blame, find_file, of_kept, open_file, open_store};
 use crate::telling::{Manner, tell};
 use crate::word_fault::WordFault;
-use crate::words::kinds_of;
+use crate::words::new_kinds_of;
 use clap::ArgMatches;
 use dm_commands::{ToolFault, Unbegun, kept_or_new_mirror, new_mirror, repo_of, write_text};
 use dm_deliver::{Answer, DateRule, HashRule, date_fault_within, hash_fault_within};
@@ -78,7 +77,7 @@ fn read_start<'a>(
     reading: Reading,
     words: &ArgMatches<'a>,
 ) -> Result<Repo<Global>, WordFault<'a>> {
-    let file = read_base(rt, words)?;
+    let file = read_base_in(rt, words, reading.kinds)?;
     if let Some(file) = &file {
         refuse_unfit_base(rt, colour, words, file)?;
     }
@@ -106,35 +105,39 @@ fn of_unbegun<'a>(path: &'a str, fault: Unbegun, file: &DiskFile) -> WordFault<'
     }
 }
 
-/// The mirror of a file: what it keeps, or where it has no bytes one of the six kinds that begins with this repository, without a
+/// The mirror of a file: what it keeps, or where it has no bytes one of these kinds that begins with this repository, without a
 /// base.
 fn store_of<'a>(
     rt: &HostRuntime,
     path: &'a str,
     file: DiskFile,
     start: Repo<Global>,
+    kinds: Kinds,
 ) -> Result<Store<DiskFile>, WordFault<'a>>
     requires { IsDurable seen may_leave file_may_leave file }
     ensures stored { IfOk result (IsStored seen may_leave file_may_leave) }
     ensures kept { IfOk result (λ store. IsMirrorOf (kinds_in store) (seen file) (kept_in store)
-        ⊎ ((seen file ≡ []) × (store.repo ≡ start) × (store.base ≡ 0) × (kinds_in store ≡ Six))) }
-    ensures any_moment { IfOk result (λ store. LeavesOnly length left_since file store.journal.device (IsOrKeeps Six (seen file) (kept_as 0 start.patches))) }
+        ⊎ ((seen file ≡ []) × (store.repo ≡ start) × (store.base ≡ 0) × (kinds_in store ≡ kinds))) }
+    ensures any_moment { IfOk result (λ store. LeavesOnly length left_since file store.journal.device (IsOrKeeps kinds (seen file) (kept_as 0 start.patches))) }
     ensures tells { IfErr result (TellsOf (seen file)) }
 {
     let is_empty = file.is_empty();
-    match kept_or_new_mirror(rt.alloc(), file, is_empty, start, 0, Kinds::Six) {
+    match kept_or_new_mirror(rt.alloc(), file, is_empty, start, 0, kinds) {
         Ok(store) => Ok(store),
         Err((fault, file)) => Err(of_unbegun(path, fault, &file)),
     }
 }
 
-/// Says that a base isn't used, where one is named.
-fn say_base_unused(rt: &HostRuntime, words: &ArgMatches<'_>) {
+/// Says that a base isn't used, where one is named, nor the kinds of a new mirror.
+fn say_unused(rt: &HostRuntime, words: &ArgMatches<'_>) {
     if words.contains_id("base") {
         let _ = eprintln!(rt; "dm: the mirror is there already; --base isn't used");
     }
     if words.contains_id("repository") {
         let _ = eprintln!(rt; "dm: the mirror is there already; --repository isn't used");
+    }
+    if words.get_flag("six-kinds") {
+        let _ = eprintln!(rt; "dm: the mirror is there already; --six-kinds isn't used");
     }
 }
 
@@ -151,17 +154,18 @@ pub fn open_mirror<'a>(
 {
     let found = match find_file(rt, words, path, Access::Write, is_terminal)? {
         Some(file) if !file.is_empty() => {
-            say_base_unused(rt, words);
+            say_unused(rt, words);
             return open_store(rt, path, file);
         }
         found => found,
     };
-    let start = read_start(rt, colour, Reading::of_mirror(Kinds::Six), words)?;
+    let kinds = new_kinds_of(words);
+    let start = read_start(rt, colour, Reading::of_mirror(kinds), words)?;
     let file = match found {
         Some(file) => file,
         None => open_file(rt, words, path, Access::Create, is_terminal)?,
     };
-    store_of(rt, path, file, start)
+    store_of(rt, path, file, start, kinds)
 }
 
 /// A repository without a base, as a mirror of these kinds of which nothing is written.
@@ -195,14 +199,15 @@ pub fn rehearse_mirror<'a>(
 {
     if let Some(file) = find_file(rt, words, path, Access::Read, is_terminal)? {
         if !file.is_empty() {
-            say_base_unused(rt, words);
+            say_unused(rt, words);
             if let Some(rehearsal) = file.rehearse() {
                 return open_store(rt, path, rehearsal);
             }
         }
     }
-    let start = read_start(rt, colour, Reading::of_mirror(Kinds::Six), words)?;
-    rehearse_start(rt, start, Kinds::Six, path)
+    let kinds = new_kinds_of(words);
+    let start = read_start(rt, colour, Reading::of_mirror(kinds), words)?;
+    rehearse_start(rt, start, kinds, path)
 }
 
 /// Why a file that has bytes is no place for a new mirror: it keeps one, or something else.
@@ -270,7 +275,7 @@ fn make_mirror<'a>(
         Some(file) if !file.is_empty() => return Err(refuse_place(rt, path, file)),
         found => found,
     };
-    let reading = Reading::of_words(kinds_of(words));
+    let reading = Reading::of_words(new_kinds_of(words));
     let start = read_first(rt, colour, reading, words)?;
     let file = match found {
         Some(file) => file,

@@ -1,5 +1,5 @@
 //! The files that the words of a command name, as texts, mirrors and folders, and the commands whose work is done on them: `dm init`,
-//! `dm apply --mirror`, `dm checkout`, `dm obliterate` and `dm rollback`.
+//! `dm apply --mirror`, `dm checkout`, `dm obliterate`, `dm rollback` and `dm upgrade`.
 //!
 //! [`WordFault`] says why words start nothing, or why what they started gives no answer, and [`tell`] prints it. [`apply_to_mirror`]
 //! rests on theorems: what comes is answered in turn by what the mirror held, each line stands behind the taking that it tells, and
@@ -23,6 +23,7 @@ mod progress;
 mod take_back_fault;
 mod telling;
 mod undoing;
+mod upgrading;
 mod word_fault;
 mod words;
 
@@ -39,5 +40,6 @@ pub use obliterating::obliterate_chosen;
 pub use take_back_fault::TakeBackFault;
 pub use telling::{Manner, NO_ANSWER, exit_status, fixed_manner, tell};
 pub use undoing::roll_back_chosen;
+pub use upgrading::upgrade;
 pub use word_fault::WordFault;
 pub use words::{kinds_of, policy_of, refuse_kinds};

@@ -13,12 +13,12 @@ use crate::word_fault::WordFault;
 use clap::ArgMatches;
 use dm_commands::{MirrorFault, kept_mirror};
 use dm_disk::{Access, DiskFile, Lock, OpenFault};
-use dm_journal::{Device, Fault, OpenError, unknown_field};
+use dm_journal::{Device, Fault, Format, OpenError, unknown_field};
 use dm_named::Kinds;
 use dm_quoted::Quoted;
 use dm_repo::Repo;
 use dm_store::{Store, StoreError};
-use std::alloc::Global;
+use std::alloc::{AllocError, Global};
 use std::fs::File;
 use std::io::Read;
 use std::rt::Runtime;
@@ -141,6 +141,35 @@ pub struct KeptRepo {
     pub base: usize,
     /// The kinds of primitives that the mirror reads.
     pub kinds: Kinds,
+    /// The format of the file.
+    pub format: Format,
+}
+
+impl KeptRepo {
+    /// What the kinds are called.
+    fn kinds_name(&self) -> &'static str {
+        match self.kinds {
+            Kinds::Six => "six",
+            Kinds::All => "all",
+        }
+    }
+
+    /// What the format is called: the number of its version, or what its header has.
+    fn format_name(&self) -> &'static str {
+        match self.format {
+            Format::First => "1",
+            Format::Second => "2",
+            Format::Third => "4",
+            Format::Fields(_) => "fields",
+        }
+    }
+
+    /// A line of the kinds, and one of the format.
+    pub fn told_kinds(&self, alloc: Global) -> Result<String, AllocError> {
+        let kinds = self.kinds_name();
+        let format = self.format_name();
+        format!(in alloc; "kinds {kinds}\nformat {format}\n")
+    }
 }
 
 /// The mirror of `--mirror`, to be read.
@@ -167,8 +196,14 @@ pub fn read_repo<'a>(
     let store = read_mirror(rt, words, is_terminal)?;
     let kinds = store.kinds();
     let base = store.base();
+    let format = store.format();
     let (_, repo) = store.into_parts();
-    Ok(KeptRepo { repo, base, kinds })
+    Ok(KeptRepo {
+        repo,
+        base,
+        kinds,
+        format,
+    })
 }
 
 /// The file of a mirror, if one stands at the path.

@@ -13,6 +13,7 @@ use crate::base_tag::refuse_before_base;
 use crate::choosing::{chosen_names, label_of};
 use crate::mirror::{blame, open_file, open_store, say_lost_rights, unopened};
 use crate::take_back_fault::TakeBackFault;
+use crate::telling::{Output, write_refusal};
 use crate::word_fault::WordFault;
 use clap::ArgMatches;
 use dm_bundle::Bundle;
@@ -127,22 +128,23 @@ pub fn say_bound<'a>(
     Ok(())
 }
 
-/// Prints that patches are bound to those that were chosen, and which.
+/// Says that patches are bound to those that were chosen, and which.
 pub fn refuse_bound<'a>(
     rt: &HostRuntime,
+    output: Output,
     bound: &[(Info<Global>, Info<Global>)],
 ) -> Result<u8, WordFault<'a>> {
     let count = bound.len();
     let line = format!(in rt.alloc(); "refused depends {count}\n")?;
-    write_text(line.as_bytes(), &mut io::writer(rt))?;
+    write_refusal(rt, output, line.as_bytes())?;
     say_bound(rt, bound)?;
     Ok(1)
 }
 
-/// Prints the line of a refusal.
-pub fn refuse<'a>(rt: &HostRuntime, why: Refusal) -> Result<u8, WordFault<'a>> {
+/// Writes the line of a refusal.
+pub fn refuse<'a>(rt: &HostRuntime, output: Output, why: Refusal) -> Result<u8, WordFault<'a>> {
     let line = refusal_line(rt.alloc(), why)?;
-    write_text(&line, &mut io::writer(rt))?;
+    write_refusal(rt, output, &line)?;
     Ok(1)
 }
 
@@ -247,6 +249,15 @@ fn take_out<'a>(
     keep_or_show(rt, words, path, store, &bundle, repo)
 }
 
+/// What standard output is for, where the words may name a file for the bundle.
+fn output_of(words: &ArgMatches<'_>) -> Output {
+    if words.contains_id("output") {
+        Output::Lines
+    } else {
+        Output::Bundle
+    }
+}
+
 /// Takes the patches that the words choose out of a mirror.
 fn take_chosen<'a>(
     rt: &HostRuntime,
@@ -258,18 +269,20 @@ fn take_chosen<'a>(
     requires { IsStored seen may_leave file_may_leave store.old }
 {
     let chosen = chosen_names(rt, words, store.repo())?;
+    let output = output_of(words);
     let out = match obliterate_unless_base(rt.alloc(), store.repo(), store.base(), &chosen) {
         Ok(Some(out)) => out,
         Ok(None) => return refuse_before_base(
             rt,
+            output,
             store.repo(),
             store.base(),
             "nothing was taken out",
         ),
-        Err(why) => return refuse(rt, why),
+        Err(why) => return refuse(rt, output, why),
     };
     if !out.bound.is_empty() && !words.get_flag("with-dependents") {
-        let status = refuse_bound(rt, &out.bound)?;
+        let status = refuse_bound(rt, output, &out.bound)?;
         let _ = eprintln!(rt;
             "dm: nothing was taken out; --with-dependents takes these patches out too"
         );

@@ -1,6 +1,8 @@
 //! What a command says on standard error besides an answer, and how it ends without one.
 use crate::word_fault::{Reason, Told, WordFault, has_reason};
 use clap::ArgMatches;
+use dm_commands::write_text;
+use std::io;
 use std::rt::Runtime;
 
 /// The exit status where there is no answer.
@@ -41,6 +43,28 @@ pub fn tell<R: Runtime + AllocGlobal>(rt: &R, manner: Manner, fault: WordFault<'
         }
     };
     NO_ANSWER
+}
+
+/// What standard output is for.
+#[derive(Clone, Copy, Debug, PartialEq, Eq)]
+pub enum Output {
+    /// Lines that say what became of a command.
+    Lines,
+    /// A bundle and nothing else: who awaits one gets no other line.
+    Bundle,
+}
+
+/// Writes the line of a refusal, to standard error where standard output is for a bundle.
+pub fn write_refusal<'a>(
+    rt: &HostRuntime,
+    output: Output,
+    line: &[u8],
+) -> Result<(), WordFault<'a>> {
+    match output {
+        Output::Lines => write_text(line, &mut io::writer(rt))?,
+        Output::Bundle => write_text(line, &mut rt.stderr())?,
+    }
+    Ok(())
 }
 
 /// The exit status of a command that has run.

@@ -4,6 +4,7 @@ use crate::choosing::chosen_names;
 use crate::mirror::{KeptRepo, read_repo};
 use crate::obliterating::{refuse, refuse_bound};
 use crate::take_back_fault::TakeBackFault;
+use crate::telling::Output;
 use crate::word_fault::WordFault;
 use clap::ArgMatches;
 use dm_commands::{names_base, text_of, undo_chosen, write_text};
@@ -105,9 +106,9 @@ fn refuse_undoing<'a>(rt: &HostRuntime, fault: UndoFault<Global>) -> Result<u8, 
     match fault {
         UndoFault::Held => Err(WordFault::TakeBack(TakeBackFault::NameIsHeld)),
         UndoFault::ChangesNothing => Err(WordFault::TakeBack(TakeBackFault::NothingToUndo)),
-        UndoFault::Refused(why) => refuse(rt, why),
+        UndoFault::Refused(why) => refuse(rt, Output::Bundle, why),
         UndoFault::Bound(bound) => {
-            let status = refuse_bound(rt, &bound)?;
+            let status = refuse_bound(rt, Output::Bundle, &bound)?;
             let _ = eprintln!(rt;
                 "dm: no bundle was made; name these patches too, or roll them back before"
             );
@@ -122,10 +123,12 @@ pub fn roll_back_chosen<'a>(
     words: &ArgMatches<'a>,
     is_terminal: bool,
 ) -> Result<u8, WordFault<'a>> {
-    let KeptRepo { repo, base, kinds } = read_repo(rt, words, is_terminal)?;
+    let KeptRepo {
+        repo, base, kinds, ..
+    } = read_repo(rt, words, is_terminal)?;
     let chosen = chosen_names(rt, words, &repo)?;
     if names_base(&repo, base, &chosen) {
-        return refuse_before_base(rt, &repo, base, "no bundle was made");
+        return refuse_before_base(rt, Output::Bundle, &repo, base, "no bundle was made");
     }
     let info = info_of(rt, words, &chosen)?;
     match undo_chosen(rt.alloc(), &repo, base, &chosen, info) {

@@ -63,7 +63,7 @@ pub enum WordFault<'a> {
     #[error("{0}")]
     BadFrame(FrameFault),
     /// The kinds of primitives were named beside a mirror.
-    #[error("a mirror remembers which kinds it reads; --all-kinds goes with dm init")]
+    #[error("a mirror remembers which kinds it reads; dm upgrade makes it read all")]
     KindsOfMirror,
     /// Names in a file tell nothing, or no mirror begins with them.
     #[error("{0}")]

@@ -13,7 +13,16 @@ pub fn kinds_of(words: &ArgMatches<'_>) -> Kinds {
     }
 }
 
-/// Refuses words that name the kinds beside a mirror, which remembers them.
+/// The kinds of primitives that a mirror reads which the words of a command make.
+pub fn new_kinds_of(words: &ArgMatches<'_>) -> Kinds {
+    if words.get_flag("six-kinds") {
+        Kinds::Six
+    } else {
+        Kinds::All
+    }
+}
+
+/// Refuses words that name all kinds beside a mirror, which remembers what it reads.
 pub fn refuse_kinds<'a>(words: &ArgMatches<'a>) -> Result<(), WordFault<'a>> {
     match kinds_of(words) {
         Kinds::Six => Ok(()),

@@ -35,10 +35,19 @@ darcs2_body deps (p ∷ ps) = gap deps ++ flat_map prim_text (p ∷ ps)
 abbrev pub kept_patch : (List PatchInfo → List Prim → List ℕ) → Patch → List ℕ
 kept_patch body p = kept_front p ++ body p.deps p.prims
 
--- patches, one directly after the other, as a darcs-1 repository keeps them
-abbrev pub darcs1_text : List Patch → List ℕ
-darcs1_text patches = flat_map (kept_patch darcs1_body) patches
+-- patches kept so, one directly after the other
+abbrev pub in_turn : (List PatchInfo → List Prim → List ℕ) → List Patch → List ℕ
+in_turn body patches = flat_map (kept_patch body) patches
 
--- patches, one directly after the other, as a darcs-2 repository keeps them
+-- the text that is hashed: the patches in turn, or a newline where there is none
+abbrev pub kept_text : (List PatchInfo → List Prim → List ℕ) → List Patch → List ℕ
+kept_text body [] = codes "\n"
+kept_text body (p ∷ ps) = in_turn body (p ∷ ps)
+
+-- as a darcs-1 repository keeps them
+abbrev pub darcs1_text : List Patch → List ℕ
+darcs1_text patches = kept_text darcs1_body patches
+
+-- as a darcs-2 repository keeps them
 abbrev pub darcs2_text : List Patch → List ℕ
-darcs2_text patches = flat_map (kept_patch darcs2_body) patches
+darcs2_text patches = kept_text darcs2_body patches

@@ -1,10 +1,10 @@
 //! The hashes of patches as darcs keeps them.
 
-ghost use Rattle.std.specs.Prelude.{◌≡◌, ◌≤◌, ℕ, List, ◌++◌, length, IfOk, OnOk};
+ghost use Rattle.std.specs.Prelude.{◌≡◌, ◌≤◌, ℕ, List, [], ◌++◌, length, IfOk, OnOk};
 ghost use Rattle.std.specs.List.{flat_map};
 ghost use Rattle.sha1.specs.Sha1.{Holds, sha1};
 ghost use Rattle.dm_named.specs.Canonical.{prim_text, body_text, patch_text};
-ghost use Rattle.dm_hash.specs.Kept.{kept_deps, kept_front, gap, darcs1_body, darcs2_body, kept_patch, darcs1_text, darcs2_text};
+ghost use Rattle.dm_hash.specs.Kept.{kept_deps, kept_front, gap, darcs1_body, darcs2_body, kept_patch, in_turn, darcs1_text, darcs2_text};
 
 use dm_info::{Info, push_info};
 use dm_named::{Named, push_named};
@@ -98,13 +98,27 @@ pub(crate) struct Hashes {
     pub(crate) darcs2: [u8; 20],
 }
 
-/// Both hashes of these patches, in one pass. At most one patch's text is in memory at a time.
-pub(crate) fn hashes_of<A: Allocator, B: Allocator + Copy>(
+/// The hash of a newline, twice: where there is no patch, Darcs hashes one in both ways.
+fn hashes_of_none() -> Hashes
+    ensures darcs1 { result.darcs1 ≡ sha1 (darcs1_text []) }
+    ensures darcs2 { result.darcs2 ≡ sha1 (darcs2_text []) }
+{
+    let mut hasher = Sha1::new();
+    hasher.update(b"\n");
+    let hash = hasher.finalize();
+    Hashes {
+        darcs1: hash,
+        darcs2: hash,
+    }
+}
+
+/// Both hashes of these patches, one directly after the other, in one pass. At most one patch's text is in memory at a time.
+fn hashes_in_turn<A: Allocator, B: Allocator + Copy>(
     alloc: B,
     patches: &[Named<A>],
 ) -> Result<Hashes, AllocError>
-    ensures darcs1 { IfOk result (λ h. h.darcs1 ≡ sha1 (darcs1_text patches.now)) }
-    ensures darcs2 { IfOk result (λ h. h.darcs2 ≡ sha1 (darcs2_text patches.now)) }
+    ensures darcs1 { IfOk result (λ h. h.darcs1 ≡ sha1 (in_turn darcs1_body patches.now)) }
+    ensures darcs2 { IfOk result (λ h. h.darcs2 ≡ sha1 (in_turn darcs2_body patches.now)) }
 {
     let mut front = Vec::new(alloc);
     let mut text = Vec::new(alloc);
@@ -123,4 +137,18 @@ pub(crate) fn hashes_of<A: Allocator, B: Allocator + Copy>(
         darcs1: darcs1.finalize(),
         darcs2: darcs2.finalize(),
     })
+}
+
+/// Both hashes of these patches.
+pub(crate) fn hashes_of<A: Allocator, B: Allocator + Copy>(
+    alloc: B,
+    patches: &[Named<A>],
+) -> Result<Hashes, AllocError>
+    ensures darcs1 { IfOk result (λ h. h.darcs1 ≡ sha1 (darcs1_text patches.now)) }
+    ensures darcs2 { IfOk result (λ h. h.darcs2 ≡ sha1 (darcs2_text patches.now)) }
+{
+    if patches.is_empty() {
+        return Ok(hashes_of_none());
+    }
+    hashes_in_turn(alloc, patches)
 }

@@ -10,4 +10,4 @@ standard = record { bytes = 4194304; patches = 1000; prims = 10000; replaces = 5
 
 -- for the text of a repository of one's own: each primitive may be a replace
 abbrev pub own : Limits
-own = record { bytes = 1073741824; patches = 100000; prims = standard.prims; replaces = 100000 * standard.prims; kinds = these.Six }
+own = record { bytes = 1073741824; patches = 100000; prims = 1000000; replaces = 100000 * 1000000; kinds = these.Six }

@@ -37,13 +37,13 @@ impl Limits {
         kinds: Kinds::Six,
     };
 
-    /// For the text of a repository of one's own: 1 GiB, 100,000 patches, as many as a repository can hold, and in each as many
-    /// primitives as in a patch of somebody else, of the same kinds. Each may be a replace.
+    /// For the text of a repository of one's own: 1 GiB, 100,000 patches, as many as a repository can hold, and 1,000,000 primitives
+    /// in each, of the same kinds. Each may be a replace.
     pub const OWN: Limits = Limits {
         bytes: 1_073_741_824,
         patches: 100_000,
-        prims: Limits::STANDARD.prims,
-        replaces: 100_000 * Limits::STANDARD.prims,
+        prims: 1_000_000,
+        replaces: 100_000 * 1_000_000,
         kinds: Kinds::Six,
     };
 

@@ -6,3 +6,4 @@ pub mod OnceLemmas
 pub mod WholeLemmas
 pub mod KeptKinds
 pub mod KeptBase
+pub mod WideLemmas

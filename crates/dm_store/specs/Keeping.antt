@@ -105,6 +105,10 @@ KeepsWithOrWithout kinds kept text policy file =
 abbrev pub KeepsEither : Kinds → Kept → Kept → List ℕ → Type 0
 KeepsEither kinds kept other file = KeepsRepo kinds file kept ⊎ KeepsRepo kinds file other
 
+-- the file keeps the repository, and is for these kinds or for those
+abbrev pub KeepsForEither : Kinds → Kinds → Kept → List ℕ → Type 0
+KeepsForEither kinds others kept file = KeepsRepo kinds file kept ⊎ KeepsRepo others file kept
+
 -- the file is the old one, or it keeps the repository
 abbrev pub IsOrKeeps : Kinds → List ℕ → Kept → List ℕ → Type 0
 IsOrKeeps kinds old kept file = (file ≡ old) ⊎ KeepsRepo kinds file kept

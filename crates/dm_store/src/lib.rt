@@ -5,7 +5,8 @@
 //! [`Store::take`] answers once the text is on the disk; a crash at any moment of a call leaves a file that keeps the
 //! repository from before it, or the one that the text leaves. [`Store::checkpoint`] puts one entry in the place of all: the
 //! bundle of all patches, with an empty context. [`Store::replace`] puts that of another repository there, and
-//! [`Store::let_go`] that of the patches that stay, while another file has the others.
+//! [`Store::let_go`] that of the patches that stay, while another file has the others. [`Store::widen`] puts the same repository
+//! into a file that reads all kinds.
 //!
 //! The format of its file says which kinds of primitives a store reads ([`Store::kinds`]), so no call says it again.
 //!
@@ -25,6 +26,7 @@ mod letting_go;
 mod opening;
 mod store;
 mod whole;
+mod widening;
 
 pub use fault::StoreError;
 pub use kinds::are_of;

@@ -23,7 +23,7 @@ use crate::keeping::{begin, put_repo};
 use crate::kinds::kinds_of;
 use crate::opening::{TakenAgain, has_taken, take_again};
 use bumpalo::Bump;
-use dm_journal::{Device, Journal, WriteError};
+use dm_journal::{Device, Format, Journal, WriteError};
 use dm_named::Kinds;
 use dm_repo::{Policy, Repo};
 use dm_scratch::{Verdict, take_in};
@@ -114,14 +114,29 @@ impl<D: Device> Store<D> {
         ensures not_full { IfErr result (λ e. e.0 ≡ Full → ⊥) }
     {
         match begin(alloc, device, kinds, base, &repo) {
-            Ok((journal, growth)) => Ok(Store {
-                journal,
-                repo,
-                base,
-                arena: Bump::new(alloc),
-                growth,
-            }),
+            Ok((journal, growth)) => Ok(Store::of_parts(alloc, journal, repo, base, growth)),
             Err(error) => Err(error),
+        }
+    }
+
+    // A store of these parts.
+    pub(crate) fn of_parts(
+        alloc: Global,
+        journal: Journal<D>,
+        repo: Repo<Global>,
+        base: usize,
+        growth: Growth,
+    ) -> Store<D>
+        ensures journal { result.journal ≡ journal }
+        ensures repo { result.repo ≡ repo }
+        ensures base { result.base ≡ base }
+    {
+        Store {
+            journal,
+            repo,
+            base,
+            arena: Bump::new(alloc),
+            growth,
         }
     }
 
@@ -174,6 +189,13 @@ impl<D: Device> Store<D> {
         ensures { result ≡ kinds_in self.now }
     {
         kinds_of(self.journal.format())
+    }
+
+    /// The format of its file. A checkpoint writes that of today.
+    pub fn format(&self) -> Format
+        ensures { result ≡ self.now.journal.end.format }
+    {
+        self.journal.format()
     }
 
     /// The place of the closed latch behind the last entry, if it hid more of them when the file was opened: none is lost, but the

@@ -6,16 +6,16 @@ use clap::error::ErrorKind;
 use clap::{ArgMatches, Error};
 use dm_commands::{
     Applied, Base, CheckOutput, Checked, ToolFault, apply_in, apply_over, check_hash_within,
-    check_over, check_paths_over, check_within, repo_of,
+    check_over, check_paths_over, check_within, repo_of, write_text,
 };
 use dm_files::{
     INPUT, Input, Listing, Manner, NO_ANSWER, WordFault, apply_each, apply_to_mirror, base_of,
     blame_input, check_out, exit_status, fixed_manner, init, kinds_of, obliterate_chosen,
-    policy_of, read_base, read_file, roll_back_chosen, tell,
+    policy_of, read_base, read_file, roll_back_chosen, tell, upgrade,
 };
 use dm_named::Kinds;
 use dm_remarks::{Colour, Reading, colour_of, explain_applied, explain_hash, explain_unread};
-use dm_words::program;
+use dm_words::{VERSION, name_mirror, program};
 use std::io::{Read, Write};
 use std::rt::Runtime;
 use std::sync::Wait;
@@ -182,6 +182,13 @@ fn apply<'a>(
     }
 }
 
+/// `dm version`: what `dm --version` prints.
+fn print_version<'a>(rt: &HostRuntime) -> Result<u8, WordFault<'a>> {
+    let line = format!(in rt.alloc(); "dm {VERSION}\n")?;
+    write_text(line.as_bytes(), &mut io::writer(rt))?;
+    Ok(0)
+}
+
 /// Out of memory, where that is why the words could not be read.
 fn out_of_memory(kind: ErrorKind) -> Option<ToolFault> {
     match kind {
@@ -213,6 +220,8 @@ enum Command {
     Rollback,
     Run,
     Send,
+    Upgrade,
+    Version,
 }
 
 impl Command {
@@ -228,6 +237,8 @@ impl Command {
             "rollback" => Some(Command::Rollback),
             "run" => Some(Command::Run),
             "send" => Some(Command::Send),
+            "upgrade" => Some(Command::Upgrade),
+            "version" => Some(Command::Version),
             _ => None,
         }
     }
@@ -264,6 +275,8 @@ fn answer<'a, R: Runtime + AllocGlobal + Threads + Wait + Sync>(
         Command::Rollback => roll_back_chosen(host, words, is_terminal),
         Command::Run => run_plan(rt, host, colour, words),
         Command::Send => send(host, colour, words, is_terminal),
+        Command::Upgrade => upgrade(host, words, is_terminal),
+        Command::Version => print_version(host),
     }
 }
 
@@ -314,7 +327,10 @@ pub fn run<R: Runtime + AllocGlobal + Threads + Wait + Sync>(
     };
     match args.collect(rt.alloc()) {
         Ok(words) => {
-            let words: Vec<String> = words;
+            let mut words: Vec<String> = words;
+            if let Err(fault) = name_mirror(rt.alloc(), &mut words) {
+                return tell(rt, Manner::Short, WordFault::from(fault));
+            }
             run_command(rt, host, is_terminal, &words)
         }
         Err(fault) => tell(rt, Manner::Short, WordFault::from(fault)),

@@ -100,6 +100,9 @@ pub fn log<'a>(
     let text = if words.contains_id("mirror") {
         refuse_kinds(words)?;
         let kept = read_repo(rt, words, is_terminal)?;
+        if words.get_flag("kinds") {
+            return print(rt, kept.told_kinds(rt.alloc())?.as_bytes());
+        }
         say_base(rt, &kept.repo, kept.base);
         text_of_repo(rt, words, &kept.repo, kept.base)?
     } else if let Some(name) = words.get_str("bundle") {

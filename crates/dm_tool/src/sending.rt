@@ -12,7 +12,7 @@ use std::alloc::Global;
 use std::io;
 use std::rt::Runtime;
 
-/// Says on standard error how many names of theirs were passed over, and that nothing is sent or that a refusal was printed.
+/// Says on standard error how many names of theirs were passed over, and that nothing is sent or that it was refused.
 fn say_sent<R: Runtime + AllocGlobal>(rt: &R, sent: &Sent) {
     let unheld = sent.unheld;
     let _ = match unheld {
@@ -61,6 +61,7 @@ fn send_from<'a>(
     };
     let is_minimal = words.get_flag("minimal");
     let mut writer = io::writer(rt);
+    let mut errors = rt.stderr();
     match send_over(
         rt.alloc(),
         reading.kinds,
@@ -70,6 +71,7 @@ fn send_from<'a>(
         most,
         is_minimal,
         &mut writer,
+        &mut errors,
     ) {
         Ok(sent) => {
             say_sent(rt, &sent);

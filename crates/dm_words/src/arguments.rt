@@ -206,15 +206,46 @@ pub fn all_kinds<'a>(alloc: Global, help: &'a str) -> Arg<'a>
     flag(alloc, "all-kinds", help)
 }
 
-/// The word that says how many entries are printed.
-pub fn last<'a>(alloc: Global) -> Arg<'a>
-    ensures { IsNamed result (codes "last") }
+/// The word by which a new mirror reads no more than six kinds.
+pub fn six_kinds<'a>(alloc: Global) -> Result<Arg<'a>, AllocError> {
+    flag(alloc, "six-kinds", help::SIX_KINDS).conflicts_with("all-kinds")
+}
+
+/// The same word, which stands beside `--mirror` alone.
+pub fn six_kinds_at_mirror<'a>(alloc: Global) -> Result<Arg<'a>, AllocError> {
+    six_kinds(alloc)?.requires_arg("mirror")
+}
+
+/// The word that has the kinds and the format of a mirror's file told.
+pub fn told_kinds<'a>(alloc: Global) -> Result<Arg<'a>, AllocError> {
+    flag(alloc, "kinds", help::KINDS)
+        .conflicts_with("context")?
+        .conflicts_with("count")?
+        .conflicts_with("last")?
+        .conflicts_with("places")?
+        .conflicts_with("reverse")?
+        .conflicts_with("verbose")?
+        .conflicts_with("base")?
+        .conflicts_with("repository")?
+        .conflicts_with("bundle")
+}
+
+/// The word that has the text of each patch printed.
+pub fn verbose<'a>(alloc: Global) -> Arg<'a> {
+    flag(alloc, "verbose", help::VERBOSE).short('v')
+}
+
+/// The word that says how many entries are printed; `git log` has another name for it, too.
+pub fn last<'a>(alloc: Global) -> Result<Arg<'a>, AllocError>
+    ensures { IfOk result (λ arg. IsNamed arg (codes "last")) }
 {
     Arg::new(alloc, "last")
         .long("last")
+        .short('n')
         .value_name("N")
         .value_parser(value_parser!(u32))
         .help(help::LAST)
+        .alias("max-count")
 }
 
 /// A word that takes a text.
@@ -228,10 +259,10 @@ pub fn text<'a>(alloc: Global, name: &'a str, value: &'a str, help: &'a str) -> 
 }
 
 /// The word that names the file of a bundle that is made.
-pub fn output<'a>(alloc: Global) -> Arg<'a>
+pub fn output<'a>(alloc: Global, help: &'a str) -> Arg<'a>
     ensures { IsNamed result (codes "output") }
 {
-    text(alloc, "output", "BUNDLE", help::OUTPUT).short('o')
+    text(alloc, "output", "BUNDLE", help).short('o')
 }
 
 /// The word that names the patches that a tag covers.

@@ -2,8 +2,8 @@
 use crate::arguments::{
     all_kinds, bundle, bundles, context, count, dry_run, dry_run_at_mirror, explain, file, first,
     flag, folder, hash, last, minimal, mirror, names, no_wait, no_wait_at_mirror, number,
-    one_bundle, output, patches, place, places, posters, quiet, repository, skip, skip_special,
-    stream, text,
+    one_bundle, output, patches, place, places, posters, quiet, repository, six_kinds,
+    six_kinds_at_mirror, skip, skip_special, stream, text, told_kinds, verbose,
 };
 use crate::building::Building;
 use crate::help;
@@ -11,7 +11,7 @@ use clap::{ArgGroup, Command};
 use std::alloc::{AllocError, Global};
 
 /// What `dm --version` prints after the program's name.
-const VERSION: &str = "0.1.0";
+pub const VERSION: &str = "0.2.0";
 
 /// The words of `dm apply`.
 fn apply_words<'a>(alloc: Global) -> Result<Command<'a>, AllocError> {
@@ -25,6 +25,7 @@ fn apply_words<'a>(alloc: Global) -> Result<Command<'a>, AllocError> {
         .try_arg(quiet(alloc))
         .arg(hash(alloc))
         .arg(all_kinds(alloc, help::READ_ALL_HERE))
+        .try_arg(six_kinds_at_mirror(alloc))
         .arg(explain(alloc))
         .arg(skip(alloc))
         .try_arg(stream(alloc))
@@ -50,6 +51,7 @@ fn init_words<'a>(alloc: Global) -> Result<Command<'a>, AllocError> {
         .arg(file(alloc, "base", help::INIT_BASE))
         .try_arg(repository(alloc))
         .arg(all_kinds(alloc, help::REMEMBER_ALL))
+        .try_arg(six_kinds(alloc))
         .try_arg(names(alloc))
         .try_arg(skip_special(alloc))
         .arg(no_wait(alloc))
@@ -76,12 +78,13 @@ fn log_words<'a>(alloc: Global) -> Result<Command<'a>, AllocError> {
         .try_arg(repository(alloc))
         .arg(one_bundle(alloc, help::LOG_BUNDLE))
         .try_group(logged(alloc))
-        .arg(last(alloc))
+        .try_arg(last(alloc))
         .arg(flag(alloc, "reverse", help::REVERSE))
-        .arg(flag(alloc, "verbose", help::VERBOSE))
+        .arg(verbose(alloc))
         .try_arg(places(alloc))
         .try_arg(count(alloc))
         .try_arg(context(alloc))
+        .try_arg(told_kinds(alloc))
         .arg(all_kinds(alloc, help::READ_ALL_HERE))
         .try_arg(no_wait_at_mirror(alloc))
         .done()
@@ -106,7 +109,7 @@ fn obliterate_words<'a>(alloc: Global) -> Result<Command<'a>, AllocError> {
         help::AFTER_OBLITERATE,
     )
     .arg(mirror(alloc, help::MIRROR).required(true))
-    .arg(output(alloc))
+    .arg(output(alloc, help::OUTPUT))
     .arg(flag(alloc, "with-dependents", help::WITH_DEPENDENTS))
     .try_arg(dry_run(alloc))
     .arg(no_wait(alloc))
@@ -139,6 +142,19 @@ fn run_words<'a>(alloc: Global) -> Result<Command<'a>, AllocError> {
         .arg(skip(alloc))
         .arg(posters(alloc))
         .done()
+}
+
+/// The words of `dm upgrade`.
+fn upgrade_words<'a>(alloc: Global) -> Result<Command<'a>, AllocError> {
+    Building::new(alloc, "upgrade", help::UPGRADE, help::AFTER_UPGRADE)
+        .arg(mirror(alloc, help::MIRROR).required(true))
+        .arg(no_wait(alloc))
+        .done()
+}
+
+/// `dm version`, which people try who know it from elsewhere; the help has `--version` alone.
+fn version_words<'a>(alloc: Global) -> Result<Command<'a>, AllocError> {
+    Ok(Command::new(alloc, "version").hide(true))
 }
 
 /// From what `dm send` sends, one of these.
@@ -190,5 +206,7 @@ pub fn program<'a>(alloc: Global) -> Result<Command<'a>, AllocError> {
         .try_command(rollback_words(alloc))
         .try_command(run_words(alloc))
         .try_command(send_words(alloc))
+        .try_command(upgrade_words(alloc))
+        .try_command(version_words(alloc))
         .done()
 }

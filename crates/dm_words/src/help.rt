@@ -140,7 +140,7 @@ pub const SKIP: &str = "Skip patches that conflict, and take the others";
 
 /// Of `--explain`.
 pub const EXPLAIN: &str =
-    "Say on standard error which patches the verdict is about, and what is wrong with a text";
+    "Say on standard error which patches the verdict is about, what is wrong with a text, and why a file can't be read";
 
 /// Of the posters of `dm run`.
 pub const POSTERS: &str =
@@ -249,7 +249,25 @@ pub const READ_ALL_HERE: &str =
     "Read binaries, replaces and changes of preferences, too; a mirror remembers whether it does";
 
 pub const REMEMBER_ALL: &str =
-    "Have the mirror read binaries, replaces and changes of preferences, too";
+    "Have the mirror read binaries, replaces and changes of preferences, too, as it does by itself";
+
+pub const SIX_KINDS: &str =
+    "Have a new mirror read no binaries, replaces or changes of preferences";
+
+/// Of `dm log --kinds`.
+pub const KINDS: &str =
+    "Print which kinds of primitives the mirror reads, and the format of its file";
+
+/// Of `dm upgrade`.
+pub const UPGRADE: &str =
+    "Have a mirror read binaries, replaces and changes of preferences, too";
+
+/// What the exit status of `dm upgrade` says, and an example.
+pub const AFTER_UPGRADE: &str = "\
+The patches stay the same. A crash leaves the old file or the new one.
+Exit status: 0 if the mirror reads all kinds, 2 if there is no answer.
+
+Example: dm upgrade --mirror shelf.dm";
 
 /// What the exit status says.
 pub const AFTER_ALL: &str = "\

@@ -6,5 +6,7 @@ mod arguments;
 mod building;
 mod commands;
 mod help;
+mod natural;
 
-pub use commands::program;
+pub use commands::{VERSION, program};
+pub use natural::name_mirror;

@@ -3,10 +3,10 @@ use Rattle.std.proofs.lemmas.List.{take_all}
 use Rattle.sha1.specs.Sha1.{Holds}
 use Rattle.dm_named.specs.Patches.{Patch}
 use Rattle.dm_named.specs.Canonical.{patch_text}
-use Rattle.dm_hash.specs.Kept.{kept_front, darcs1_body, darcs2_body, kept_patch, darcs1_text, darcs2_text}
+use Rattle.dm_hash.specs.Kept.{kept_front, darcs1_body, darcs2_body, kept_patch, in_turn}
 use Rattle.std.proofs.Common.{take}
 use Rattle.dm_hash.proofs.KeptLemmas.{front_fits, one_more}
-use Rattle.dm_hash.proofs.kept.hashes_of.Goals as goal
+use Rattle.dm_hash.proofs.kept.hashes_in_turn.Goals as goal
 
 pub body_of-body-requires-clause-within : goal.body_of-body-requires-clause-within
 body_of-body-requires-clause-within g c =
@@ -21,14 +21,14 @@ loop-patch-preserved g c =
     let i = c.loop-patch.patch-index in
     let p = c.patch-item.result in
     record {
-      darcs1 = subst (Holds c.add_darcs1.new.hasher) (sym (one_more (kept_patch darcs1_body) ps i p c.loop-patch-test.true c.patch-item.is)) (c.add_darcs1.ensures (darcs1_text (take i ps)) c.loop-patch.invariant.darcs1);
-      darcs2 = subst (Holds c.add_darcs2.new.hasher) (sym (one_more (kept_patch darcs2_body) ps i p c.loop-patch-test.true c.patch-item.is)) (c.add_darcs2.ensures (darcs2_text (take i ps)) c.loop-patch.invariant.darcs2);
+      darcs1 = subst (Holds c.add_darcs1.new.hasher) (sym (one_more (kept_patch darcs1_body) ps i p c.loop-patch-test.true c.patch-item.is)) (c.add_darcs1.ensures (in_turn darcs1_body (take i ps)) c.loop-patch.invariant.darcs1);
+      darcs2 = subst (Holds c.add_darcs2.new.hasher) (sym (one_more (kept_patch darcs2_body) ps i p c.loop-patch-test.true c.patch-item.is)) (c.add_darcs2.ensures (in_turn darcs2_body (take i ps)) c.loop-patch.invariant.darcs2);
     }
 
 pub returns-clause-darcs1 : goal.returns-clause-darcs1
 returns-clause-darcs1 g c =
-    c.finalize.ensures (darcs1_text c.args.patches.now) (subst (λ (ps : List Patch). Holds c.loop-patch.darcs1 (darcs1_text ps)) (take_all c.loop-patch.patch-index c.args.patches.now c.loop-patch-test.false) c.loop-patch.invariant.darcs1)
+    c.finalize.ensures (in_turn darcs1_body c.args.patches.now) (subst (λ (ps : List Patch). Holds c.loop-patch.darcs1 (in_turn darcs1_body ps)) (take_all c.loop-patch.patch-index c.args.patches.now c.loop-patch-test.false) c.loop-patch.invariant.darcs1)
 
 pub returns-clause-darcs2 : goal.returns-clause-darcs2
 returns-clause-darcs2 g c =
-    c.finalize-2.ensures (darcs2_text c.args.patches.now) (subst (λ (ps : List Patch). Holds c.loop-patch.darcs2 (darcs2_text ps)) (take_all c.loop-patch.patch-index c.args.patches.now c.loop-patch-test.false) c.loop-patch.invariant.darcs2)
+    c.finalize-2.ensures (in_turn darcs2_body c.args.patches.now) (subst (λ (ps : List Patch). Holds c.loop-patch.darcs2 (in_turn darcs2_body ps)) (take_all c.loop-patch.patch-index c.args.patches.now c.loop-patch-test.false) c.loop-patch.invariant.darcs2)

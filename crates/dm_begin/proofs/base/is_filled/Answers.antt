@@ -1,5 +1,0 @@
-use Rattle.dm_begin.proofs.PrimLemmas.{most}
-use Rattle.dm_begin.proofs.base.is_filled.Goals as goal
-
-pub returns : goal.returns
-returns g c = most c.prims.result.now c.args.patch.now.prims c.prims.ensures
