@@ -4,6 +4,9 @@ use crate::depth::{Depth, write_depth};
 use crate::fates::Fates;
 use crate::head::Head;
 use crate::misfits::write_misfit;
+use crate::remedies::{
+    write_against, write_anew, write_room, write_settling, write_whole_context,
+};
 use crate::shown::Who;
 use crate::skips::{NamedSkip, Reason, Skips};
 use dm_info::Info;
@@ -45,9 +48,7 @@ fn write_missing<W: Write>(f: &mut Formatter<W>, missing: &[&Info<Global>]) -> f
     for info in missing {
         writeln!(f, "  {}", Who { info })?;
     }
-    f.write_str(
-        "Ask the sender for what is missing, or for a bundle against a context that you have.\n",
-    )
+    write_against(f)
 }
 
 /// A new patch, what it names, and whether that is held.
@@ -59,11 +60,13 @@ fn write_lacking<W: Write>(
 ) -> fmt::Result {
     write_pair(f, "The new patch", patch, "depends on", dependency)?;
     if held {
-        return f.write_str(
+        f.write_str(
             "which is held, but neither in the bundle nor in what its context stands for.\n",
-        );
+        )?;
+        return write_whole_context(f);
     }
-    f.write_str("which is neither held nor in the bundle. Ask the sender for it.\n")
+    f.write_str("which is neither held nor in the bundle.\n")?;
+    write_against(f)
 }
 
 /// Which limit a repository of so many patches would pass with so many more: the depth of a path, and where, or else the patches.
@@ -80,7 +83,8 @@ fn write_full<W: Write>(
         f,
         "The repository has {held} patches, and the bundle {more} more; {} can be held.",
         Limits::OWN.patches
-    )
+    )?;
+    write_room(f)
 }
 
 /// What became of each new patch.
@@ -117,7 +121,8 @@ impl Display for Account<'_> {
                     patch,
                     "but not what that builds on",
                     needed,
-                )
+                )?;
+                write_whole_context(f)
             }
             Account::HeldDepends(patch, needed) => {
                 write_pair(
@@ -126,7 +131,8 @@ impl Display for Account<'_> {
                     patch,
                     "but not what it builds on in the bundle",
                     needed,
-                )
+                )?;
+                write_against(f)
             }
             Account::DoesNotFit(patch, misfit) => {
                 let patch = Who { info: patch };
@@ -136,7 +142,7 @@ impl Display for Account<'_> {
                 )?;
                 match misfit {
                     Some(misfit) => write_misfit(f, misfit),
-                    None => Ok(()),
+                    None => write_anew(f),
                 }
             }
             Account::Conflicts(new, held, clashing) => {
@@ -147,10 +153,10 @@ impl Display for Account<'_> {
                     "conflicts with the held patch",
                     held,
                 )?;
-                match clashing {
-                    Some(pair) => write_clashing(f, pair),
-                    None => Ok(()),
+                if let Some(pair) = clashing {
+                    write_clashing(f, pair)?;
                 }
+                write_settling(f, clashing)
             }
             Account::Sorted(fates) => write_fates(f, fates),
         }

@@ -79,7 +79,9 @@ pub fn explain_hash_fault<R: Runtime + AllocGlobal>(rt: &R, colour: Colour, faul
         HashFaultKind::NoHash => say(
             rt,
             colour,
-            &format_args!("No hash of the patches stands behind the context, at byte {at}.\n"),
+            &format_args!(
+                "No hash of the patches stands behind the context, at byte {at}. Ask for the bundle as darcs send writes it, or leave out --hash.\n"
+            ),
         ),
     }
 }
@@ -97,7 +99,7 @@ pub fn explain_before_base<R: Runtime + AllocGlobal>(
             rt,
             colour,
             &format_args!(
-                "The bundle doesn't rest on {tag}, with which the mirror begins. Its sender has to pull that tag, or run darcs optimize reorder, and send it again.\n"
+                "The bundle doesn't rest on {tag}, with which the mirror begins. The sender pulls that tag, and sends the whole context:\n  darcs pull\n  darcs send --no-minimize\n"
             ),
         );
     }
