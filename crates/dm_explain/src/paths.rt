@@ -61,10 +61,7 @@ fn write_shorter<W: Write>(f: &mut Formatter<W>) -> fmt::Result {
 }
 
 /// Writes which limit the path passes that begins a text, and what helps. Returns whether it passes one.
-pub(crate) fn write_limit<W: Write>(
-    f: &mut Formatter<W>,
-    text: &[u8],
-) -> Result<bool, fmt::Error> {
+pub(crate) fn write_limit<W: Write>(f: &mut Formatter<W>, text: &[u8]) -> Result<bool, fmt::Error> {
     let path = before(before(text, b"\n"), b" ");
     if let Some(name) = long_name(path) {
         let count = bytes_of(name);
@@ -74,7 +71,9 @@ pub(crate) fn write_limit<W: Write>(
             "A name has at most {MOST_NAME_BYTES} bytes, and this one has {count}:\n  {shown}"
         )?;
         if may_be_doubled(name) {
-            f.write_str("If the repository is one of darcs-1, that is twice as many for each letter past ASCII as in the folder.\n")?;
+            f.write_str(
+                "If the repository is one of darcs-1, that is twice as many for each letter past ASCII as in the folder.\n",
+            )?;
         }
         write_shorter(f)?;
         return Ok(true);

@@ -5,7 +5,7 @@ use crate::fates::Fates;
 use crate::head::Head;
 use crate::misfits::write_misfit;
 use crate::remedies::{
-    write_against, write_anew, write_room, write_settling, write_whole_context,
+    write_against, write_all_patches, write_anew, write_room, write_settling, write_whole_context,
 };
 use crate::shown::Who;
 use crate::skips::{NamedSkip, Reason, Skips};
@@ -39,7 +39,7 @@ fn write_pair<W: Write>(
     writeln!(f, "{what}:\n  {first}\n{by}:\n  {second}")
 }
 
-/// Which patches of the context aren't held, and what to do.
+/// Which patches of the context aren't held.
 fn write_missing<W: Write>(f: &mut Formatter<W>, missing: &[&Info<Global>]) -> fmt::Result {
     match missing.len() {
         1 => f.write_str("A patch that the bundle builds on isn't held:\n")?,
@@ -48,7 +48,7 @@ fn write_missing<W: Write>(f: &mut Formatter<W>, missing: &[&Info<Global>]) -> f
     for info in missing {
         writeln!(f, "  {}", Who { info })?;
     }
-    write_against(f)
+    Ok(())
 }
 
 /// A new patch, what it names, and whether that is held.
@@ -110,7 +110,10 @@ impl Display for Account<'_> {
         match self {
             Account::Nobody => Ok(()),
             Account::Full(held, more, depth) => write_full(f, *held, *more, depth),
-            Account::MissingContext(missing) => write_missing(f, missing),
+            Account::MissingContext(missing) => {
+                write_missing(f, missing)?;
+                write_against(f)
+            }
             Account::MissingDependency(patch, dependency, held) => {
                 write_lacking(f, patch, dependency, *held)
             }
@@ -205,6 +208,25 @@ impl Display for AccountWithSkips<'_> {
                 write_list(f, "Taken", &fates.taken)?;
                 write!(f, "{}", self.skips)?;
                 write_list(f, "Held before", &fates.held)
+            }
+            account => write!(f, "{account}"),
+        }
+    }
+}
+
+/// An account of a bundle that an empty repository didn't take. It prints itself in lines for people.
+#[derive(Clone, Copy)]
+pub struct AccountOfEmpty<'a> {
+    /// The account.
+    pub account: &'a Account<'a>,
+}
+
+impl Display for AccountOfEmpty<'_> {
+    fn fmt<W: Write>(&self, f: &mut Formatter<W>) -> fmt::Result {
+        match self.account {
+            Account::MissingContext(missing) => {
+                write_missing(f, missing)?;
+                write_all_patches(f)
             }
             account => write!(f, "{account}"),
         }

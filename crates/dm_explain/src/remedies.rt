@@ -19,6 +19,13 @@ pub(crate) fn write_against<W: Write>(f: &mut Formatter<W>) -> fmt::Result {
     )
 }
 
+/// Writes how a sender makes a bundle of all patches.
+pub(crate) fn write_all_patches<W: Write>(f: &mut Formatter<W>) -> fmt::Result {
+    f.write_str(
+        "Nothing is held, which needs a bundle of all patches:\n  printf '\\nContext:\\n\\n' > NONE\n  darcs send --context NONE .\n",
+    )
+}
+
 /// Writes how a sender makes a bundle anew.
 pub(crate) fn write_anew<W: Write>(f: &mut Formatter<W>) -> fmt::Result {
     f.write_str(
@@ -43,14 +50,14 @@ pub(crate) fn write_room<W: Write>(f: &mut Formatter<W>) -> fmt::Result {
 /// Writes how a sender puts a patch on top of one that it conflicts with.
 fn write_rebase<W: Write>(f: &mut Formatter<W>) -> fmt::Result {
     f.write_str(
-        "The sender brings in the held patch, settles what darcs marks before darcs amend, and sends again:\n  darcs rebase pull REPOSITORY\n  darcs rebase unsuspend\n  darcs amend\n  darcs send\n",
+        "The sender brings in the held patch, and puts their own on top. Until the conflict is settled and amended, their own undoes the held one:\n  darcs rebase pull REPOSITORY\n  darcs rebase unsuspend\n  darcs amend\n  darcs send\n",
     )
 }
 
 /// Writes how a sender takes out a patch whose change is held.
 fn write_twin<W: Write>(f: &mut Formatter<W>) -> fmt::Result {
     f.write_str(
-        "Both make the same change. The sender brings in the held patch, takes out their own, and sends the rest:\n  darcs rebase pull REPOSITORY\n  darcs rebase obliterate\n  darcs rebase unsuspend\n  darcs send\nIf their own makes other changes, too, they keep it, and darcs amend it after darcs rebase unsuspend.\n",
+        "Both make the same change. The sender brings in the held patch, takes out their own, and sends the rest:\n  darcs rebase pull REPOSITORY\n  darcs rebase obliterate\n  darcs rebase unsuspend\n  darcs send\nIf their own makes other changes, too, they keep it, and amend it before they send: until then it may undo the held one.\n",
     )
 }
 
