@@ -5,7 +5,7 @@ use crate::fates::Fates;
 use crate::head::Head;
 use crate::misfits::write_misfit;
 use crate::remedies::{
-    write_against, write_all_patches, write_anew, write_room, write_settling, write_whole_context,
+    write_against, write_all_patches, write_anew, write_settling, write_whole_context,
 };
 use crate::shown::Who;
 use crate::skips::{NamedSkip, Reason, Skips};
@@ -83,8 +83,7 @@ fn write_full<W: Write>(
         f,
         "The repository has {held} patches, and the bundle {more} more; {} can be held.",
         Limits::OWN.patches
-    )?;
-    write_room(f)
+    )
 }
 
 /// What became of each new patch.

@@ -40,13 +40,6 @@ pub(crate) fn write_shallower<W: Write>(f: &mut Formatter<W>) -> fmt::Result {
     )
 }
 
-/// Writes how a mirror gets room for patches.
-pub(crate) fn write_room<W: Write>(f: &mut Formatter<W>) -> fmt::Result {
-    f.write_str(
-        "A mirror that begins at a later tag has room again:\n  move-on OLD REPOSITORY TAG NEW\n",
-    )
-}
-
 /// Writes how a sender puts a patch on top of one that it conflicts with.
 fn write_rebase<W: Write>(f: &mut Formatter<W>) -> fmt::Result {
     f.write_str(
