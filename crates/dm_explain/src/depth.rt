@@ -9,6 +9,7 @@ ghost use Rattle.dm_explain.specs.Rows.{AreShallow, FirstDeep};
 
 use crate::account::{held_name, new_name};
 use crate::head::{Head, ShownMoved};
+use crate::remedies::{write_shallower, write_whole_context};
 use crate::shown::Who;
 use dm_bundle::Bundle;
 use dm_info::Info;
@@ -151,14 +152,16 @@ pub(crate) fn write_depth<W: Write>(f: &mut Formatter<W>, depth: &Depth<'_>) -> 
                 f,
                 "This held patch makes a path too deep without the patches that the bundle doesn't build on:\n  {who}"
             )?;
-            write_move(f, misfit, &depth.path)
+            write_move(f, misfit, &depth.path)?;
+            write_whole_context(f)
         }
         Overflow::Merged(misfit) => {
             writeln!(
                 f,
                 "This new patch makes a path too deep once it is merged:\n  {who}"
             )?;
-            write_move(f, misfit, &depth.path)
+            write_move(f, misfit, &depth.path)?;
+            write_shallower(f)
         }
     }
 }

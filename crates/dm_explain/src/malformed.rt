@@ -1,8 +1,10 @@
 //! What is wrong with a text that is no bundle, and where.
 ghost use Rattle.std.specs.Prelude.{◌≡◌, ◌≤◌, length};
 
+use crate::merged::{begins_merged, write_merged};
+use crate::paths::write_limit;
 use crate::place::{Place, place_of};
-use crate::seeming::seeming_of;
+use crate::seeming::{Seeming, seeming_at, seeming_of};
 use dm_named::{FaultKind, Limits, ReadFault};
 use dm_quoted::Quoted;
 use std::fmt::{self, Display, Formatter, Write};
@@ -152,10 +154,13 @@ fn begins_wider(text: &[u8]) -> bool {
         || text.starts_with(b"changepref".as_slice())
 }
 
-/// Writes what helps.
+/// Writes what helps where a primitive's kind isn't read.
 fn write_remedy<W: Write>(f: &mut Formatter<W>, remedy: Remedy) -> fmt::Result {
     f.write_str(match remedy {
-        Remedy::Known | Remedy::Nothing => "",
+        Remedy::Known => "",
+        Remedy::Nothing => {
+            "dm run reads no binaries, replaces or changes of preferences. dm apply does:\n  dm apply --all-kinds\n"
+        }
         Remedy::Word => "--all-kinds reads binaries, replaces and changes of preferences, too.\n",
         Remedy::Mirror => {
             "This mirror reads no binaries, replaces or changes of preferences. Make one that does, of a bundle of all patches:\n  dm init --mirror NEW --all-kinds --repository BUNDLE\n"
@@ -163,30 +168,122 @@ fn write_remedy<W: Write>(f: &mut Formatter<W>, remedy: Remedy) -> fmt::Result {
     })
 }
 
+/// Writes what helps where a patch was merged with one that it conflicts with.
+fn write_unmerging<W: Write>(f: &mut Formatter<W>, remedy: Remedy) -> fmt::Result {
+    f.write_str(
+        "The sender makes it anew, on top of the other one, and sends it again. If darcs names a conflict, it is settled before, and amended:\n  darcs rebase suspend --not-in-remote\n  darcs rebase unsuspend\n  darcs send\n",
+    )?;
+    match remedy {
+        Remedy::Nothing => Ok(()),
+        Remedy::Known | Remedy::Word | Remedy::Mirror => f.write_str(
+            "Where it is history that stays, a mirror can begin at a later tag:\n  move-on OLD REPOSITORY TAG NEW\n",
+        ),
+    }
+}
+
+/// Writes how a bundle gets smaller.
+fn write_smaller<W: Write>(f: &mut Formatter<W>) -> fmt::Result {
+    f.write_str("The sender sends some of the patches first:\n  darcs send -p NAME\n")
+}
+
+/// Writes how somebody gets a sound bundle.
+fn write_sound<W: Write>(f: &mut Formatter<W>) -> fmt::Result {
+    f.write_str("Ask for the bundle as darcs writes it:\n  darcs send -o FILE\n")
+}
+
 /// Whether a fault is of the text as a whole.
 fn is_of_whole(kind: FaultKind) -> bool {
     kind == FaultKind::TooLarge || kind == FaultKind::NoNewPatches
 }
 
+/// Writes what helps where a patch isn't read whose body is after a text. Returns whether it is known.
+fn write_supported<W: Write>(
+    f: &mut Formatter<W>,
+    before: &[u8],
+    body: &[u8],
+    remedy: Remedy,
+) -> Result<bool, fmt::Error> {
+    if begins_merged(body) {
+        write_merged(f, before)?;
+        write_unmerging(f, remedy)?;
+        return Ok(true);
+    }
+    if remedy == Remedy::Known {
+        return Ok(false);
+    }
+    if begins_wider(body) {
+        write_remedy(f, remedy)?;
+        return Ok(true);
+    }
+    Ok(false)
+}
+
+/// Writes what helps against a fault between two parts of a text. Returns whether it is known.
+fn write_step<W: Write>(
+    f: &mut Formatter<W>,
+    kind: FaultKind,
+    before: &[u8],
+    after: &[u8],
+    remedy: Remedy,
+) -> Result<bool, fmt::Error> {
+    match kind {
+        FaultKind::Unsupported => write_supported(f, before, after, remedy),
+        FaultKind::BadPath => write_limit(f, after),
+        FaultKind::TooLarge | FaultKind::TooMany => {
+            write_smaller(f)?;
+            Ok(true)
+        }
+        FaultKind::NoMemory => Ok(true),
+        _ => Ok(false),
+    }
+}
+
+/// Writes what a text looks like, and how to get a sound one where nothing else helps.
+fn write_seeming<W: Write>(
+    f: &mut Formatter<W>,
+    seeming: Option<Seeming>,
+    is_helped: bool,
+) -> fmt::Result {
+    let mut is_done = is_helped;
+    if let Some(seeming) = seeming {
+        writeln!(f, "{seeming}")?;
+        is_done = is_helped || seeming.has_step();
+    }
+    if is_done {
+        return Ok(());
+    }
+    write_sound(f)
+}
+
+impl Malformed<'_> {
+    /// Writes a fault of the text as a whole.
+    fn write_whole<W: Write>(&self, f: &mut Formatter<W>) -> fmt::Result {
+        let kind = self.fault.kind;
+        write_due(f, kind, self.remedy)?;
+        let is_helped = write_step(f, kind, b"", b"", self.remedy)?;
+        write_seeming(f, seeming_of(self.text), is_helped)
+    }
+
+    /// Writes a fault that has a place.
+    fn write_placed<W: Write>(&self, f: &mut Formatter<W>) -> fmt::Result {
+        let kind = self.fault.kind;
+        let at = self.fault.at.min(self.text.len());
+        let place = place_of(self.text, at);
+        let column = at - place.start + 1;
+        write!(f, "line {}, column {column}: ", place.line)?;
+        write_due(f, kind, self.remedy)?;
+        write_place(f, self.text, place, at)?;
+        let is_helped = write_step(f, kind, &self.text[..at], &self.text[at..], self.remedy)?;
+        let line = &self.text[place.start..place.end];
+        write_seeming(f, seeming_at(self.text, line), is_helped)
+    }
+}
+
 impl Display for Malformed<'_> {
     fn fmt<W: Write>(&self, f: &mut Formatter<W>) -> fmt::Result {
-        let kind = self.fault.kind;
-        if is_of_whole(kind) {
-            write_due(f, kind, self.remedy)?;
-        } else {
-            let at = self.fault.at.min(self.text.len());
-            let place = place_of(self.text, at);
-            let column = at - place.start + 1;
-            write!(f, "line {}, column {column}: ", place.line)?;
-            write_due(f, kind, self.remedy)?;
-            write_place(f, self.text, place, at)?;
-            if kind == FaultKind::Unsupported && begins_wider(&self.text[at..]) {
-                write_remedy(f, self.remedy)?;
-            }
+        if is_of_whole(self.fault.kind) {
+            return self.write_whole(f);
         }
-        match seeming_of(self.text) {
-            Some(seeming) => writeln!(f, "{seeming}"),
-            None => Ok(()),
-        }
+        self.write_placed(f)
     }
 }

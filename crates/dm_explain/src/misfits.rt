@@ -1,10 +1,11 @@
 //! What a new patch wants where it doesn't apply, and what stands there.
 use crate::head::{Bytes, Head};
+use crate::remedies::{write_anew, write_shallower};
 use crate::shown::Shown;
 use dm_prim::{Binary, Hunk, Prim, Replace};
 use dm_repo::Misfit;
 use dm_tokens::has_piece;
-use dm_tree::{Entry, FileRef, Lines};
+use dm_tree::{Entry, FileRef, Lines, TreeFault};
 use std::alloc::Global;
 use std::fmt::{self, Formatter, Write};
 
@@ -101,16 +102,28 @@ fn write_replace<W: Write>(
     Ok(())
 }
 
-/// Writes which primitive of a new patch doesn't apply, and why.
-pub(crate) fn write_misfit<W: Write>(f: &mut Formatter<W>, misfit: &Misfit<Global>) -> fmt::Result {
-    let Some(prim) = misfit.patch.prims().get(misfit.prim) else {
-        return Ok(());
-    };
-    writeln!(f, "at `{}`: {}.", Head { prim }, misfit.fault)?;
+/// Writes what a primitive wants where it doesn't apply, and what stands there.
+fn write_wanted<W: Write>(
+    f: &mut Formatter<W>,
+    prim: &Prim<Global>,
+    misfit: &Misfit<Global>,
+) -> fmt::Result {
     match prim {
         Prim::Hunk(hunk) => write_hunk(f, hunk, misfit),
         Prim::Binary(binary) => write_binary(f, binary, misfit),
         Prim::Replace(replace) => write_replace(f, replace, misfit),
         _ => Ok(()),
     }
+}
+
+/// Writes which primitive of a new patch doesn't apply, why, and what helps.
+pub(crate) fn write_misfit<W: Write>(f: &mut Formatter<W>, misfit: &Misfit<Global>) -> fmt::Result {
+    if let Some(prim) = misfit.patch.prims().get(misfit.prim) {
+        writeln!(f, "at `{}`: {}.", Head { prim }, misfit.fault)?;
+        write_wanted(f, prim, misfit)?;
+    }
+    if misfit.fault == TreeFault::TooDeep {
+        return write_shallower(f);
+    }
+    write_anew(f)
 }

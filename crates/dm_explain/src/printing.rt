@@ -4,6 +4,9 @@ use crate::depth::{Depth, write_depth};
 use crate::fates::Fates;
 use crate::head::Head;
 use crate::misfits::write_misfit;
+use crate::remedies::{
+    write_against, write_all_patches, write_anew, write_settling, write_whole_context,
+};
 use crate::shown::Who;
 use crate::skips::{NamedSkip, Reason, Skips};
 use dm_info::Info;
@@ -36,7 +39,7 @@ fn write_pair<W: Write>(
     writeln!(f, "{what}:\n  {first}\n{by}:\n  {second}")
 }
 
-/// Which patches of the context aren't held, and what to do.
+/// Which patches of the context aren't held.
 fn write_missing<W: Write>(f: &mut Formatter<W>, missing: &[&Info<Global>]) -> fmt::Result {
     match missing.len() {
         1 => f.write_str("A patch that the bundle builds on isn't held:\n")?,
@@ -45,9 +48,7 @@ fn write_missing<W: Write>(f: &mut Formatter<W>, missing: &[&Info<Global>]) -> f
     for info in missing {
         writeln!(f, "  {}", Who { info })?;
     }
-    f.write_str(
-        "Ask the sender for what is missing, or for a bundle against a context that you have.\n",
-    )
+    Ok(())
 }
 
 /// A new patch, what it names, and whether that is held.
@@ -59,11 +60,13 @@ fn write_lacking<W: Write>(
 ) -> fmt::Result {
     write_pair(f, "The new patch", patch, "depends on", dependency)?;
     if held {
-        return f.write_str(
+        f.write_str(
             "which is held, but neither in the bundle nor in what its context stands for.\n",
-        );
+        )?;
+        return write_whole_context(f);
     }
-    f.write_str("which is neither held nor in the bundle. Ask the sender for it.\n")
+    f.write_str("which is neither held nor in the bundle.\n")?;
+    write_against(f)
 }
 
 /// Which limit a repository of so many patches would pass with so many more: the depth of a path, and where, or else the patches.
@@ -106,7 +109,10 @@ impl Display for Account<'_> {
         match self {
             Account::Nobody => Ok(()),
             Account::Full(held, more, depth) => write_full(f, *held, *more, depth),
-            Account::MissingContext(missing) => write_missing(f, missing),
+            Account::MissingContext(missing) => {
+                write_missing(f, missing)?;
+                write_against(f)
+            }
             Account::MissingDependency(patch, dependency, held) => {
                 write_lacking(f, patch, dependency, *held)
             }
@@ -117,7 +123,8 @@ impl Display for Account<'_> {
                     patch,
                     "but not what that builds on",
                     needed,
-                )
+                )?;
+                write_whole_context(f)
             }
             Account::HeldDepends(patch, needed) => {
                 write_pair(
@@ -126,7 +133,8 @@ impl Display for Account<'_> {
                     patch,
                     "but not what it builds on in the bundle",
                     needed,
-                )
+                )?;
+                write_against(f)
             }
             Account::DoesNotFit(patch, misfit) => {
                 let patch = Who { info: patch };
@@ -136,7 +144,7 @@ impl Display for Account<'_> {
                 )?;
                 match misfit {
                     Some(misfit) => write_misfit(f, misfit),
-                    None => Ok(()),
+                    None => write_anew(f),
                 }
             }
             Account::Conflicts(new, held, clashing) => {
@@ -147,10 +155,10 @@ impl Display for Account<'_> {
                     "conflicts with the held patch",
                     held,
                 )?;
-                match clashing {
-                    Some(pair) => write_clashing(f, pair),
-                    None => Ok(()),
+                if let Some(pair) = clashing {
+                    write_clashing(f, pair)?;
                 }
+                write_settling(f, clashing)
             }
             Account::Sorted(fates) => write_fates(f, fates),
         }
@@ -199,6 +207,25 @@ impl Display for AccountWithSkips<'_> {
                 write_list(f, "Taken", &fates.taken)?;
                 write!(f, "{}", self.skips)?;
                 write_list(f, "Held before", &fates.held)
+            }
+            account => write!(f, "{account}"),
+        }
+    }
+}
+
+/// An account of a bundle that an empty repository didn't take. It prints itself in lines for people.
+#[derive(Clone, Copy)]
+pub struct AccountOfEmpty<'a> {
+    /// The account.
+    pub account: &'a Account<'a>,
+}
+
+impl Display for AccountOfEmpty<'_> {
+    fn fmt<W: Write>(&self, f: &mut Formatter<W>) -> fmt::Result {
+        match self.account {
+            Account::MissingContext(missing) => {
+                write_missing(f, missing)?;
+                write_all_patches(f)
             }
             account => write!(f, "{account}"),
         }

@@ -95,6 +95,33 @@ fn has_quoted_bundle(text: &[u8]) -> bool {
     text.find(b"\n> New patches:").is_some()
 }
 
+/// Whether the line with which new patches begin ends in a carriage return.
+fn has_crlf_heading(text: &[u8]) -> bool {
+    if text.starts_with(b"New patches:\r\n".as_slice()) {
+        return true;
+    }
+    text.find(b"\nNew patches:\r\n").is_some()
+}
+
+/// Whether a line is a bundle's own, and not one of a file in a hunk, and ends in a carriage return.
+fn is_crlf_line(line: &[u8]) -> bool {
+    match line {
+        [b'+' | b'-' | b' ', ..] => false,
+        _ => line.ends_with(b"\r".as_slice()),
+    }
+}
+
+/// What a text looks like in whose line a bundle ends to be one, if that is known.
+pub(crate) fn seeming_at(text: &[u8], line: &[u8]) -> Option<Seeming> {
+    if let Some(seeming) = seeming_of(text) {
+        return Some(seeming);
+    }
+    if is_crlf_line(line) {
+        return Some(Seeming::Crlf);
+    }
+    None
+}
+
 /// What a text of another tool than darcs looks like, if that is known.
 fn foreign_seeming(text: &[u8]) -> Option<Seeming> {
     if begins_as_utf16(text) {
@@ -143,10 +170,20 @@ pub(crate) fn seeming_of(text: &[u8]) -> Option<Seeming> {
     if begins_as_mail(begun) || has_mail_part(text) {
         return Some(Seeming::Mail);
     }
-    if text.find(b"\r\n").is_some() {
+    if has_crlf_heading(text) {
         return Some(Seeming::Crlf);
     }
     None
+}
+
+impl Seeming {
+    /// Whether it says what to do.
+    pub(crate) fn has_step(self) -> bool {
+        match self {
+            Seeming::Empty | Seeming::Context | Seeming::GitBundle | Seeming::GitMail => false,
+            _ => true,
+        }
+    }
 }
 
 impl Display for Seeming {

@@ -60,6 +60,23 @@ impl Display for When<'_> {
     }
 }
 
+/// The parts of a patch info by which people know a patch.
+#[derive(Clone, Copy)]
+pub(crate) struct Named<'a> {
+    pub(crate) name: &'a [u8],
+    pub(crate) author: &'a [u8],
+    pub(crate) date: &'a [u8],
+}
+
+impl Display for Named<'_> {
+    fn fmt<W: Write>(&self, f: &mut Formatter<W>) -> fmt::Result {
+        let name = Shown { text: self.name };
+        let author = Shown { text: self.author };
+        let date = When { date: self.date };
+        write!(f, "{name} by {author}, {date}")
+    }
+}
+
 /// A patch as people know it: what it is called, who recorded it, and when.
 #[derive(Clone, Copy)]
 pub struct Who<'a> {
@@ -69,15 +86,11 @@ pub struct Who<'a> {
 
 impl Display for Who<'_> {
     fn fmt<W: Write>(&self, f: &mut Formatter<W>) -> fmt::Result {
-        let name = Shown {
-            text: self.info.name(),
-        };
-        let author = Shown {
-            text: self.info.author(),
-        };
-        let date = When {
+        let named = Named {
+            name: self.info.name(),
+            author: self.info.author(),
             date: self.info.date(),
         };
-        write!(f, "{name} by {author}, {date}")
+        write!(f, "{named}")
     }
 }

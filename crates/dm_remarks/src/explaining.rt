@@ -9,7 +9,7 @@ use bumpalo::Bump;
 use dm_bundle::{Bundle, read_bundle_within};
 use dm_commands::{Applied, Base, Unread, base_tag, repo_of};
 use dm_deliver::{HashFault, HashFaultKind, HashRule, hash_fault_within};
-use dm_explain::{Account, AccountWithSkips, Malformed, account_of, skips_of};
+use dm_explain::{Account, AccountOfEmpty, AccountWithSkips, Malformed, account_of, skips_of};
 use dm_mail::{Body, Mail};
 use dm_mirror::Outcome;
 use dm_named::{FaultKind, ReadFault};
@@ -79,7 +79,9 @@ pub fn explain_hash_fault<R: Runtime + AllocGlobal>(rt: &R, colour: Colour, faul
         HashFaultKind::NoHash => say(
             rt,
             colour,
-            &format_args!("No hash of the patches stands behind the context, at byte {at}.\n"),
+            &format_args!(
+                "No hash of the patches stands behind the context, at byte {at}. Ask for the bundle as darcs send writes it, or leave out --hash.\n"
+            ),
         ),
     }
 }
@@ -97,7 +99,7 @@ pub fn explain_before_base<R: Runtime + AllocGlobal>(
             rt,
             colour,
             &format_args!(
-                "The bundle doesn't rest on {tag}, with which the mirror begins. Its sender has to pull that tag, or run darcs optimize reorder, and send it again.\n"
+                "The bundle doesn't rest on {tag}, with which the mirror begins. The sender pulls that tag, and sends the whole context:\n  darcs pull\n  darcs send --no-minimize\n"
             ),
         );
     }
@@ -208,6 +210,10 @@ fn print_account<R: Runtime + AllocGlobal>(
             say(rt, colour, &AccountWithSkips { account, skips });
             return;
         }
+    }
+    if repo.len() == 0 {
+        say(rt, colour, &AccountOfEmpty { account });
+        return;
     }
     say(rt, colour, account);
 }

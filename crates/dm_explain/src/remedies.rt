@@ -1,0 +1,89 @@
+//! What helps after a refusal: who does what, with the commands on lines of their own.
+use crate::account::Clashing;
+use crate::same::same_prim;
+use dm_prim::Prim;
+use std::alloc::Global;
+use std::fmt::{self, Formatter, Write};
+
+/// Writes how a sender names all of the context, and not only what the new patches rest on.
+pub(crate) fn write_whole_context<W: Write>(f: &mut Formatter<W>) -> fmt::Result {
+    f.write_str(
+        "The sender pulls what they lack, and sends the whole context:\n  darcs pull\n  darcs send --no-minimize\n",
+    )
+}
+
+/// Writes how a sender makes a bundle of all that a mirror lacks.
+pub(crate) fn write_against<W: Write>(f: &mut Formatter<W>) -> fmt::Result {
+    f.write_str(
+        "Give the sender the mirror's context, to send what it lacks:\n  dm log --mirror MIRROR --context > CONTEXT\n  darcs send --no-minimize --context CONTEXT\n",
+    )
+}
+
+/// Writes how a sender makes a bundle of all patches.
+pub(crate) fn write_all_patches<W: Write>(f: &mut Formatter<W>) -> fmt::Result {
+    f.write_str(
+        "Nothing is held, which needs a bundle of all patches:\n  printf '\\nContext:\\n\\n' > NONE\n  darcs send --context NONE .\n",
+    )
+}
+
+/// Writes how a sender makes a bundle anew.
+pub(crate) fn write_anew<W: Write>(f: &mut Formatter<W>) -> fmt::Result {
+    f.write_str(
+        "The bundle was changed since it was made, or rests on another patch of a name that is held. Ask for it once more:\n  darcs send --no-minimize\n",
+    )
+}
+
+/// Writes how a patch gets a path of fewer names.
+pub(crate) fn write_shallower<W: Write>(f: &mut Formatter<W>) -> fmt::Result {
+    f.write_str(
+        "The sender moves it to a path of fewer names, and records that anew:\n  darcs pull\n  darcs unrecord -p NAME\n  darcs move LONG SHORT\n  darcs record\n",
+    )
+}
+
+/// Writes how a sender puts a patch on top of one that it conflicts with.
+fn write_rebase<W: Write>(f: &mut Formatter<W>) -> fmt::Result {
+    f.write_str(
+        "The sender brings in the held patch, and puts their own on top. Until the conflict is settled and amended, their own undoes the held one:\n  darcs rebase pull REPOSITORY\n  darcs rebase unsuspend\n  darcs amend\n  darcs send\n",
+    )
+}
+
+/// Writes how a sender takes out a patch whose change is held.
+fn write_twin<W: Write>(f: &mut Formatter<W>) -> fmt::Result {
+    f.write_str(
+        "Both make the same change. The sender brings in the held patch, takes out their own, and sends the rest:\n  darcs rebase pull REPOSITORY\n  darcs rebase obliterate\n  darcs rebase unsuspend\n  darcs send\nIf their own makes other changes, too, they keep it, and amend it before they send: until then it may undo the held one.\n",
+    )
+}
+
+/// Writes how a sender puts a replace on top of other changes of its file.
+fn write_replace<W: Write>(f: &mut Formatter<W>) -> fmt::Result {
+    f.write_str("dm merges no replace with other changes of its file. ")?;
+    write_whole_context(f)
+}
+
+/// Whether a primitive is a replace.
+fn is_replace(prim: &Prim<Global>) -> bool {
+    match prim {
+        Prim::Replace(_) => true,
+        _ => false,
+    }
+}
+
+/// Writes what helps where two patches conflict, by these primitives if they are known.
+pub(crate) fn write_settling<W: Write>(
+    f: &mut Formatter<W>,
+    clashing: &Option<Clashing<'_>>,
+) -> fmt::Result {
+    let Some(pair) = clashing else {
+        return write_rebase(f);
+    };
+    if same_prim(pair.new, pair.held) {
+        return write_twin(f);
+    }
+    if is_replace(pair.new) {
+        return write_replace(f);
+    }
+    if is_replace(pair.held) {
+        return write_replace(f);
+    }
+    write_rebase(f)
+}
