@@ -24,7 +24,7 @@ pub enum Remedy {
     Nothing,
     /// The word by which a command reads all kinds.
     Word,
-    /// Another mirror, which reads all kinds.
+    /// The command by which a mirror comes to read all kinds.
     Mirror,
 }
 
@@ -163,7 +163,7 @@ fn write_remedy<W: Write>(f: &mut Formatter<W>, remedy: Remedy) -> fmt::Result {
         }
         Remedy::Word => "--all-kinds reads binaries, replaces and changes of preferences, too.\n",
         Remedy::Mirror => {
-            "This mirror reads no binaries, replaces or changes of preferences. Make one that does, of a bundle of all patches:\n  dm init --mirror NEW --all-kinds --repository BUNDLE\n"
+            "This mirror reads no binaries, replaces or changes of preferences. Have it read them:\n  dm upgrade --mirror MIRROR\n"
         }
     })
 }
