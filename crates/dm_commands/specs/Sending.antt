@@ -97,10 +97,15 @@ SendsCount is_minimal repo base names most new = MatchOption new
 abbrev pub CountsUnheld : List Patch → List PatchInfo → ℕ → Type 0
 CountsUnheld repo names count = (held : List PatchInfo) × (unheld : List PatchInfo) × Parts (Holds repo) names held unheld × (count ≡ length unheld)
 
--- what is told of the answer: how many new patches are sent, if any, and how many names aren't held
+-- a refusal that is told is one for which nothing is sent
+abbrev pub TellsWhy : Bool → List Patch → ℕ → List PatchInfo → ℕ → Option Refusal → Type 0
+TellsWhy is_minimal repo base names most told = MatchOption told (Unit {0}) (λ why. IsRefusedFor is_minimal repo base names most why)
+
+-- what is told of the answer: how many new patches are sent, if any, how many names aren't held, and why nothing is sent
 pub record TellsNumbers (is_minimal : Bool) (repo : List Patch) (base : ℕ) (names : List PatchInfo) (most : ℕ) (sent : Sent) : Type 0 where
   pub new : SendsCount is_minimal repo base names most sent.new
   pub unheld : CountsUnheld repo names sent.unheld
+  pub why : TellsWhy is_minimal repo base names most sent.why
 
 -- so it is of the answer to somebody of whom a text tells what they hold, or who holds nothing
 pub record TellsTexts (is_minimal : Bool) (repo : List Patch) (base : ℕ) (theirs : Option Base) (most : ℕ) (sent : Sent) : Type 0 where

@@ -38,6 +38,8 @@ pub struct Sent {
     pub new: Option<usize>,
     /// How many names of theirs aren't held here.
     pub unheld: usize,
+    /// Why there is no bundle, where they have the base.
+    pub why: Option<Refusal>,
 }
 
 /// The names that a text tells.
@@ -146,6 +148,7 @@ fn answer_knower(
                 status: 0,
                 new: Some(cut.new_patches().len()),
                 unheld,
+                why: None,
             };
             Ok((text, sent))
         }
@@ -155,6 +158,7 @@ fn answer_knower(
                 status: status_of(Verdict::Refused(why)),
                 new: None,
                 unheld,
+                why: Some(why),
             };
             Ok((line, sent))
         }
@@ -183,6 +187,7 @@ fn answer_for(
             status: 1,
             new: None,
             unheld,
+            why: None,
         };
         return Ok((line, sent));
     }

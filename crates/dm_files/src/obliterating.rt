@@ -22,6 +22,7 @@ use dm_commands::{
 };
 use dm_disk::{Access, DiskFile, Lock};
 use dm_info::Info;
+use dm_journal::replace_file;
 use dm_named::Kinds;
 use dm_remarks::{Colour, say};
 use dm_repo::{Refusal, Repo};
@@ -39,6 +40,19 @@ fn open_kept<'a>(rt: &HostRuntime, name: &'a str) -> Result<DiskFile, WordFault<
         Ok(file) if file.is_empty() => Ok(file),
         Ok(_) => Err(WordFault::TakeBack(TakeBackFault::OutputIsThere(name))),
         Err(fault) => Err(unopened(name, fault)),
+    }
+}
+
+/// Puts a bundle into a new file.
+pub fn write_bundle_file<'a>(
+    rt: &HostRuntime,
+    name: &'a str,
+    text: &[u8],
+) -> Result<(), WordFault<'a>> {
+    let mut file = open_kept(rt, name)?;
+    match replace_file(&mut file, text) {
+        Ok(()) => Ok(()),
+        Err(fault) => Err(blame(WordFault::Unwritten(name, fault), &file)),
     }
 }
 

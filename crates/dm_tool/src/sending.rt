@@ -2,13 +2,14 @@
 use clap::ArgMatches;
 use dm_commands::{Base, Sent, ToolFault, repo_of, send_over};
 use dm_files::{
-    Manner, NO_ANSWER, NamesFault, WordFault, base_of, kinds_of, read_base, read_file, read_repo,
-    refuse_kinds, tell,
+    Manner, NO_ANSWER, NamesFault, WordFault, base_of, kinds_of, label_of, read_base, read_file,
+    read_repo, refuse_kinds, tell, write_bundle_file,
 };
-use dm_named::Limits;
+use dm_named::{Kinds, Limits};
 use dm_remarks::{Colour, Reading, explain_base, explain_theirs};
-use dm_repo::Repo;
-use std::alloc::Global;
+use dm_repo::{Refusal, Repo};
+use dm_send::read_names;
+use std::alloc::{AllocError, Global};
 use std::io;
 use std::rt::Runtime;
 
@@ -25,6 +26,110 @@ fn say_sent<R: Runtime + AllocGlobal>(rt: &R, sent: &Sent) {
         Some(_) => Ok(()),
         None => eprintln!(rt; "dm: no bundle was made"),
     };
+}
+
+/// Says which patch that they hold rests on one that they don't name.
+fn say_bound(rt: &HostRuntime, repo: &Repo<Global>, why: Refusal) -> Result<(), AllocError> {
+    let Refusal::ContextDepends(held, needed) = why else {
+        return Ok(());
+    };
+    if held >= repo.len() || needed >= repo.len() {
+        return Ok(());
+    }
+    let held = label_of(rt.alloc(), repo.patch(held).info())?;
+    let needed = label_of(rt.alloc(), repo.patch(needed).info())?;
+    let _ = eprintln!(rt; "dm: {held} rests on {needed}, which they don't name");
+    let _ = eprintln!(rt;
+        "dm: ask them for all that they hold:\n  darcs log --context > CONTEXT"
+    );
+    Ok(())
+}
+
+/// Says which tag of theirs isn't held, the first of them that is told.
+fn say_tag(
+    rt: &HostRuntime,
+    repo: &Repo<Global>,
+    text: &[u8],
+    limits: Limits,
+) -> Result<(), AllocError> {
+    let Ok(names) = read_names(rt.alloc(), text, limits) else {
+        return Ok(());
+    };
+    for name in &names {
+        if repo.position(name).is_none() && name.name().starts_with(b"TAG ") {
+            let label = label_of(rt.alloc(), name)?;
+            let _ = eprintln!(rt;
+                "dm: the tag {label} isn't held: they have patches that are missing here; take a bundle of theirs first"
+            );
+            return Ok(());
+        }
+    }
+    Ok(())
+}
+
+/// Says more of why less is sent than somebody may await.
+fn explain_sent(
+    rt: &HostRuntime,
+    repo: &Repo<Global>,
+    sent: &Sent,
+    theirs: Option<Base<'_>>,
+) -> Result<(), AllocError> {
+    if let Some(why) = sent.why {
+        say_bound(rt, repo, why)?;
+    }
+    match theirs {
+        Some(theirs) if sent.unheld > 0 => say_tag(rt, repo, theirs.text, theirs.limits),
+        _ => Ok(()),
+    }
+}
+
+/// What is sent, to a file or to standard output.
+struct Asked<'a, 't> {
+    theirs: Option<Base<'t>>,
+    most: usize,
+    is_minimal: bool,
+    output: Option<&'a str>,
+}
+
+/// Sends what was asked for: into a new file where there is something, or to standard output.
+fn send_asked<'a>(
+    rt: &HostRuntime,
+    kinds: Kinds,
+    repo: &Repo<Global>,
+    base: usize,
+    asked: &Asked<'a, '_>,
+) -> Result<Sent, WordFault<'a>> {
+    let mut errors = rt.stderr();
+    let Some(name) = asked.output else {
+        let mut writer = io::writer(rt);
+        return Ok(send_over(
+            rt.alloc(),
+            kinds,
+            repo,
+            base,
+            asked.theirs,
+            asked.most,
+            asked.is_minimal,
+            &mut writer,
+            &mut errors,
+        )?);
+    };
+    let mut text = Vec::new(rt.alloc());
+    let sent = send_over(
+        rt.alloc(),
+        kinds,
+        repo,
+        base,
+        asked.theirs,
+        asked.most,
+        asked.is_minimal,
+        &mut text,
+        &mut errors,
+    )?;
+    if sent.new.unwrap_or(0) > 0 {
+        write_bundle_file(rt, name, &text)?;
+    }
+    Ok(sent)
 }
 
 /// The file of what they hold, if one is named. It may be a repository of their own.
@@ -59,25 +164,21 @@ fn send_from<'a>(
         Some(most) => most as usize,
         None => usize::MAX,
     };
-    let is_minimal = words.get_flag("minimal");
-    let mut writer = io::writer(rt);
-    let mut errors = rt.stderr();
-    match send_over(
-        rt.alloc(),
-        reading.kinds,
-        repo,
-        base,
+    let asked = Asked {
         theirs,
         most,
-        is_minimal,
-        &mut writer,
-        &mut errors,
-    ) {
+        is_minimal: words.get_flag("minimal"),
+        output: words.get_str("output"),
+    };
+    match send_asked(rt, reading.kinds, repo, base, &asked) {
         Ok(sent) => {
+            if words.get_flag("explain") {
+                explain_sent(rt, repo, &sent, asked.theirs)?;
+            }
             say_sent(rt, &sent);
             Ok(sent.status)
         }
-        Err(ToolFault::BadNames(fault)) => {
+        Err(WordFault::Tool(ToolFault::BadNames(fault))) => {
             let name = words.get_str("to").unwrap_or("");
             tell(
                 rt,
@@ -89,7 +190,7 @@ fn send_from<'a>(
             }
             Ok(NO_ANSWER)
         }
-        Err(fault) => Err(WordFault::Tool(fault)),
+        Err(fault) => Err(fault),
     }
 }
 

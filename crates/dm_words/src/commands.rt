@@ -178,6 +178,7 @@ fn send_words<'a>(alloc: Global) -> Result<Command<'a>, AllocError> {
         .arg(all_kinds(alloc, help::READ_ALL_HERE))
         .try_arg(no_wait_at_mirror(alloc))
         .arg(explain(alloc))
+        .arg(output(alloc, help::SEND_OUTPUT))
         .arg(file(alloc, "to", help::SEND_TO))
         .done()
 }

@@ -172,6 +172,9 @@ pub const LAST: &str = "Print the newest N patches alone";
 pub const OUTPUT: &str =
     "Keep the bundle in a new file, which is on the disk before the mirror changes";
 
+/// Of `dm send --output`.
+pub const SEND_OUTPUT: &str = "Write the bundle to a new file; where there is none, no file is made";
+
 /// Of `--names`.
 pub const NAMES: &str =
     "Begin at a tag: the context NAMES tells all patches that it covers, the tag first";

@@ -23,6 +23,7 @@ returns-in_ok-text-in-Ok-clause-told c =
     record {
       new = (c.requires.knows, (c.in-Ok.bundle, c.in-Ok.ensures.sent, ap length (c.new_patches.ensures.value ∙ cuts.patches)));
       unheld = c.requires.unheld;
+      why = tt;
     }
 
 pub returns-in_ok-line-in-Err : goal.returns-in_ok-line-in-Err
@@ -31,6 +32,6 @@ returns-in_ok-line-in-Err c =
     let is : IsRefusedFor c.args.is_minimal c.args.repo.now.patches c.args.base c.args.names.now c.args.most why = (c.in_ok-line-in-Err.ensures.answers, c.in-Err.ensures.refusal) in
     record {
       ok = refused c.requires.knows why is c.in_ok-line-in-Err.ensures.line c.status_of.ensures;
-      told = record { new = inr (c.requires.knows, (why, is)); unheld = c.requires.unheld };
+      told = record { new = inr (c.requires.knows, (why, is)); unheld = c.requires.unheld; why = is };
       err = tt;
     }
