@@ -19,7 +19,7 @@ _dm()
     obliterate) options='-o --mirror --output --with-dependents --dry-run --no-wait --explain' ;;
     rollback) options='--mirror --author --date --name --log --no-wait' ;;
     run) options='--mirrors --bound --base --repository --explain --skip' ;;
-    send) options='--mirror --base --repository --first --minimal --all-kinds --no-wait --explain --to' ;;
+    send) options='-o --output --mirror --base --repository --first --minimal --all-kinds --no-wait --explain --to' ;;
     upgrade) options='--mirror --no-wait' ;;
     *) return ;;
   esac

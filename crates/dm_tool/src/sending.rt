@@ -84,6 +84,7 @@ fn explain_sent(
 }
 
 /// What is sent, to a file or to standard output.
+#[derive(Drop)]
 struct Asked<'a, 't> {
     theirs: Option<Base<'t>>,
     most: usize,

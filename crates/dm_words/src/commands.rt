@@ -10,8 +10,9 @@ use crate::help;
 use clap::{ArgGroup, Command};
 use std::alloc::{AllocError, Global};
 
-/// What `dm --version` prints after the program's name.
-pub const VERSION: &str = "0.2.0";
+/// What `dm --version` prints after the program's name. `install` writes the commit, and that it is proved, in the place of what is in
+/// parentheses, which is as long.
+pub const VERSION: &str = "0.2.0 (commit and proof not stated)";
 
 /// The words of `dm apply`.
 fn apply_words<'a>(alloc: Global) -> Result<Command<'a>, AllocError> {

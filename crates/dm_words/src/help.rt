@@ -241,7 +241,7 @@ Example: dm run --mirrors 2 --bound 4 ann=first.dpatch bob=second.dpatch";
 
 /// What the exit status of `dm send` says, and an example.
 pub const AFTER_SEND: &str = "\
-Exit status: 0 if a bundle was made, 1 if it was refused, 2 if there is no answer.
+Exit status: 0 if a bundle was made or there is nothing to send, 1 if it was refused, 2 if there is no answer.
 
 Example: dm send --mirror shelf.dm --to ann.context > for-ann.dpatch";
 
