@@ -32,7 +32,7 @@ pub record WritesPrefix (IsAnswer : List ℕ → ℕ → Type 0) (before after :
 abbrev pub AppendsApart : Option (List ℕ) → Option (List ℕ) → Option (List ℕ) → Option (List ℕ) → ℕ → List ℕ → Type 0
 AppendsApart before after other_before other_after status text =
     ((status ≡ 0) × (Appends before after text × (other_after ≡ other_before)))
-        ⊎ ((status ≢ 0) × ((after ≡ before) × Appends other_before other_after text))
+    ⊎ ((status ≢ 0) × ((after ≡ before) × Appends other_before other_after text))
 
 -- an answer was written whole to one of two writers, by its exit status
 pub record WritesApart (IsAnswer : List ℕ → ℕ → Type 0) (before after other_before other_after : Option (List ℕ)) (status : ℕ) : Type 0 where

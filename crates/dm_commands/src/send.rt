@@ -273,7 +273,7 @@ pub fn send_over<W: Write, E: Write>(
         (W.contents writer.new ≡ W.contents writer.old) × (E.contents errors.new ≡ E.contents errors.old)) }
     ensures prefix { IfErr result (λ e. (e ≡ ToolFault.Write) →
         WritesPrefixApart (AnswersTexts kinds is_minimal repo.now.patches base theirs.entry most)
-            (W.contents writer.old) (W.contents writer.new) (E.contents errors.old) (E.contents errors.new)) }
+        (W.contents writer.old) (W.contents writer.new) (E.contents errors.old) (E.contents errors.new)) }
 {
     let (out, sent) = answer_to(alloc, kinds, repo, base, theirs, most, is_minimal)?;
     write_apart(&out, sent.status, writer, errors)?;

@@ -171,7 +171,7 @@ fn write_remedy<W: Write>(f: &mut Formatter<W>, remedy: Remedy) -> fmt::Result {
 /// Writes what helps where a patch was merged with one that it conflicts with.
 fn write_unmerging<W: Write>(f: &mut Formatter<W>, remedy: Remedy) -> fmt::Result {
     f.write_str(
-        "The sender makes it anew, on top of the other one, and sends it again. If darcs names a conflict, it is settled before, and amended:\n  darcs rebase suspend --not-in-remote\n  darcs rebase unsuspend\n  darcs send\n",
+        "The sender makes one patch of their own. The files stay as they are:\n  darcs unrecord --not-in-remote\n  darcs record --look-for-adds\n  darcs send --no-minimize\n",
     )?;
     match remedy {
         Remedy::Nothing => Ok(()),

@@ -40,17 +40,17 @@ pub(crate) fn write_shallower<W: Write>(f: &mut Formatter<W>) -> fmt::Result {
     )
 }
 
-/// Writes how a sender puts a patch on top of one that it conflicts with.
-fn write_rebase<W: Write>(f: &mut Formatter<W>) -> fmt::Result {
+/// Writes how a sender makes one patch, over one that it conflicts with.
+fn write_one_patch<W: Write>(f: &mut Formatter<W>) -> fmt::Result {
     f.write_str(
-        "The sender brings in the held patch, and puts their own on top. Until the conflict is settled and amended, their own undoes the held one:\n  darcs rebase pull REPOSITORY\n  darcs rebase unsuspend\n  darcs amend\n  darcs send\n",
+        "The sender pulls, settles and records the conflict, and makes one patch of their own. The files stay as they are:\n  darcs pull\n  darcs record\n  darcs unrecord --not-in-remote\n  darcs record --look-for-adds\n  darcs send --no-minimize\n",
     )
 }
 
-/// Writes how a sender takes out a patch whose change is held.
+/// Writes how a sender sends what a held patch leaves of their own.
 fn write_twin<W: Write>(f: &mut Formatter<W>) -> fmt::Result {
     f.write_str(
-        "Both make the same change. The sender brings in the held patch, takes out their own, and sends the rest:\n  darcs rebase pull REPOSITORY\n  darcs rebase obliterate\n  darcs rebase unsuspend\n  darcs send\nIf their own makes other changes, too, they keep it, and amend it before they send: until then it may undo the held one.\n",
+        "Both make the same change. The sender pulls, and makes one patch of what is left of their own. The files stay as they are:\n  darcs pull\n  darcs unrecord --not-in-remote\n  darcs record --look-for-adds\n  darcs send --no-minimize\n",
     )
 }
 
@@ -74,7 +74,7 @@ pub(crate) fn write_settling<W: Write>(
     clashing: &Option<Clashing<'_>>,
 ) -> fmt::Result {
     let Some(pair) = clashing else {
-        return write_rebase(f);
+        return write_one_patch(f);
     };
     if same_prim(pair.new, pair.held) {
         return write_twin(f);
@@ -85,5 +85,5 @@ pub(crate) fn write_settling<W: Write>(
     if is_replace(pair.held) {
         return write_replace(f);
     }
-    write_rebase(f)
+    write_one_patch(f)
 }

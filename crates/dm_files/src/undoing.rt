@@ -124,7 +124,10 @@ pub fn roll_back_chosen<'a>(
     is_terminal: bool,
 ) -> Result<u8, WordFault<'a>> {
     let KeptRepo {
-        repo, base, kinds, ..
+        repo,
+        base,
+        kinds,
+        ..
     } = read_repo(rt, words, is_terminal)?;
     let chosen = chosen_names(rt, words, &repo)?;
     if names_base(&repo, base, &chosen) {

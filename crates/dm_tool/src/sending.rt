@@ -39,9 +39,7 @@ fn say_bound(rt: &HostRuntime, repo: &Repo<Global>, why: Refusal) -> Result<(), 
     let held = label_of(rt.alloc(), repo.patch(held).info())?;
     let needed = label_of(rt.alloc(), repo.patch(needed).info())?;
     let _ = eprintln!(rt; "dm: {held} rests on {needed}, which they don't name");
-    let _ = eprintln!(rt;
-        "dm: ask them for all that they hold:\n  darcs log --context > CONTEXT"
-    );
+    let _ = eprintln!(rt; "dm: ask them for all that they hold:\n  darcs log --context > CONTEXT");
     Ok(())
 }
 

@@ -173,7 +173,8 @@ pub const OUTPUT: &str =
     "Keep the bundle in a new file, which is on the disk before the mirror changes";
 
 /// Of `dm send --output`.
-pub const SEND_OUTPUT: &str = "Write the bundle to a new file; where there is none, no file is made";
+pub const SEND_OUTPUT: &str =
+    "Write the bundle to a new file; where there is none, no file is made";
 
 /// Of `--names`.
 pub const NAMES: &str =
@@ -262,8 +263,7 @@ pub const KINDS: &str =
     "Print which kinds of primitives the mirror reads, and the format of its file";
 
 /// Of `dm upgrade`.
-pub const UPGRADE: &str =
-    "Have a mirror read binaries, replaces and changes of preferences, too";
+pub const UPGRADE: &str = "Have a mirror read binaries, replaces and changes of preferences, too";
 
 /// What the exit status of `dm upgrade` says, and an example.
 pub const AFTER_UPGRADE: &str = "\
