@@ -30,6 +30,6 @@ pub use account::{Account, Clashing, account_of};
 pub use depth::Depth;
 pub use fates::{Fate, Fates};
 pub use malformed::{Malformed, Remedy};
-pub use printing::{AccountOfEmpty, AccountWithSkips};
+pub use printing::AccountWithSkips;
 pub use shown::Who;
 pub use skips::{NamedSkip, Reason, Skips, skips_of};

@@ -5,7 +5,7 @@ use crate::fates::Fates;
 use crate::head::Head;
 use crate::misfits::write_misfit;
 use crate::remedies::{
-    write_against, write_all_patches, write_anew, write_settling, write_whole_context,
+    write_against, write_against_any, write_anew, write_settling, write_whole_context,
 };
 use crate::shown::Who;
 use crate::skips::{NamedSkip, Reason, Skips};
@@ -66,7 +66,7 @@ fn write_lacking<W: Write>(
         return write_whole_context(f);
     }
     f.write_str("which is neither held nor in the bundle.\n")?;
-    write_against(f)
+    write_against_any(f)
 }
 
 /// Which limit a repository of so many patches would pass with so many more: the depth of a path, and where, or else the patches.
@@ -111,7 +111,7 @@ impl Display for Account<'_> {
             Account::Full(held, more, depth) => write_full(f, *held, *more, depth),
             Account::MissingContext(missing) => {
                 write_missing(f, missing)?;
-                write_against(f)
+                write_against_any(f)
             }
             Account::MissingDependency(patch, dependency, held) => {
                 write_lacking(f, patch, dependency, *held)
@@ -207,25 +207,6 @@ impl Display for AccountWithSkips<'_> {
                 write_list(f, "Taken", &fates.taken)?;
                 write!(f, "{}", self.skips)?;
                 write_list(f, "Held before", &fates.held)
-            }
-            account => write!(f, "{account}"),
-        }
-    }
-}
-
-/// An account of a bundle that an empty repository didn't take. It prints itself in lines for people.
-#[derive(Clone, Copy)]
-pub struct AccountOfEmpty<'a> {
-    /// The account.
-    pub account: &'a Account<'a>,
-}
-
-impl Display for AccountOfEmpty<'_> {
-    fn fmt<W: Write>(&self, f: &mut Formatter<W>) -> fmt::Result {
-        match self.account {
-            Account::MissingContext(missing) => {
-                write_missing(f, missing)?;
-                write_all_patches(f)
             }
             account => write!(f, "{account}"),
         }

@@ -19,10 +19,11 @@ pub(crate) fn write_against<W: Write>(f: &mut Formatter<W>) -> fmt::Result {
     )
 }
 
-/// Writes how a sender makes a bundle of all patches.
-pub(crate) fn write_all_patches<W: Write>(f: &mut Formatter<W>) -> fmt::Result {
+/// Writes how a sender makes a bundle of all that is lacking, which may be all patches.
+pub(crate) fn write_against_any<W: Write>(f: &mut Formatter<W>) -> fmt::Result {
+    write_against(f)?;
     f.write_str(
-        "Nothing is held, which needs a bundle of all patches:\n  printf '\\nContext:\\n\\n' > NONE\n  darcs send --context NONE .\n",
+        "Where nothing is held, the context is empty:\n  printf '\\nContext:\\n\\n' > CONTEXT\n",
     )
 }
 

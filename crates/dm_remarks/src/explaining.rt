@@ -9,7 +9,7 @@ use bumpalo::Bump;
 use dm_bundle::{Bundle, read_bundle_within};
 use dm_commands::{Applied, Base, Unread, base_tag, repo_of};
 use dm_deliver::{HashFault, HashFaultKind, HashRule, hash_fault_within};
-use dm_explain::{Account, AccountOfEmpty, AccountWithSkips, Malformed, account_of, skips_of};
+use dm_explain::{Account, AccountWithSkips, Malformed, account_of, skips_of};
 use dm_mail::{Body, Mail};
 use dm_mirror::Outcome;
 use dm_named::{FaultKind, ReadFault};
@@ -210,10 +210,6 @@ fn print_account<R: Runtime + AllocGlobal>(
             say(rt, colour, &AccountWithSkips { account, skips });
             return;
         }
-    }
-    if repo.len() == 0 {
-        say(rt, colour, &AccountOfEmpty { account });
-        return;
     }
     say(rt, colour, account);
 }
