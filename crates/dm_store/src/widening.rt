@@ -1,5 +1,5 @@
 //! A store of which another one takes the place, that reads all kinds.
-ghost use Rattle.std.specs.Prelude.{◌≡◌, ◌<◌, ⊥, IfOk, IfErr};
+ghost use Rattle.std.specs.Prelude.{◌≡◌, ◌<◌, IfOk, IfErr};
 ghost use Rattle.dm_named.specs.declared.limits.Kinds.TheVariants.{All};
 ghost use Rattle.dm_journal.specs.declared.fault.WriteError.TheVariants.{TooLong, Full};
 ghost use Rattle.dm_journal.specs.Device.{LeavesOnly};
