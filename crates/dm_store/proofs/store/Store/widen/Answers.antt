@@ -12,8 +12,8 @@ returns-in-Ok-clause-any_moment g c =
     let kept = kept_in store in
     let keeping = keeps d.seen d.may_leave d.file_may_leave store.journal c.requires.entries kept c.requires.has c.requires.folds in
     rw c.of_parts.ensures.journal
-        (weakened d.moment d.left_since _ _ _ _ (for_either (kinds_in store) (d.seen store.journal.device) kept keeping)
-            (rw (c.into_parts-device.ensures.device, c.into_parts-device.ensures.repo, c.base-base.ensures) at c.in-Ok.ensures.any_moment))
+    (weakened d.moment d.left_since _ _ _ _ (for_either (kinds_in store) (d.seen store.journal.device) kept keeping)
+    (rw (c.into_parts-device.ensures.device, c.into_parts-device.ensures.repo, c.base-base.ensures) at c.in-Ok.ensures.any_moment))
 
 pub returns-in-Err-clause-any_moment_err : goal.returns-in-Err-clause-any_moment_err
 returns-in-Err-clause-any_moment_err g c =
@@ -22,7 +22,7 @@ returns-in-Err-clause-any_moment_err g c =
     let kept = kept_in store in
     let keeping = keeps d.seen d.may_leave d.file_may_leave store.journal c.requires.entries kept c.requires.has c.requires.folds in
     weakened d.moment d.left_since _ _ _ _ (for_either (kinds_in store) (d.seen store.journal.device) kept keeping)
-        (rw (c.into_parts-device.ensures.device, c.into_parts-device.ensures.repo, c.base-base.ensures) at c.in-Err.ensures.any_moment_err)
+    (rw (c.into_parts-device.ensures.device, c.into_parts-device.ensures.repo, c.base-base.ensures) at c.in-Err.ensures.any_moment_err)
 
 pub returns-in-Err-clause-too_long : goal.returns-in-Err-clause-too_long
 returns-in-Err-clause-too_long g c =
