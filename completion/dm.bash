@@ -1,4 +1,4 @@
-# Completion of dm for bash. Source it, or put it as `dm` into share/bash-completion/completions.
+# Completion of dm and its scripts for bash. Source it, or put it as `dm` into share/bash-completion/completions, and links to it for the scripts.
 
 _dm()
 {
@@ -48,6 +48,22 @@ _dm()
   esac
 }
 
+# The scripts dm-from-darcs, dm-move-on and dm-to-darcs
+_dm_script()
+{
+  local word=${COMP_WORDS[COMP_CWORD]} options=--help
+  COMPREPLY=()
+  case ${1##*/} in
+    dm-from-darcs) options='--six-kinds --move-on --push --help' ;;
+    dm-to-darcs) options='--darcs-1 --darcs-2 --help' ;;
+  esac
+  if [[ $word = -* ]]; then
+    mapfile -t COMPREPLY < <(compgen -W "$options" -- "$word")
+  else
+    _dm_files -f "$word"
+  fi
+}
+
 # _dm_files -f|-d WORD: the files or folders whose names begin so
 _dm_files()
 {
@@ -56,3 +72,4 @@ _dm_files()
 }
 
 complete -F _dm dm
+complete -F _dm_script dm-from-darcs dm-move-on dm-to-darcs
