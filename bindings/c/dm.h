@@ -45,8 +45,8 @@ typedef struct dm_limits {
 #define DM_KINDS_ALL 1u /* those six, binary, replace and changepref */
 
 /* Initializers: dm_limits limits = DM_LIMITS_STANDARD; */
-#define DM_LIMITS_STANDARD {4194304, 1000, 10000, 500, DM_KINDS_SIX}        /* for a text of somebody else */
-#define DM_LIMITS_OWN {1073741824, 100000, 10000, 1000000000, DM_KINDS_SIX} /* for a repository of one's own */
+#define DM_LIMITS_STANDARD {4194304, 1000, 10000, 500, DM_KINDS_SIX}            /* for a text of somebody else */
+#define DM_LIMITS_OWN {1073741824, 100000, 1000000, 100000000000, DM_KINDS_SIX} /* for a repository of one's own */
 
 /* Policies. */
 #define DM_REFUSE 0u /* a conflict refuses the bundle */

@@ -150,7 +150,7 @@ class Limits:
 
 _MOST = ctypes.c_size_t(-1).value
 Limits.STANDARD = Limits(4_194_304, 1000, 10_000, 500)
-Limits.OWN = Limits(1_073_741_824, 100_000, 10_000, 1_000_000_000)
+Limits.OWN = Limits(1_073_741_824, 100_000, 1_000_000, 100_000_000_000)
 
 
 @dataclass(frozen=True)

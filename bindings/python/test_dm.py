@@ -203,7 +203,8 @@ class Hooks(unittest.TestCase):
         with tempfile.TemporaryDirectory() as folder:
             mirror, first = os.path.join(folder, "m.dm"), str(EXAMPLES / "first.bundle")
             base = str(EXAMPLES / "walk-through" / "base.bundle")
-            subprocess.run([os.environ["DM"], "init", "--mirror", mirror, "--base", base], check=True, stdout=subprocess.PIPE)
+            words = "init", "--mirror", mirror, "--six-kinds", "--base", base
+            subprocess.run([os.environ["DM"], *words], check=True, stdout=subprocess.PIPE)
             before = pathlib.Path(mirror).read_bytes()
             for bundle, line, status, said in (
                 (first, "taken 1\n", 0, "Taken:"),
@@ -217,7 +218,7 @@ class Hooks(unittest.TestCase):
                 self.assertEqual((found, out.getvalue()), (status, line))
                 self.assertIn(said, errors.getvalue())
             self.assertEqual(pathlib.Path(mirror).read_bytes(), before)
-            subprocess.run([os.environ["DM"], "init", "--mirror", mirror + "2", "--all-kinds"], check=True, stdout=subprocess.PIPE)
+            subprocess.run([os.environ["DM"], "init", "--mirror", mirror + "2"], check=True, stdout=subprocess.PIPE)
             ran = subprocess.run([sys.executable, hook.__file__, mirror + "2"], input=ALL_KINDS, capture_output=True, check=False)
             self.assertEqual((ran.returncode, ran.stdout), (1, b"refused missing-context 0\n"), ran.stderr)
 

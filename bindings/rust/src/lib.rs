@@ -46,7 +46,7 @@ impl Limits {
     pub const STANDARD: Limits = Limits { bytes: 4_194_304, patches: 1000, prims: 10_000, replaces: 500, kinds: Kinds::Six };
     /// For a repository of one's own: each primitive may be a replace.
     pub const OWN: Limits =
-        Limits { bytes: 1_073_741_824, patches: 100_000, prims: 10_000, replaces: 1_000_000_000, kinds: Kinds::Six };
+        Limits { bytes: 1_073_741_824, patches: 100_000, prims: 1_000_000, replaces: 100_000_000_000, kinds: Kinds::Six };
 
     /// These limits, but with other kinds.
     pub const fn with_kinds(self, kinds: Kinds) -> Limits {
