@@ -13,3 +13,4 @@ pub mod ListLemmas
 pub mod ApplyLemmas
 pub mod TouchLemmas
 pub mod SketchLemmas
+pub mod PartLemmas

@@ -92,7 +92,7 @@ lists_unchanged [] ys h = empty
 lists_unchanged (x ∷ xs) ys h = row (lists_unchanged xs ys (λ z y c d. h z y (Contains-append_right (x ∷ []) xs z c) d)) (row_unchanged x ys (λ y d. h x y (0, omega arith, refl) d))
 
 -- what a primitive of a list names is touched by the list
-touched_in : (ps : List Prim) (p : Prim) (f : Path) → Contains ps p → Contains (paths_of p) f → IsTouched ps f
+pub touched_in : (ps : List Prim) (p : Prim) (f : Path) → Contains ps p → Contains (paths_of p) f → IsTouched ps f
 touched_in [] p f (k, l, e) d = absurd (omega (arith, l))
 touched_in (q ∷ ps) p f c d = elim (Contains-append_cases (q ∷ []) ps p c) [ inl x ↦ Contains-append_left (paths_of q) (flat_map paths_of ps) f (rw (only x) d) | inr x ↦ Contains-append_right (paths_of q) (flat_map paths_of ps) f (touched_in ps p f x d) ]
   where

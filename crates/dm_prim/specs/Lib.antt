@@ -13,3 +13,5 @@ pub mod Applying
 pub mod Touch
 pub mod Turning
 pub mod Sketches
+pub mod Parts
+pub mod PartLaws

@@ -2,6 +2,7 @@
 //! Each call does nothing; whoever calls it knows the law from there on.
 ghost use Rattle.dm_prim.specs.Laws.{CommutedPairsEndAlike, PairsCommuteBack, PairsCommutePastAnInverse, CommutedListsEndAlike, ListsCommuteBack, ListsCommutePastAnInverse, RectanglesTurn, InversesLeadBack, ListInversesLeadBack, OneWayToApply, OneWayToCommute, OneWayToCommuteLists, ApplyingHasOneAnswer, ApplyingAListHasOneAnswer, HunkHasOneAnswer, BinaryHasOneAnswer, PreferenceHasOneAnswer};
 ghost use Rattle.dm_prim.specs.Touch.{InversesTouchTheSame};
+ghost use Rattle.dm_prim.specs.PartLaws.{AppliesToPart, ChangesUnderPaths, PartIsAsDeep, PartIsLawful, PartIsPutBack, PutIsOne};
 
 /// Every lawful map on which two primitives apply in turn has the same end by those that they
 /// commute to.
@@ -95,4 +96,34 @@ pub fn a_binary_has_one_answer()
 /// The parts decide whether there is such a change of a preference.
 pub fn a_preference_has_one_answer()
     ensures { PreferenceHasOneAnswer }
+{}
+
+/// The part of a lawful map is lawful.
+pub fn a_part_is_lawful()
+    ensures { PartIsLawful }
+{}
+
+/// A primitive applies to a map as it does to a part that has all that it names.
+pub fn applying_to_a_part()
+    ensures { AppliesToPart }
+{}
+
+/// What a primitive changes is at or under a path that it names.
+pub fn changes_are_under_paths()
+    ensures { ChangesUnderPaths }
+{}
+
+/// A map is as deep as its part.
+pub fn a_part_is_as_deep()
+    ensures { PartIsAsDeep }
+{}
+
+/// What comes of a part can be put back.
+pub fn a_part_is_put_back()
+    ensures { PartIsPutBack }
+{}
+
+/// It is put back in one way.
+pub fn a_put_is_one()
+    ensures { PutIsOne }
 {}

@@ -57,6 +57,13 @@ impl<A: Allocator + Copy> Touched<A> {
 }
 
 impl<A: Allocator> Touched<A> {
+    /// The paths that are touched, each at least once.
+    pub fn into_paths(self) -> Vec<Path<A>, A>
+        ensures { result.items ≡ self.paths }
+    {
+        self.paths
+    }
+
     /// Whether this is what a list of primitives touches: so it is after a commute that changed no path. Takes no memory.
     pub fn is_of<B: Allocator>(&self, prims: &[Primitive<B>]) -> bool
         ensures { IsTrue result ↔ Touches (prims_of prims.now) self.now }

@@ -25,3 +25,6 @@ pub mod Standing
 pub mod Steps
 pub mod Texts
 pub mod Trees
+pub mod ReachLemmas
+pub mod PartLemmas
+pub mod PutLemmas
