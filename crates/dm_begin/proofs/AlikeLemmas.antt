@@ -1,5 +1,5 @@
 -- A repository answers as another of the same names and the same tree does.
-use Rattle.std.proofs.Common.{◌≡◌, ◌⊎◌, inl, inr, ℕ, ◌+◌, List, [], ◌∷◌, ◌++◌, length, map, refl, sym, ap, subst, ◌∙◌, arith, append_assoc}
+use Rattle.std.proofs.Common.{◌≡◌, ◌⊎◌, inl, inr, ℕ, ◌+◌, List, [], ◌∷◌, ◌++◌, length, map, refl, sym, ap, subst, ◌∙◌, arith}
 use Rattle.std.proofs.lemmas.List.{length-map, map-append}
 use Rattle.std.proofs.lemmas.List.Elements.{Contains-append_left, Contains-append_right, Contains-append_cases}
 use Rattle.std.specs.List.{AllByRecursion, Contains}
@@ -292,7 +292,7 @@ module _ (f g xs : List Patch) (b : Contents) (s : ShareFirst f g xs b) where
   weighs_there policy weighed.NothingNew h = nothing_new_there h
   weighs_there policy (weighed.Merged m) (h, t) = (
     merge_there policy m.patches.items m.skipped h,
-    rw append_assoc (tree_there f g s.alike (xs ++ m.patches.items) m.tree (rw append_assoc at t)),
+    record { before = t.before; folds = folds_there f g s.alike xs t.folds; makes = t.makes },
   )
 
 pub answers_alike : AnswersAlike

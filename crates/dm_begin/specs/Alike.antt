@@ -34,7 +34,7 @@ abbrev pub AnswersAlike : Type 0
 AnswersAlike = (f g xs : List Patch) (b : Contents) → ShareFirst f g xs b → (policy : Policy) (x : Answer) →
     AnswersWeighing (f ++ xs) b policy x ↔ AnswersWeighing (g ++ xs) b policy x
 
--- and the same tree after them
+-- and the same part of the tree after them
 abbrev pub WeighsAlike : Type 0 → Type 0
 WeighsAlike Z = (f g xs : List Patch) (b : Contents) → ShareFirst f g xs b → (policy : Policy) (w : Weighed Z) →
     Weighs (f ++ xs) b policy w ↔ Weighs (g ++ xs) b policy w

@@ -52,8 +52,7 @@ fn repo_of_patches(alloc: Global, patches: Vec<Named<Global>>) -> Result<Repo<Gl
     let bundle = Bundle::without_doubles(patches, Vec::new(alloc));
     match weigh_owned(alloc, &repo, bundle, Policy::Refuse) {
         Ok(Weighed::Merged(merged)) => {
-            let ready = repo.prepare_owned(merged)?;
-            repo.commit(ready);
+            repo.append_owned(merged)?;
             Ok(repo)
         }
         Ok(Weighed::NothingNew) => unreachable!(),

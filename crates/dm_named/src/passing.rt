@@ -67,7 +67,7 @@ impl<A: Allocator> Passing<A> {
     }
 
     /// Whether what both touch is known and has nothing in common. Then they pass each other unchanged.
-    fn is_apart_from(&self, other: &Passing<A>) -> bool
+    fn is_apart_from<B: Allocator>(&self, other: &Passing<B>) -> bool
         ensures { IsTrue result → ListsCommute self.now.prims other.now.prims other.now.prims self.now.prims }
     {
         let Some(first) = &self.touched else {
@@ -151,19 +151,20 @@ fn commute_touching<A: Allocator + Copy>(
     commutes
 }
 
-/// Whether both touch nothing in common. Then their primitives commute unchanged. What each touches is computed, unless that
-/// is known.
-pub fn are_apart<A: Allocator + Copy>(
+/// Whether both touch nothing in common. Then their primitives commute unchanged. What each touches is computed in its own
+/// memory, unless that is known.
+pub fn are_apart<A: Allocator + Copy, B: Allocator + Copy>(
     alloc: A,
     x: &mut Passing<A>,
-    y: &mut Passing<A>,
+    other: B,
+    y: &mut Passing<B>,
 ) -> Result<bool, AllocError>
     ensures x_same { x.new ≡ x.old }
     ensures y_same { y.new ≡ y.old }
     ensures prims { IfOk result (λ apart. IsTrue apart → ListsCommute x.old.prims y.old.prims y.old.prims x.old.prims) }
 {
     x.find_touched(alloc)?;
-    y.find_touched(alloc)?;
+    y.find_touched(other)?;
     Ok(x.is_apart_from(y))
 }
 
@@ -181,7 +182,7 @@ pub fn commute_prims_in_place<A: Allocator + Copy>(
         (ListsCommute x.old.prims y.old.prims y.new.prims x.new.prims)
         ((ys' xs' : List Prim) → ListsCommute x.old.prims y.old.prims ys' xs' → ⊥)) }
 {
-    if are_apart(alloc, x, y)? {
+    if are_apart(alloc, x, alloc, y)? {
         return Ok(true);
     }
     commute_touching(alloc, x, y)

@@ -3,6 +3,7 @@ use Rattle.std.proofs.Common.{◌≡◌, ℕ, ◌+◌, ◌≤◌, true, List, []
 use Rattle.std.proofs.lemmas.Bool.{eqb-true}
 use Rattle.std.proofs.lemmas.List.{length-map}
 use Rattle.dm_tree.specs.Trees.{Tree}
+use Rattle.dm_prim.specs.Primitives.{LawfulMap}
 use Rattle.dm_named.specs.Patches.{Patch}
 use Rattle.dm_bundle.specs.Bundles.{Contents}
 use Rattle.dm_repo.specs.Staircases.{Split, nothing, stays, yields}
@@ -28,6 +29,10 @@ all_front Square (yields o s t) e = absurd (cc)
 -- so its tree is the repository's
 pub makes_whole : (repo : List Patch) (b : Contents) {front rest new : List Placed} (tree : Tree) → IsBundleSplit repo b front rest new → rest ≡ [] → IsTreeOf repo tree → IsTreeOf (patches front) tree
 makes_whole repo b tree split none m = let e = all_front PlacedCommutes split.repo_split.split none in (m.0, m.1, rw (e, patches_placed 0 repo) m.2)
+
+-- and what the repository makes the front makes
+pub front_whole : (repo : List Patch) (b : Contents) {front rest new : List Placed} {t : LawfulMap} → IsBundleSplit repo b front rest new → rest ≡ [] → ShallowFold repo t → ShallowFold (patches front) t
+front_whole repo b split none f = let e = all_front PlacedCommutes split.repo_split.split none in rw (e, patches_placed 0 repo) f
 
 -- and the patches to merge start where the repository ends
 pub folds_whole : (repo : List Patch) (b : Contents) {new : List Placed} (f : Fits repo b [] new) → ShallowFold repo f.base

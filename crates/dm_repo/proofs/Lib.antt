@@ -18,6 +18,13 @@ pub mod RefusalLemmas
 pub mod DependencyLemmas
 pub mod Making
 pub mod Firsts
+pub mod OrderLemmas
+pub mod TopLemmas
+pub mod UndoLemmas
+pub mod TrialLemmas
+pub mod PutLemmas
+pub mod Tries
+pub mod TakenBack
 pub mod AskedRows
 pub mod SiftLemmas
 pub mod SkipLemmas

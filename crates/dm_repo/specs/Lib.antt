@@ -10,6 +10,7 @@ pub mod CommonSets
 pub mod Marking
 pub mod Weighing
 pub mod Refusals
+pub mod Trials
 pub mod Weighed
 pub mod Skips
 pub mod Misfits

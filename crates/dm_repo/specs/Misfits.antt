@@ -13,16 +13,11 @@ use Rattle.dm_repo.specs.declared.misfit.Misfit.{Misfit}
 use Rattle.dm_repo.specs.Folds.{LeadsShallowly, PatchLeadsShallowly, ShallowFold}
 use Rattle.dm_repo.specs.Squares.{Placed, patches}
 use Rattle.dm_repo.specs.Repositories.{IsMapOf, IsTreeOf}
-use Rattle.dm_repo.specs.Weighing.{Fits, IsBundleSplit}
+use Rattle.dm_repo.specs.Weighing.{IsBundleSplit}
 
 -- the repository and the bundle are split into a front, a rest and the patches to merge, and the front makes the tree
 abbrev pub IsBasis : List Patch → Contents → Tree → List Placed → List Placed → Type 0
 IsBasis repo b tree rest new = (front : List Placed) × IsBundleSplit repo b front rest new × IsTreeOf (patches front) tree
-
--- and the patches to merge apply to that tree, and make this one
-pub record IsFitted (repo : List Patch) (b : Contents) (rest new : List Placed) (tree : Tree) : Type 0 where
-  pub fits : Fits repo b rest new
-  pub makes : IsMapOf tree fits.fitted
 
 -- the primitives of x before this place lead shallowly from s to the tree; the one at the place has this fault there, which may come then and is the first that does
 pub record FaultsAt (x : Patch) (s : LawfulMap) (place : ℕ) (tree : Tree) (fault : TreeFault) : Type 0 where

@@ -1,5 +1,5 @@
 //! What the new patches of a bundle are applied to and merged with.
-ghost use Rattle.std.specs.Prelude.{◌≡◌, ◌≤◌, List, ◌++◌, length, take, MatchOption, MatchResult};
+ghost use Rattle.std.specs.Prelude.{◌≡◌, ◌≤◌, List, ◌++◌, length, take, IfOk, MatchOption, MatchResult};
 ghost use Rattle.dm_bundle.specs.Bundles.{Contents};
 ghost use Rattle.dm_repo.specs.declared.policy.Policy.{Policy};
 ghost use Rattle.dm_repo.specs.Squares.{Placed, patches, placed};
@@ -12,14 +12,25 @@ ghost use Rattle.dm_repo.specs.Misfits.{IsBasis};
 use crate::fit::{fit, fit_front};
 use crate::lookup::look_up;
 use crate::marks::Marks;
-use crate::parted::{Halves, kept_in_place, split_held, split_repo};
+use crate::parted::{kept_in_place, split_held, split_repo};
 use crate::refusal::Refusal;
 use crate::repo::{Repo, copy_patches};
+use crate::trial::part_before;
 use dm_bundle::Bundle;
 use dm_named::{Named, Passing};
 use dm_tree::Tree;
 use dm_tree::laws::tree_is_lawful;
 use std::alloc::Allocator;
+
+/// A repository and a bundle, both split: the first patches of the repository that stayed where they are, the others that
+/// are common, the rest, and the patches to merge.
+#[derive(Drop)]
+pub(crate) struct Sides<A: Allocator> {
+    pub(crate) kept: usize,
+    pub(crate) front: Vec<(usize, Passing<A>), A>,
+    pub(crate) rest: Vec<(usize, Passing<A>), A>,
+    pub(crate) new: Vec<(usize, Passing<A>), A>,
+}
 
 /// The tree of what a bundle was made from, the rest of the repository, and the patches to merge.
 #[derive(Drop)]
@@ -33,50 +44,74 @@ pub(crate) struct Basis<A: Allocator> {
 fn front_tree<A: Allocator, B: Allocator + Copy>(
     alloc: B,
     repo: &Repo<A>,
-    kept: usize,
-    parted: &Halves<B>,
+    sides: &Sides<B>,
 ) -> Result<Tree<B>, Refusal>
-    requires { kept ≤ length repo.now.patches }
+    requires { sides.now.kept ≤ length repo.now.patches }
     ensures { (b : Contents) (new : List Placed) →
-        IsBundleSplit repo.now.patches b (placed (take kept repo.now.patches) ++ parted.now.front.items) parted.now.rest.items new → MatchResult result
-        (λ tree. IsTreeOf (patches (placed (take kept repo.now.patches) ++ parted.now.front.items)) tree)
+        IsBundleSplit repo.now.patches b (placed (take sides.now.kept repo.now.patches) ++ sides.now.front.items) sides.now.rest.items new → MatchResult result
+        (λ tree. IsTreeOf (patches (placed (take sides.now.kept repo.now.patches) ++ sides.now.front.items)) tree)
         (λ why. IsBeforeFit repo.now.patches b why × ((policy : Policy) → RefusesBundle repo.now.patches b policy why)) }
 {
-    if parted.rest.is_empty() {
+    if sides.rest.is_empty() {
         let tree = repo.tree_copy(alloc)?;
         return Ok(tree);
     }
     let mut tree = Tree::new(alloc);
     tree_is_lawful(&tree);
-    match fit_front(&repo.patches()[..kept], &parted.front, &mut tree) {
+    match fit_front(&repo.patches()[..sides.kept], &sides.front, &mut tree) {
         Ok(()) => Ok(tree),
         Err(stop) => Err(stop.full()),
     }
 }
 
-/// Splits the repository and new patches whose names were looked up, and applies the front.
+/// Splits the repository and new patches whose names were looked up.
 pub(crate) fn split_both<A: Allocator, B: Allocator + Copy>(
     alloc: B,
     repo: &Repo<A>,
     new: Vec<Named<B>, B>,
     marks: &Marks<B>,
-) -> Result<Basis<B>, Refusal>
+) -> Result<Sides<B>, Refusal>
     requires common { length marks.now.common.items ≡ length repo.now.patches }
     requires held { length marks.now.held.items ≡ length new.items }
-    ensures { (b : Contents) → b.patches ≡ new.items → IsLookedUp repo.now.patches b marks.now.common.items marks.now.held.items →
+    ensures within { IfOk result (λ sides. sides.kept ≤ length repo.now.patches) }
+    ensures split { (b : Contents) → b.patches ≡ new.items → IsLookedUp repo.now.patches b marks.now.common.items marks.now.held.items →
         MatchResult result
-        (λ basis. IsBasis repo.now.patches b basis.tree basis.rest.items basis.new.items)
+        (λ sides. IsBundleSplit repo.now.patches b (placed (take sides.kept repo.now.patches) ++ sides.front.items) sides.rest.items sides.new.items)
         (λ why. IsBeforeFit repo.now.patches b why × ((policy : Policy) → RefusesBundle repo.now.patches b policy why)) }
 {
     let kept = kept_in_place(&marks.common);
     let parted = split_repo(alloc, repo, marks, kept)?;
     let new = split_held(alloc, new, marks)?;
-    let tree = front_tree(alloc, repo, kept, &parted)?;
-    Ok(Basis {
-        tree,
+    Ok(Sides {
+        kept,
+        front: parted.front,
         rest: parted.rest,
         new,
     })
+}
+
+/// Applies the front and then the patches to merge, on the part of the kept tree that they reach.
+pub(crate) fn fit_on_part<A: Allocator, B: Allocator + Copy>(
+    alloc: B,
+    repo: &Repo<A>,
+    sides: &Sides<B>,
+) -> Result<(), Refusal>
+    requires { sides.now.kept ≤ length repo.now.patches }
+    ensures { (b : Contents) →
+        IsBundleSplit repo.now.patches b (placed (take sides.now.kept repo.now.patches) ++ sides.now.front.items) sides.now.rest.items sides.now.new.items → MatchResult result
+        (λ _. Fits repo.now.patches b sides.now.rest.items sides.now.new.items)
+        (λ why. (policy : Policy) → RefusesBundle repo.now.patches b policy why) }
+{
+    repo.lawful();
+    let mut part = part_before(alloc, repo, sides.kept, &sides.front, &sides.new)?;
+    match fit(&sides.front, &mut part) {
+        Ok(()) => {}
+        Err(stop) => return Err(stop.full()),
+    }
+    match fit(&sides.new, &mut part) {
+        Ok(()) => Ok(()),
+        Err(stop) => Err(stop.does_not_fit()),
+    }
 }
 
 /// What a bundle's new patches are applied to and merged with: none where nothing is new.
@@ -95,8 +130,13 @@ pub(crate) fn find_basis<A: Allocator + Copy, B: Allocator + Copy>(
         return Ok(None);
     };
     let new = copy_patches(alloc, bundle.new_patches())?;
-    let basis = split_both(alloc, repo, new, &marks)?;
-    Ok(Some(basis))
+    let sides = split_both(alloc, repo, new, &marks)?;
+    let tree = front_tree(alloc, repo, &sides)?;
+    Ok(Some(Basis {
+        tree,
+        rest: sides.rest,
+        new: sides.new,
+    }))
 }
 
 /// What a bundle's new patches are applied to and merged with, where they apply to it: none where nothing is new.

@@ -1,18 +1,14 @@
 //! Applying patches to a tree, up to the first that leads nowhere, or to a path that is too deep.
-ghost use Rattle.std.specs.Prelude.{◌≡◌, ◌≢◌, ◌++◌, false, List, IfOk, MatchBool, MatchResult};
+ghost use Rattle.std.specs.Prelude.{◌≡◌, ◌≢◌, ◌++◌, false, IfOk, MatchBool, MatchResult};
 ghost use Rattle.dm_prim.specs.Primitives.{LawfulMap};
 ghost use Rattle.dm_prim.specs.InTurn.{InTurn};
-ghost use Rattle.dm_named.specs.Patches.{Patch};
-ghost use Rattle.dm_bundle.specs.Bundles.{Contents};
-ghost use Rattle.dm_repo.specs.declared.policy.Policy.{Policy};
 ghost use Rattle.dm_repo.specs.Folds.{IsStopped, PatchLeadsShallowly, PatchStops};
 ghost use Rattle.dm_repo.specs.Squares.{Placed, patches, placed};
 ghost use Rattle.dm_repo.specs.Repositories.{IsMapOf};
-ghost use Rattle.dm_repo.specs.Weighing.{FitStops, RefusesBundle};
+ghost use Rattle.dm_repo.specs.Weighing.{FitStops};
 ghost use Rattle.dm_repo.specs.Stops.{StopsAt};
-ghost use Rattle.dm_repo.specs.Misfits.{FaultsAt, IsBasis, IsFitted};
+ghost use Rattle.dm_repo.specs.Misfits.{FaultsAt};
 
-use crate::refusal::Refusal;
 use crate::stop::Stop;
 use dm_named::{Named, Passing};
 use dm_prim::apply;
@@ -111,20 +107,4 @@ pub(crate) fn fit_front<A: Allocator, B: Allocator + Copy>(
 {
     fit_first(kept, tree)?;
     fit(copied, tree)
-}
-
-/// Applies the patches to merge to the tree of what the bundle was made from.
-pub(crate) fn fit_new<A: Allocator + Copy>(
-    tree: Tree<A>,
-    new: &[(usize, Passing<A>)],
-) -> Result<Tree<A>, Refusal>
-    ensures { (repo : List Patch) (b : Contents) (rest : List Placed) → IsBasis repo b tree rest new.now → MatchResult result
-        (λ fitted. IsFitted repo b rest new.now fitted)
-        (λ why. (policy : Policy) → RefusesBundle repo b policy why) }
-{
-    let mut tree = tree;
-    match fit(new, &mut tree) {
-        Ok(()) => Ok(tree),
-        Err(stop) => Err(stop.does_not_fit()),
-    }
 }

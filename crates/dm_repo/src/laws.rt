@@ -1,6 +1,7 @@
 //! Laws of the definitions alone. A call of them does nothing.
 
 ghost use Rattle.dm_repo.specs.Laws.{FoldIsOne, SplitFolds, SplitIsOne, SplitStopsOnce};
+ghost use Rattle.dm_repo.specs.Trials.{PartFollows, PartGoesTooDeepAlike, PartStopsAlike, PutMakesTree, UndoingLeadsBack, WholeFollows};
 ghost use Rattle.dm_repo.specs.Laws.{MergeApplies, MergeIsOne, MergeStopsOnce, MergeIsRepo, MergeKeepsKinds, PoliciesAgree, EachIsMergedOrSkipped, WeighingHasOneAnswer, BothOrdersHaveOneAnswer};
 
 /// A list of patches makes at most one tree.
@@ -31,6 +32,17 @@ pub fn merge()
 /// What is merged has no other kinds of primitives than the new patches of the bundle.
 pub fn merge_keeps_kinds()
     ensures { MergeKeepsKinds }
+{}
+
+/// Patches lead on from a tree exactly if they lead on from the part that they reach, or stop at the same one for the same reason. The
+/// part after them, put back, makes the tree of the repository with them. Patches are undone by their inverses, the last one first.
+pub fn trial()
+    ensures part { PartFollows }
+    ensures whole { WholeFollows }
+    ensures stops { PartStopsAlike }
+    ensures too_deep { PartGoesTooDeepAlike }
+    ensures put { PutMakesTree }
+    ensures undone { UndoingLeadsBack }
 {}
 
 /// A repository, a bundle and a policy decide what weighing returns: which refusal, with its places, or that nothing is new,

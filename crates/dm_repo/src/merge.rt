@@ -1,5 +1,6 @@
 //! Merging patches that start where the rest of a repository does.
-ghost use Rattle.std.specs.Prelude.{◌≡◌, ◌≢◌, ◌↔◌, ◌+◌, ◌<◌, List, ◌++◌, [], length, map, IfOk, IsTrue, MatchResult};
+ghost use Rattle.std.specs.Prelude.{◌≡◌, ◌≢◌, ◌↔◌, ◌+◌, ◌<◌, List, [], length, map, IfOk, IsTrue, MatchResult};
+ghost use Rattle.std.specs.FinMap as finmap;
 ghost use Rattle.dm_named.specs.Patches.{Patch};
 ghost use Rattle.dm_bundle.specs.Bundles.{Contents};
 ghost use Rattle.dm_repo.specs.Merging.{MergeRectangle, MergeStops};
@@ -8,21 +9,19 @@ ghost use Rattle.dm_repo.specs.declared.policy.Policy.{Policy};
 ghost use Rattle.dm_repo.specs.declared.policy.Policy.TheVariants.{Refuse, Skip};
 ghost use Rattle.dm_repo.specs.declared.refusal.Refusal.TheVariants.{Full};
 ghost use Rattle.dm_repo.specs.Squares.{Placed, PlacedMerges, patches, undone};
-ghost use Rattle.dm_repo.specs.Repositories.{IsTreeOf};
-ghost use Rattle.dm_repo.specs.Weighing.{Fits, IsMergeOf, RefusesBundle, most_patches};
-ghost use Rattle.dm_repo.specs.Misfits.{IsBasis};
+ghost use Rattle.dm_repo.specs.Weighing.{Fits, IsBundleSplit, IsMergeOf, RefusesBundle, most_patches};
+ghost use Rattle.dm_repo.specs.Trials.{MakesPart};
 ghost use Rattle.dm_repo.specs.Stops.{AtPlaces, BlockedBy};
 
-use crate::fit::{fit, fit_new};
 use crate::passing::merge_past;
 use crate::policy::Policy;
 use crate::refusal::Refusal;
 use crate::repo::Repo;
 use crate::sifting::{first_conflict, is_all_skipped, sift};
 use crate::stop::Blocked;
+use crate::trial::try_patches;
 use crate::weighed::Merged;
 use dm_named::{Limits, Named, Passing};
-use dm_tree::Tree;
 use std::alloc::{AllocError, Allocator};
 
 /// A repository holds at most so many patches: as many as can be read again.
@@ -90,7 +89,7 @@ fn without_places<A: Allocator + Copy>(
     Ok(list)
 }
 
-/// Applies the merged patches to the repository's tree; so many others were skipped.
+/// Applies the merged patches to the part of the repository's tree that they reach; so many others were skipped.
 fn append<A: Allocator, B: Allocator + Copy>(
     alloc: B,
     repo: &Repo<A>,
@@ -99,21 +98,21 @@ fn append<A: Allocator, B: Allocator + Copy>(
 ) -> Result<Merged<B>, Refusal>
     ensures { (b : Contents) (policy : Policy) (rest new : List Placed) →
         Fits repo.now.patches b rest new → MergesUnder policy rest new merged.items skipped → MatchResult result
-        (λ m. IsMergeOf repo.now.patches b policy m.patches.items m.skipped × IsTreeOf (repo.now.patches ++ m.patches.items) m.tree)
+        (λ m. IsMergeOf repo.now.patches b policy m.patches.items m.skipped × MakesPart repo.now.patches m.patches.items m.paths.items (finmap.get m.part))
         (λ why. RefusesBundle repo.now.patches b policy why) }
 {
     if is_too_many(repo.len(), merged.len()) {
         return Err(Refusal::Full);
     }
-    let mut tree = repo.tree_copy(alloc)?;
-    match fit(&merged, &mut tree) {
-        Ok(()) => {}
+    let trial = match try_patches(alloc, repo.tree(), &merged) {
+        Ok(trial) => trial,
         Err(stop) => return Err(stop.full()),
-    }
+    };
     let patches = without_places(alloc, merged)?;
     Ok(Merged {
         patches,
-        tree,
+        part: trial.part,
+        paths: trial.paths,
         skipped,
     })
 }
@@ -182,7 +181,7 @@ pub(crate) fn merge_with<A: Allocator + Copy>(
     }
 }
 
-/// Merges the patches that fit with the rest of the repository, and applies what comes of them to its tree.
+/// Merges the patches that fit with the rest of the repository, and applies what comes of them to a part of its tree.
 pub(crate) fn merge<A: Allocator, B: Allocator + Copy>(
     alloc: B,
     repo: &Repo<A>,
@@ -191,32 +190,35 @@ pub(crate) fn merge<A: Allocator, B: Allocator + Copy>(
     policy: Policy,
 ) -> Result<Merged<B>, Refusal>
     ensures { (b : Contents) → Fits repo.now.patches b rest.items new.items → MatchResult result
-        (λ m. IsMergeOf repo.now.patches b policy m.patches.items m.skipped × IsTreeOf (repo.now.patches ++ m.patches.items) m.tree)
+        (λ m. IsMergeOf repo.now.patches b policy m.patches.items m.skipped × MakesPart repo.now.patches m.patches.items m.paths.items (finmap.get m.part))
         (λ why. RefusesBundle repo.now.patches b policy why) }
 {
     let merging = merge_with(alloc, rest, new, policy)?;
     append(alloc, repo, merging.merged, merging.skipped)
 }
 
-/// Applies the patches to merge to the tree of a repository that is common as a whole: nothing stands in their way.
+/// Applies the patches to merge to a part of the tree of a repository that is common as a whole: nothing stands in their way.
 pub(crate) fn append_to_whole<A: Allocator, B: Allocator + Copy>(
     alloc: B,
     repo: &Repo<A>,
-    tree: Tree<B>,
     new: Vec<(usize, Passing<B>), B>,
 ) -> Result<Merged<B>, Refusal>
-    ensures { (b : Contents) (policy : Policy) → IsBasis repo.now.patches b tree [] new.items → MatchResult result
-        (λ m. IsMergeOf repo.now.patches b policy m.patches.items m.skipped × IsTreeOf (repo.now.patches ++ m.patches.items) m.tree)
+    ensures { (b : Contents) (policy : Policy) (front : List Placed) → IsBundleSplit repo.now.patches b front [] new.items → MatchResult result
+        (λ m. IsMergeOf repo.now.patches b policy m.patches.items m.skipped × MakesPart repo.now.patches m.patches.items m.paths.items (finmap.get m.part))
         (λ why. RefusesBundle repo.now.patches b policy why) }
 {
-    let tree = fit_new(tree, &new)?;
+    let trial = match try_patches(alloc, repo.tree(), &new) {
+        Ok(trial) => trial,
+        Err(stop) => return Err(stop.does_not_fit()),
+    };
     if is_too_many(repo.len(), new.len()) {
         return Err(Refusal::Full);
     }
     let patches = without_places(alloc, new)?;
     Ok(Merged {
         patches,
-        tree,
+        part: trial.part,
+        paths: trial.paths,
         skipped: 0,
     })
 }

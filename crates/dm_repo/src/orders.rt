@@ -6,7 +6,7 @@ ghost use Rattle.dm_repo.specs.Orders.{EndsAlike, IsNotTaken, IsTaken, StopsInTu
 use crate::policy::Policy;
 use crate::refusal::Refusal;
 use crate::repo::Repo;
-use crate::weighed::{Merged, Weighed, weigh};
+use crate::weighed::{Weighed, weigh};
 use dm_bundle::Bundle;
 use std::alloc::{AllocError, Allocator};
 
@@ -18,26 +18,6 @@ fn refused(why: Refusal) -> Result<bool, AllocError>
         Refusal::NoMemory => Err(AllocError),
         _ => Ok(false),
     }
-}
-
-/// A copy of a repository.
-fn copy_of<A: Allocator, B: Allocator + Copy>(
-    alloc: B,
-    repo: &Repo<A>,
-) -> Result<Repo<B>, AllocError>
-    ensures { IfOk result (λ copy. copy.patches ≡ repo.now.patches) }
-{
-    repo.lawful();
-    let patches = repo.to_bundle(alloc)?.into_new_patches();
-    let tree = repo.tree_copy(alloc)?;
-    let mut copy = Repo::new(alloc);
-    let ready = copy.prepare(&Merged {
-        patches,
-        tree,
-        skipped: 0,
-    })?;
-    let _ = copy.commit(ready);
-    Ok(copy)
 }
 
 /// Takes a bundle into a repository, and returns whether it was taken; else the repository is as it was.
@@ -72,7 +52,7 @@ fn take_in_turn<A: Allocator, B: Allocator + Copy>(
         (StopsInTurn repo.now.patches first.now second.now)
         (λ after. TakesInTurn repo.now.patches first.now second.now after.patches)) }
 {
-    let mut after = copy_of(alloc, repo)?;
+    let mut after = Repo::copy_of(alloc, repo)?;
     if !take(alloc, &mut after, first)? {
         return Ok(None);
     }

@@ -1,15 +1,19 @@
 //! A repository: its patches, oldest first, their names, and the tree that they make.
-ghost use Rattle.std.specs.Prelude.{◌≡◌, ◌↔◌, ◌<◌, ◌≤◌, [], ◌++◌, length, IfOk, OnOk, IsTrue, slice_get, Some, MatchOption};
+ghost use Rattle.std.specs.Prelude.{◌≡◌, ◌↔◌, ◌<◌, ◌≤◌, [], ◌++◌, length, IfOk, OnErr, OnOk, IsTrue, slice_get, Some, MatchOption};
+ghost use Rattle.std.specs.FinMap as finmap;
+ghost use Rattle.dm_tree.specs.Trees.{IsLawful, Map};
+ghost use Rattle.dm_tree.specs.Reach.{AreBelowRoot, AreTops, Puts};
 ghost use Rattle.dm_bundle.specs.Patches.{infos_of};
 ghost use Rattle.dm_repo.specs.Repositories.{Holds, IsRepo, IsTreeOf, KeepsTree};
+ghost use Rattle.dm_repo.specs.Trials.{KeepsPart, ReplacesPart};
 
-use crate::names::{Names, append_names, copy_names, no_names, place_of};
+use crate::names::{Names, append_names, copy_names, index_of, no_names, place_of};
 use crate::weighed::Merged;
 use dm_bundle::Bundle;
 use dm_info::Info;
 use dm_named::Named;
-use dm_tree::Tree;
 use dm_tree::laws::tree_is_lawful;
+use dm_tree::{Path, Tree};
 use std::alloc::{AllocError, Allocator};
 use std::marker::Model;
 
@@ -189,17 +193,81 @@ impl<A: Allocator + Copy> Repo<A> {
         Ok(self.position(&name))
     }
 
-    /// Makes the room for the merged patches, and copies them and the tree after them. The repository reads as before.
+    /// Appends merged patches, and returns how many that is. They are copied, and so is the part of the tree, which takes its
+    /// place in the kept tree; no other part of it is copied. At an error the repository is as it was.
     ///
     /// `merged` was weighed against this repository as it stands.
+    pub fn append<B: Allocator>(&mut self, merged: &Merged<B>) -> Result<usize, AllocError>
+        requires weighed { KeepsPart self.old.patches merged.now.patches.items merged.now.paths.items (finmap.get merged.now.part) }
+        ensures patches { OnOk result (self.new.patches ≡ self.old.patches ++ merged.now.patches.items) }
+        ensures count { IfOk result (λ count. count ≡ length merged.now.patches.items) }
+        ensures same { OnErr result (self.new.patches ≡ self.old.patches) }
+    {
+        self.make_room(merged.patches.len())?;
+        let alloc = *self.patches.allocator();
+        let patches = copy_patches(alloc, &merged.patches)?;
+        let names = copy_names(alloc, &patches)?;
+        let part = merged.part.copy_into(alloc)?;
+        self.put(patches, names, part, &merged.paths)
+    }
+
+    /// The same as [`Repo::append`] of what was merged in the repository's own memory and is given up: its patches and the part
+    /// are moved, and the names alone are copied.
+    pub fn append_owned(&mut self, merged: Merged<A>) -> Result<usize, AllocError>
+        requires weighed { KeepsPart self.old.patches merged.patches.items merged.paths.items (finmap.get merged.part) }
+        ensures patches { OnOk result (self.new.patches ≡ self.old.patches ++ merged.patches.items) }
+        ensures count { IfOk result (λ count. count ≡ length merged.patches.items) }
+        ensures same { OnErr result (self.new.patches ≡ self.old.patches) }
+    {
+        self.make_room(merged.patches.len())?;
+        let names = copy_names(*self.patches.allocator(), &merged.patches)?;
+        self.put(merged.patches, names, merged.part, &merged.paths)
+    }
+
+    /// Puts a part into the kept tree, which is the last that may fail, and appends the patches and names that there is room for.
+    fn put<B: Allocator>(
+        &mut self,
+        patches: Vec<Named<A>, A>,
+        names: Vec<Info<A>, A>,
+        part: Tree<A>,
+        paths: &[Path<B>],
+    ) -> Result<usize, AllocError>
+        requires room { length patches.items ≤ self.old.room }
+        requires names { names.items ≡ infos_of patches.items }
+        requires keeps { KeepsPart self.old.patches patches.items paths.now (finmap.get part) }
+        ensures patches { OnOk result (self.new.patches ≡ self.old.patches ++ patches.items) }
+        ensures count { IfOk result (λ count. count ≡ length patches.items) }
+        ensures same { OnErr result (self.new.patches ≡ self.old.patches) }
+    {
+        let whole = self.is_empty();
+        replace_part(&mut self.tree, whole, part, paths)?;
+        let mut more = patches;
+        let count = more.len();
+        append_names(&mut self.names, names);
+        let _ = self.patches.append(&mut more);
+        Ok(count)
+    }
+
+    /// Makes the room for the merged patches, and copies them and the whole tree after them. The repository reads as before.
+    ///
+    /// `merged` was weighed against this repository as it stands. [`Repo::append`] does both in one, and copies no whole tree.
     pub fn prepare<B: Allocator>(&mut self, merged: &Merged<B>) -> Result<Ready<A>, AllocError>
+        requires weighed { KeepsPart self.old.patches merged.now.patches.items merged.now.paths.items (finmap.get merged.now.part) }
         ensures same { self.new.patches ≡ self.old.patches }
         ensures ready { IfOk result (λ ready. ready.patches ≡ merged.now.patches.items) }
-        ensures tree { IfOk result (λ ready. ready.tree ≡ merged.now.tree) }
+        ensures tree { IfOk result (λ ready. KeepsTree (self.new.patches ++ ready.patches) ready.tree) }
         ensures room { IfOk result (λ ready. length ready.patches ≤ self.new.room) }
     {
         self.make_room(merged.patches.len())?;
-        copy_merged(*self.patches.allocator(), merged)
+        let alloc = *self.patches.allocator();
+        let patches = copy_patches(alloc, &merged.patches)?;
+        let names = copy_names(alloc, &patches)?;
+        let tree = tree_after(alloc, &self.tree, merged)?;
+        Ok(Ready {
+            patches,
+            names,
+            tree,
+        })
     }
 
     /// Makes the room for as many patches more. The repository reads as before.
@@ -212,39 +280,57 @@ impl<A: Allocator + Copy> Repo<A> {
         Ok(())
     }
 
-    /// The same as [`Repo::prepare`] of what was merged in the repository's own memory and is given up: its patches and its
-    /// tree are moved, and the names alone are copied.
-    pub fn prepare_owned(&mut self, merged: Merged<A>) -> Result<Ready<A>, AllocError>
-        ensures same { self.new.patches ≡ self.old.patches }
-        ensures ready { IfOk result (λ ready. ready.patches ≡ merged.patches.items) }
-        ensures tree { IfOk result (λ ready. ready.tree ≡ merged.tree) }
-        ensures room { IfOk result (λ ready. length ready.patches ≤ self.new.room) }
+    /// A copy of the repository.
+    pub(crate) fn copy_of<B: Allocator>(alloc: A, repo: &Repo<B>) -> Result<Repo<A>, AllocError>
+        ensures { IfOk result (λ copy. copy.patches ≡ repo.now.patches) }
     {
-        self.make_room(merged.patches.len())?;
-        let names = copy_names(*self.patches.allocator(), &merged.patches)?;
-        Ok(Ready {
-            patches: merged.patches,
+        repo.lawful();
+        let patches = copy_patches(alloc, repo.patches())?;
+        let names = index_of(alloc, &patches)?;
+        let tree = repo.tree_copy(alloc)?;
+        Ok(Repo {
+            patches,
             names,
-            tree: merged.tree,
+            tree,
         })
     }
 }
 
-/// Copies of the merged patches, and of the tree after them.
-fn copy_merged<A: Allocator + Copy, B: Allocator>(
-    alloc: A,
-    merged: &Merged<B>,
-) -> Result<Ready<A>, AllocError>
-    ensures { IfOk result (λ ready. (ready.patches ≡ merged.now.patches.items) × (ready.tree ≡ merged.now.tree)) }
+/// Puts a part into a tree, or in its place where it is the whole. Where memory runs out the tree is as it was.
+fn replace_part<A: Allocator + Copy, B: Allocator>(
+    tree: &mut Tree<A>,
+    whole: bool,
+    part: Tree<A>,
+    paths: &[Path<B>],
+) -> Result<(), AllocError>
+    requires tops { AreTops paths.now }
+    requires below { AreBelowRoot paths.now }
+    requires lawful { (t : Map) → Puts paths.now (finmap.get tree.old) (finmap.get part) t → IsLawful t }
+    ensures ok { OnOk result (ReplacesPart whole paths.now tree.old part tree.new) }
+    ensures err { OnErr result (tree.new ≡ tree.old) }
 {
-    let patches = copy_patches(alloc, &merged.patches)?;
-    let names = copy_names(alloc, &patches)?;
-    let tree = merged.tree.copy_into(alloc)?;
-    Ok(Ready {
-        patches,
-        names,
-        tree,
-    })
+    if whole {
+        *tree = part;
+        return Ok(());
+    }
+    tree.put_part(part, paths)
+}
+
+/// A copy of a repository's tree, into which the part of the tree after merged patches is put.
+fn tree_after<A: Allocator + Copy, B: Allocator>(
+    alloc: A,
+    tree: &Tree<A>,
+    merged: &Merged<B>,
+) -> Result<Tree<A>, AllocError>
+    requires tops { AreTops merged.now.paths.items }
+    requires below { AreBelowRoot merged.now.paths.items }
+    requires lawful { (t : Map) → Puts merged.now.paths.items (finmap.get tree.now) (finmap.get merged.now.part) t → IsLawful t }
+    ensures { IfOk result (λ after. Puts merged.now.paths.items (finmap.get tree.now) (finmap.get merged.now.part) (finmap.get after)) }
+{
+    let mut after = tree.copy_into(alloc)?;
+    let part = merged.part.copy_into(alloc)?;
+    after.put_part(part, &merged.paths)?;
+    Ok(after)
 }
 
 /// Copies of patches, under another allocator.

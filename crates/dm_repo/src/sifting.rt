@@ -51,7 +51,7 @@ fn pass_unchanged<A: Allocator + Copy>(
     if next.1.named().depends_on(patch.1.named().info()) {
         return Ok(false);
     }
-    let unchanged = are_apart(alloc, &mut next.1, &mut patch.1)?;
+    let unchanged = are_apart(alloc, &mut next.1, alloc, &mut patch.1)?;
     Ok(unchanged)
 }
 
@@ -84,7 +84,7 @@ pub(crate) fn merge_unchanged<A: Allocator + Copy>(
     ensures patch { patch.new ≡ patch.old }
     ensures square { IfOk result (λ unchanged. IsTrue unchanged → PlacedMerges (undone next.old) patch.old patch.old (undone next.old)) }
 {
-    let unchanged = are_apart(alloc, &mut next.1, &mut patch.1)?;
+    let unchanged = are_apart(alloc, &mut next.1, alloc, &mut patch.1)?;
     Ok(unchanged)
 }
 

@@ -1,13 +1,13 @@
 //! Weighing a bundle against a repository: what taking it would append, or why it isn't taken.
-ghost use Rattle.std.specs.Prelude.{◌≡◌, ◌++◌, length, IfErr, IfOk, MatchResult};
+ghost use Rattle.std.specs.Prelude.{◌≡◌, length, IfErr, IfOk, MatchResult};
+ghost use Rattle.std.specs.FinMap as map;
 ghost use Rattle.dm_bundle.specs.Bundles.{Contents};
 ghost use Rattle.dm_bundle.specs.Patches.{infos_of, Distinct};
-ghost use Rattle.dm_repo.specs.Repositories.{IsTreeOf};
+ghost use Rattle.dm_repo.specs.Trials.{MakesPart};
 ghost use Rattle.dm_repo.specs.Weighing.{IsMergeOf, RefusesBundle};
 ghost use Rattle.dm_repo.specs.Weighed.{IsLookedUp, LeavesRepo, Weighs};
 
-use crate::basis::split_both;
-use crate::fit::fit_new;
+use crate::basis::{fit_on_part, split_both};
 use crate::lookup::look_up;
 use crate::marks::Marks;
 use crate::merge::{append_to_whole, merge};
@@ -16,7 +16,7 @@ use crate::refusal::Refusal;
 use crate::repo::{Repo, copy_patches};
 use dm_bundle::Bundle;
 use dm_named::Named;
-use dm_tree::Tree;
+use dm_tree::{Path, Tree};
 use std::alloc::Allocator;
 
 /// What weighing a bundle returns.
@@ -33,8 +33,10 @@ pub enum Weighed<A: Allocator> {
 pub struct Merged<A: Allocator> {
     /// The patches to append, oldest first.
     pub patches: Vec<Named<A>, A>,
-    /// The repository's tree after them.
-    pub tree: Tree<A>,
+    /// The part of the repository's tree after them that the paths reach.
+    pub part: Tree<A>,
+    /// What the patches change is at or under these paths, none of which is at or under another one.
+    pub paths: Vec<Path<A>, A>,
     /// How many patches are skipped.
     pub skipped: usize,
 }
@@ -51,15 +53,15 @@ fn weigh_new<A: Allocator, B: Allocator + Copy>(
     requires held { length marks.now.held.items ≡ length new.items }
     ensures { (b : Contents) → b.patches ≡ new.items → IsLookedUp repo.now.patches b marks.now.common.items marks.now.held.items →
         MatchResult result
-        (λ m. IsMergeOf repo.now.patches b policy m.patches.items m.skipped × IsTreeOf (repo.now.patches ++ m.patches.items) m.tree)
+        (λ m. IsMergeOf repo.now.patches b policy m.patches.items m.skipped × MakesPart repo.now.patches m.patches.items m.paths.items (map.get m.part))
         (λ why. RefusesBundle repo.now.patches b policy why) }
 {
-    let basis = split_both(alloc, repo, new, marks)?;
-    if basis.rest.is_empty() {
-        return append_to_whole(alloc, repo, basis.tree, basis.new);
+    let sides = split_both(alloc, repo, new, marks)?;
+    if sides.rest.is_empty() {
+        return append_to_whole(alloc, repo, sides.new);
     }
-    let _ = fit_new(basis.tree, &basis.new)?;
-    merge(alloc, repo, basis.rest, basis.new, policy)
+    fit_on_part(alloc, repo, &sides)?;
+    merge(alloc, repo, sides.rest, sides.new, policy)
 }
 
 /// The same, told of the repository that it leaves.

@@ -22,8 +22,8 @@ fn take_bundle<A: Allocator + Copy, B: Allocator + Copy>(
     match weigh_owned(trial, repo, bundle, policy)? {
         Weighed::NothingNew => Ok(Verdict::NothingNew),
         Weighed::Merged(merged) => {
-            let ready = repo.prepare(&merged)?;
-            Ok(Verdict::of_counts(repo.commit(ready), merged.skipped))
+            let count = repo.append(&merged)?;
+            Ok(Verdict::of_counts(count, merged.skipped))
         }
     }
 }
@@ -42,8 +42,8 @@ fn take_owned<A: Allocator + Copy>(
         Weighed::NothingNew => Ok(Verdict::NothingNew),
         Weighed::Merged(merged) => {
             let skipped = merged.skipped;
-            let ready = repo.prepare_owned(merged)?;
-            Ok(Verdict::of_counts(repo.commit(ready), skipped))
+            let count = repo.append_owned(merged)?;
+            Ok(Verdict::of_counts(count, skipped))
         }
     }
 }
@@ -75,7 +75,7 @@ pub fn take_within<A: Allocator + Copy>(
 /// Takes the bundle of a text into a repository, with an arena for all that is tried.
 ///
 /// The arena is reset first. What the text and the trial need is made in it; what is taken is copied once into the
-/// repository's own memory and then appended in one step that can't fail. After any other verdict the repository is as it
+/// repository's own memory and then appended. After any other verdict the repository is as it
 /// was. Out of memory, in the arena or in the repository, and a refused reset are `Refused(NoMemory)`. The policy says
 /// whether a patch that conflicts has the bundle refused, or is skipped.
 pub fn take<A: Allocator + Copy, P: Allocator>(

@@ -49,7 +49,7 @@ pub(crate) fn pass_unchanged<A: Allocator + Copy>(
     if patch.named().depends_on(next.named().info()) {
         return Ok(false);
     }
-    let unchanged = are_apart(alloc, patch, next)?;
+    let unchanged = are_apart(alloc, patch, alloc, next)?;
     Ok(unchanged)
 }
 

@@ -52,8 +52,7 @@ pub(crate) fn repo_of<B: Allocator + Copy>(
     match weigh_owned(alloc, &repo, bundle, Policy::Refuse)? {
         Weighed::NothingNew => {}
         Weighed::Merged(merged) => {
-            let ready = repo.prepare(&merged)?;
-            repo.commit(ready);
+            repo.append(&merged)?;
         }
     }
     Ok(repo)

@@ -13,13 +13,21 @@ returns-in_default g c = rw c.in_default.is at c.in_ok-marks.ensures
 pub returns-in_err-new : goal.returns-in_err-new
 returns-in_err-new g c = let p = err_from_is_err_and c.from_residual-in_err-new.result c.from_residual-in_err-new.ensures.1 in rw (p.1, p.2) (tt, λ policy. tt)
 
-pub returns-in_err-basis : goal.returns-in_err-basis
-returns-in_err-basis g c =
-    let p = err_from_is_err_and c.from_residual-in_err-basis.result c.from_residual-in_err-basis.ensures.1 in
-    rw (p.1, p.2) (c.in_err-basis.ensures c.args.bundle.now (sym (c.in_ok-new.ensures ∙ c.new_patches.ensures.value)) (rw c.in-Some.is at c.in_ok-marks.ensures))
+pub returns-in_err-sides : goal.returns-in_err-sides
+returns-in_err-sides g c =
+    let p = err_from_is_err_and c.from_residual-in_err-sides.result c.from_residual-in_err-sides.ensures.1 in
+    rw (p.1, p.2) (c.in_err-sides.ensures.split c.args.bundle.now (sym (c.in_ok-new.ensures ∙ c.new_patches.ensures.value)) (rw c.in-Some.is at c.in_ok-marks.ensures))
+
+pub returns-in_err-tree : goal.returns-in_err-tree
+returns-in_err-tree g c =
+    let split = c.in_ok-sides.ensures.split c.args.bundle.now (sym (c.in_ok-new.ensures ∙ c.new_patches.ensures.value)) (rw c.in-Some.is at c.in_ok-marks.ensures) in
+    let p = err_from_is_err_and c.from_residual-in_err-tree.result c.from_residual-in_err-tree.ensures.1 in
+    rw (p.1, p.2) (c.in_err-tree.ensures c.args.bundle.now c.in_ok-sides.sides.new.items split)
 
 pub returns : goal.returns
-returns g c = c.in_ok-basis.ensures c.args.bundle.now (sym (c.in_ok-new.ensures ∙ c.new_patches.ensures.value)) (rw c.in-Some.is at c.in_ok-marks.ensures)
+returns g c =
+    let split = c.in_ok-sides.ensures.split c.args.bundle.now (sym (c.in_ok-new.ensures ∙ c.new_patches.ensures.value)) (rw c.in-Some.is at c.in_ok-marks.ensures) in
+    (_, split, c.in_ok-tree.ensures c.args.bundle.now c.in_ok-sides.sides.new.items split)
 
 pub split_both-requires-clause-common : goal.split_both-requires-clause-common
 split_both-requires-clause-common g c =

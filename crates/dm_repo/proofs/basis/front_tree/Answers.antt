@@ -18,13 +18,13 @@ returns-in_err-tree g c = λ b new split. let p = err_from_is_err_and c.from_res
 
 pub returns-then-is_empty : goal.returns-then-is_empty
 returns-then-is_empty g c = λ b new split.
-    let rest = c.args.parted.now.rest in
+    let rest = c.args.sides.now.rest in
     makes_whole c.args.repo.now.patches b c.in_ok-tree.tree split (nothing_left rest.items rest.len rest.ok.0 c.if-is_empty.ensures) c.in_ok-tree.ensures
 
 pub slice_bounds-fit_front-end : goal.slice_bounds-fit_front-end
 slice_bounds-fit_front-end g c =
-    let within : c.args.kept ≤ length c.patches.result.now = rw c.patches.ensures.value c.requires in
-    sym (length-take-le c.args.kept c.patches.result.now within)
+    let within : c.args.sides.now.kept ≤ length c.patches.result.now = rw c.patches.ensures.value c.requires in
+    sym (length-take-le c.args.sides.now.kept c.patches.result.now within)
 
 pub returns-in-Ok : goal.returns-in-Ok
 returns-in-Ok g c = λ b new split.
@@ -35,7 +35,7 @@ returns-in-Ok g c = λ b new split.
 pub returns-in-Err : goal.returns-in-Err
 returns-in-Err g c = λ b new split.
     let repo = c.args.repo.now.patches in
-    let front = placed (take c.args.kept repo) ++ c.args.parted.now.front.items in
+    let front = placed (take c.args.sides.now.kept repo) ++ c.args.sides.now.front.items in
     let r = new_root c.new-tree.result c.new-tree.ensures c.tree_is_lawful.ensures.lawful in
     rw c.full.ensures
     (of_place (λ why. IsBeforeFit repo b why × ((policy : Policy) → RefusesBundle repo b policy why)) (λ k. Full) (FitStops IsStopped r.0 front) c.in-Err.stop (tt, λ policy. tt)

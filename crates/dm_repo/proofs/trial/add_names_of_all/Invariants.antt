@@ -1,0 +1,6 @@
+use Rattle.std.proofs.Common.{take}
+use Rattle.dm_repo.specs.Trials.{AddsPaths}
+use Rattle.dm_repo.proofs.trial.add_names_of_all.Given as goal
+
+abbrev pub invariant-loop-k : goal.invariant-loop-k
+invariant-loop-k g l = AddsPaths (take l.k l.list) l.initial.paths.items l.paths.items
