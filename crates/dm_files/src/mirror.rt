@@ -160,7 +160,7 @@ impl KeptRepo {
             Format::First => "1",
             Format::Second => "2",
             Format::Third => "4",
-            Format::Fields(_) => "fields",
+            Format::Fields(..) => "fields",
         }
     }
 

@@ -12,7 +12,7 @@ use crate::word_fault::WordFault;
 use clap::ArgMatches;
 use dm_commands::write_text;
 use dm_disk::{Access, DiskFile};
-use dm_journal::{Format, KindsField};
+use dm_journal::{ChecksumField, Format, KindsField};
 use dm_store::Store;
 use std::io;
 use std::rt::Runtime;
@@ -40,7 +40,7 @@ fn widen_store<'a>(
 
 /// Whether the file of a mirror is of the format of today, and reads all kinds.
 fn is_current(store: &Store<DiskFile>) -> bool {
-    store.format() == Format::Fields(KindsField::All)
+    store.format() == Format::Fields(KindsField::All, ChecksumField::Lanes)
 }
 
 /// `dm upgrade`.

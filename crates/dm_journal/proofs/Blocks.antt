@@ -46,7 +46,7 @@ module _ (format : Format) where
   -- what stands in front of the rest can stand in front of another
   pub next_front : (link text more bytes : List ℕ) → IsNext format link text more bytes → (front : List ℕ) × (bytes ≡ front ++ more) × ((r : List ℕ) → IsNext format link text r (front ++ r))
   next_front link text more bytes b =
-      let whole = block (checksum_of link text) text in (
+      let whole = block (checksum_of format link text) text in (
         b.latch ∷ (b.stands.fill ++ (whole ++ b.has.fill)),
         b.stands.is
             ∙ ap (λ (l : List ℕ). b.latch ∷ (b.stands.fill ++ l)) b.has.is
@@ -64,7 +64,7 @@ module _ (format : Format) where
   front_of link bytes [] rest same = ([], same, λ r. refl)
   front_of link bytes (text ∷ texts) rest blocks =
       let next = next_front link text blocks.0 bytes blocks.1 in
-      let inner = front_of (next_link format (checksum_of link text)) blocks.0 texts rest blocks.2 in (
+      let inner = front_of (next_link format (checksum_of format link text)) blocks.0 texts rest blocks.2 in (
         next.0 ++ inner.0,
         next.1 ∙ ap (λ (l : List ℕ). next.0 ++ l) inner.1 ∙ sym (append_assoc next.0 inner.0 rest),
         λ r. (
@@ -86,16 +86,16 @@ module _ (format : Format) where
   pub blocks_push : (link bytes : List ℕ) (texts : List (List ℕ)) (text mid rest : List ℕ) → AreBlocks format link bytes texts mid → IsNext format (link_after format link texts) text rest mid → AreBlocks format link bytes (texts ++ text ∷ []) rest
   blocks_push link bytes [] text mid rest same b = (rest, subst (λ (l : List ℕ). IsNext format link text rest l) (sym same) b, refl)
   blocks_push link bytes (t ∷ texts) text mid rest blocks b =
-      (blocks.0, blocks.1, blocks_push (next_link format (checksum_of link t)) blocks.0 texts text mid rest blocks.2 b)
+      (blocks.0, blocks.1, blocks_push (next_link format (checksum_of format link t)) blocks.0 texts text mid rest blocks.2 b)
 
   pub begins_push : (file : List ℕ) (texts : List (List ℕ)) (text mid rest : List ℕ) → Begins format file texts mid → IsNext format (link_after format [] texts) text rest mid → Begins format file (texts ++ text ∷ []) rest
   begins_push file texts text mid rest b next =
       record { fill = b.fill; filled = b.filled; bytes = b.bytes; is = b.is; blocks = blocks_push [] b.bytes texts text mid rest b.blocks next }
 
   -- what the next block follows on then
-  pub link_push : (link : List ℕ) (texts : List (List ℕ)) (text : List ℕ) → next_link format (checksum_of (link_after format link texts) text) ≡ link_after format link (texts ++ text ∷ [])
+  pub link_push : (link : List ℕ) (texts : List (List ℕ)) (text : List ℕ) → next_link format (checksum_of format (link_after format link texts) text) ≡ link_after format link (texts ++ text ∷ [])
   link_push link [] text = refl
-  link_push link (t ∷ texts) text = link_push (next_link format (checksum_of link t)) texts text
+  link_push link (t ∷ texts) text = link_push (next_link format (checksum_of format link t)) texts text
 
   -- at the end of a file, more bytes
   pub end_more : (file : List ℕ) (texts : List (List ℕ)) (more : List ℕ) → Begins format file texts [] → Begins format (file ++ more) texts more

@@ -65,7 +65,7 @@ pub record IsStaged (format : Format) (texts : List (List ℕ)) (text : List ℕ
   pub moves : (r : List ℕ) → Begins format (front ++ r) texts r
   pub fill : List ℕ
   pub filled : 1 + length fill ≡ unit format
-  pub stage : IsStage format (checksum_of (link_after format [] texts) text) text bytes
+  pub stage : IsStage format (checksum_of format (link_after format [] texts) text) text bytes
   pub is : file ≡ front ++ 0 ∷ (fill ++ bytes)
 
 module _ {D : Type 0} (seen : D → List ℕ) (may_leave file_may_leave : D → List ℕ → Type 0) (journal : Journal D) (texts : List (List ℕ)) (has : HasTexts seen may_leave file_may_leave journal texts) (b : ℕ) (at : b ≡ journal.end.latch + unit journal.end.format) where
@@ -120,7 +120,7 @@ module _ {D : Type 0} (seen : D → List ℕ) (may_leave file_may_leave : D → 
       let torn' = subst (λ l. Torn b n l c) f.is torn in
       inl (without f (drop b c) c (torn_behind (f.front ++ 0 ∷ f.fill) has.rest b f.far n c torn'))
 
-  staged_so : (text bytes c : List ℕ) → IsStage journal.end.format (checksum_of (link_bytes journal.end.link) text) text bytes → length (seen journal.device) ≤ b + length bytes → IsWrittenAt (seen journal.device) b bytes c → IsStaged journal.end.format texts text journal.end.latch bytes c
+  staged_so : (text bytes c : List ℕ) → IsStage journal.end.format (checksum_of journal.end.format (link_bytes journal.end.link) text) text bytes → length (seen journal.device) ≤ b + length bytes → IsWrittenAt (seen journal.device) b bytes c → IsStaged journal.end.format texts text journal.end.latch bytes c
   staged_so text bytes c stage covers holds =
       let f = fronts in
       let head : List ℕ = f.front ++ 0 ∷ f.fill in
@@ -132,18 +132,18 @@ module _ {D : Type 0} (seen : D → List ℕ) (may_leave file_may_leave : D → 
         moves = f.moves;
         fill = f.fill;
         filled = f.filled;
-        stage = subst (λ (l : List ℕ). IsStage journal.end.format (checksum_of l text) text bytes) has.end.link stage;
+        stage = subst (λ (l : List ℕ). IsStage journal.end.format (checksum_of journal.end.format l text) text bytes) has.end.link stage;
         is = is ∙ append_assoc f.front (0 ∷ f.fill) bytes;
       }
 
   -- the first write, when it is done
-  pub staged_by : (text checksum bytes : List ℕ) (room : ℕ) (c : List ℕ) → checksum ≡ checksum_of (link_bytes journal.end.link) text → room ≡ journal.end.size - b → bytes ≡ staged journal.end.format checksum text room → length text < 2 ^ 64 → 1 ≤ unit journal.end.format → IsWrittenAt (seen journal.device) b bytes c → IsStaged journal.end.format texts text journal.end.latch bytes c
+  pub staged_by : (text checksum bytes : List ℕ) (room : ℕ) (c : List ℕ) → checksum ≡ checksum_of journal.end.format (link_bytes journal.end.link) text → room ≡ journal.end.size - b → bytes ≡ staged journal.end.format checksum text room → length text < 2 ^ 64 → 1 ≤ unit journal.end.format → IsWrittenAt (seen journal.device) b bytes c → IsStaged journal.end.format texts text journal.end.latch bytes c
   staged_by text checksum bytes room c sum rooms are fits some holds =
       let format = journal.end.format in
       let link = link_bytes journal.end.link in
       let same = are ∙ ap (λ (l : List ℕ). staged format l text room) sum in
-      let stage = is_stage format (checksum_of link text) text room (length-checksum link text) some fits in
-      staged_so text bytes c (subst (IsStage format (checksum_of link text) text) (sym same) stage.0) (omega (arith, ap length same, stage.1, rooms, has.end.size)) holds
+      let stage = is_stage format (checksum_of format link text) text room (length-checksum format link text) some fits in
+      staged_so text bytes c (subst (IsStage format (checksum_of format link text) text) (sym same) stage.0) (omega (arith, ap length same, stage.1, rooms, has.end.size)) holds
 
 module _ (format : Format) (texts : List (List ℕ)) (text : List ℕ) (latch : ℕ) (bytes file : List ℕ) (s : IsStaged format texts text latch bytes file) where
   opened : (g : ℕ) → g ≢ 0 → Begins format (s.front ++ g ∷ (s.fill ++ bytes)) (texts ++ text ∷ []) s.stage.closing
@@ -171,7 +171,7 @@ module _ (format : Format) (texts : List (List ℕ)) (text : List ℕ) (latch : 
           (bytes, (rest, subst (λ (l : List ℕ). Begins format l texts rest) (sym is) (s.moves rest), record { fill = s.fill; filled = s.filled; is = refl }))
 
   -- and when it is done, it has the text
-  pub acknowledged : (new : List ℕ) (link : Option (List ℕ)) (place size : ℕ) → IsWrittenAt file latch (255 ∷ []) new → link_bytes link ≡ next_link format (checksum_of (link_after format [] texts) text) → place ≡ latch + unit format + filled format (40 + length text) → size ≡ latch + unit format + length bytes → EndsSo new (texts ++ text ∷ []) (record { format = format; link = link; latch = place; size = size })
+  pub acknowledged : (new : List ℕ) (link : Option (List ℕ)) (place size : ℕ) → IsWrittenAt file latch (255 ∷ []) new → link_bytes link ≡ next_link format (checksum_of format (link_after format [] texts) text) → place ≡ latch + unit format + filled format (40 + length text) → size ≡ latch + unit format + length bytes → EndsSo new (texts ++ text ∷ []) (record { format = format; link = link; latch = place; size = size })
   acknowledged new link place size holds links moved grown =
       let is = written_latch s.front (s.fill ++ bytes) latch s.size new (subst (λ l. IsWrittenAt l latch (255 ∷ []) new) s.is holds) in
       let all : length new ≡ latch + unit format + length bytes = omega (arith, ap length is, s.size, s.filled, length-append s.front (255 ∷ (s.fill ++ bytes)), length-append s.fill bytes) in

@@ -11,6 +11,7 @@ use Rattle.std.proofs.lemmas.Bool.Decides.{Decides-eqb}
 use Rattle.std.proofs.lemmas.Slice.Eq.{starts_is}
 use Rattle.dm_journal.specs.declared.format.Format.TheVariants.{First, Second, Third, Fields}
 use Rattle.dm_journal.specs.declared.format.KindsField.TheVariants.{Six, All}
+use Rattle.dm_journal.specs.declared.format.ChecksumField.TheVariants.{Sha256, Lanes}
 use Rattle.dm_journal.specs.Faults.{HasOtherChecksum, EndsInHeader, BeginsWith}
 use Rattle.dm_journal.specs.Hidden.{AreTwoBlocks}
 use Rattle.dm_journal.specs.Reading.{IsHeaded, IsWhole, StandsBehind, StandsAt}
@@ -32,12 +33,14 @@ begins_otherwise s p r is not w = absurd (false≢true (sym not ∙ (starts_is D
 abbrev pub HasNot : List ℕ → Format → Type 0
 HasNot file format = ¬ BeginsWith (line format) file
 
-pub of_none : (file : List ℕ) → HasNot file First → HasNot file Second → HasNot file Third → HasNot file (Fields Six) → HasNot file (Fields All) → (format : Format) → HasNot file format
-of_none file first second third six all First = first
-of_none file first second third six all Second = second
-of_none file first second third six all Third = third
-of_none file first second third six all (Fields Six) = six
-of_none file first second third six all (Fields All) = all
+pub of_none : (file : List ℕ) → HasNot file First → HasNot file Second → HasNot file Third → HasNot file (Fields Six Sha256) → HasNot file (Fields All Sha256) → HasNot file (Fields Six Lanes) → HasNot file (Fields All Lanes) → (format : Format) → HasNot file format
+of_none file first second third six all six_lanes all_lanes First = first
+of_none file first second third six all six_lanes all_lanes Second = second
+of_none file first second third six all six_lanes all_lanes Third = third
+of_none file first second third six all six_lanes all_lanes (Fields Six Sha256) = six
+of_none file first second third six all six_lanes all_lanes (Fields All Sha256) = all
+of_none file first second third six all six_lanes all_lanes (Fields Six Lanes) = six_lanes
+of_none file first second third six all six_lanes all_lanes (Fields All Lanes) = all_lanes
 
 pub cut_header : (format : Format) (file : List ℕ) (at : ℕ) → at ≡ filled format (length (line format)) → length file < at → BeginsWith (line format) file → EndsInHeader file at
 cut_header format file at is ends w = record { format = format; more = w.0; is = w.1; place = is; ends = ends }
@@ -116,17 +119,17 @@ module _ (format : Format) (link bytes : List ℕ) (n size : ℕ) (rest : List �
         is = sym whole;
       }
 
-  pub is_whole : (sum : List ℕ) → sum ≡ checksum_of link (take n (drop 32 rest)) → sum ≡ take 32 rest → IsWhole format link bytes n size sum
+  pub is_whole : (sum : List ℕ) → sum ≡ checksum_of format link (take n (drop 32 rest)) → sum ≡ take 32 rest → IsWhole format link bytes n size sum
   is_whole sum of_text told =
-      let right = of_text ∙ ap (λ (l : List ℕ). checksum_of link (take n l)) (sym behind_front) in
+      let right = of_text ∙ ap (λ (l : List ℕ). checksum_of format link (take n l)) (sym behind_front) in
       record { reaches = fits; long = omega (arith, sized); is = right; stands = subst (λ (l : List ℕ). IsBlock format l (take n (drop 40 bytes)) (drop size bytes) bytes) (sym told ∙ right) found }
 
-  pub is_other : (sum : List ℕ) → sum ≡ checksum_of link (take n (drop 32 rest)) → sum ≢ take 32 rest → HasOtherChecksum format link bytes
+  pub is_other : (sum : List ℕ) → sum ≡ checksum_of format link (take n (drop 32 rest)) → sum ≢ take 32 rest → HasOtherChecksum format link bytes
   is_other sum of_text differs = record {
     text = take n (drop 40 bytes);
     checksum = take 32 rest;
     whole = length-take-le 32 rest room;
-    differs = λ same. differs (of_text ∙ ap (λ (l : List ℕ). checksum_of link (take n l)) (sym behind_front) ∙ sym same);
+    differs = λ same. differs (of_text ∙ ap (λ (l : List ℕ). checksum_of format link (take n l)) (sym behind_front) ∙ sym same);
     more = drop size bytes;
     stands = found;
   }
@@ -142,11 +145,11 @@ range_push format link bytes ranges at behind n size checksum is le begins linke
     let text : List ℕ = take n (drop (behind + 40) bytes) in
     let same : take n (drop 40 o.behind) ≡ text = ap (λ (l : List ℕ). take n (drop 40 l)) here ∙ ap (take n) (drop-drop 40 behind bytes) in
     let rests : drop size o.behind ≡ drop (behind + size) bytes = ap (drop size) here ∙ drop-drop size behind bytes in
-    let block = subst (λ (l : List ℕ). IsBlock format (checksum_of link text) text l o.behind) rests (subst (λ (l : List ℕ). IsBlock format (checksum_of link l) l (drop size o.behind) o.behind) same o.has.stands) in
-    let next = λ (l : List ℕ) (b : IsBlock format (checksum_of l text) text (drop (behind + size) bytes) o.behind). let w : IsNext format l text (drop (behind + size) bytes) (drop at bytes) = record { latch = o.latch; is_open = o.is_open; behind = o.behind; stands = o.stands; has = b } in w in
-    let pushed = begins_push format bytes texts text (drop at bytes) (drop (behind + size) bytes) begins (next (link_after format [] texts) (subst (λ (l : List ℕ). IsBlock format (checksum_of l text) text (drop (behind + size) bytes) o.behind) linked block)) in
+    let block = subst (λ (l : List ℕ). IsBlock format (checksum_of format link text) text l o.behind) rests (subst (λ (l : List ℕ). IsBlock format (checksum_of format link l) l (drop size o.behind) o.behind) same o.has.stands) in
+    let next = λ (l : List ℕ) (b : IsBlock format (checksum_of format l text) text (drop (behind + size) bytes) o.behind). let w : IsNext format l text (drop (behind + size) bytes) (drop at bytes) = record { latch = o.latch; is_open = o.is_open; behind = o.behind; stands = o.stands; has = b } in w in
+    let pushed = begins_push format bytes texts text (drop at bytes) (drop (behind + size) bytes) begins (next (link_after format [] texts) (subst (λ (l : List ℕ). IsBlock format (checksum_of format l text) text (drop (behind + size) bytes) o.behind) linked block)) in
     let all : texts ++ text ∷ [] ≡ ranges_of bytes (ranges ++ record { start = behind + 40; len = n } ∷ []) = sym (map-append (range_of bytes) ranges (record { start = behind + 40; len = n } ∷ [])) in
-    let sum = o.has.is ∙ ap (λ (l : List ℕ). checksum_of link l) same ∙ ap (λ (l : List ℕ). checksum_of l text) linked in (
+    let sum = o.has.is ∙ ap (λ (l : List ℕ). checksum_of format link l) same ∙ ap (λ (l : List ℕ). checksum_of format l text) linked in (
       omega (arith, is, le, parts.1, o.has.reaches, length-drop at bytes),
       subst (λ l. Begins format bytes l (drop (behind + size) bytes)) all pushed,
       ap (next_link format) sum ∙ link_push format [] texts text ∙ ap (link_after format []) all,
@@ -156,7 +159,7 @@ range_push format link bytes ranges at behind n size checksum is le begins linke
 pub no_first : (format : Format) (link bytes : List ℕ) (step : Step) → StandsBehind format link bytes step → ((n size : ℕ) (checksum : List ℕ) → step ≡ Whole n size checksum → ⊥) → AreTwoBlocks format link bytes → ⊥
 no_first format link bytes End s other two = s
 no_first format link bytes (Whole n size checksum) s other two = other n size checksum refl
-no_first format link bytes Cut s other two = short_has_none format (checksum_of link two.first) two.first two.more bytes (length-checksum link two.first) s two.stands
+no_first format link bytes Cut s other two = short_has_none format (checksum_of format link two.first) two.first two.more bytes (length-checksum format link two.first) s two.stands
 no_first format link bytes Damaged s other two = other_has_none format link two.first two.more bytes s two.stands
 
 no_next : (format : Format) (link bytes : List ℕ) (step : Step) → StandsAt format link bytes step → ((n size : ℕ) (checksum : List ℕ) → step ≡ Whole n size checksum → ⊥) → HasNone format link bytes
@@ -167,7 +170,7 @@ no_next format link bytes Damaged s other = damaged_has_none format link bytes s
 
 -- a whole block, and what stands behind that
 module _ (format : Format) (link next bytes : List ℕ) (n size : ℕ) (checksum : List ℕ) (s : IsWhole format link bytes n size checksum) (linked : next ≡ next_link format checksum) where
-  follows : next ≡ next_link format (checksum_of link (take n (drop 40 bytes)))
+  follows : next ≡ next_link format (checksum_of format link (take n (drop 40 bytes)))
   follows = linked ∙ ap (next_link format) s.is
 
   pub two_blocks : (m size' : ℕ) (sum : List ℕ) → StandsAt format next (drop size bytes) (Whole m size' sum) → AreTwoBlocks format link bytes
@@ -186,6 +189,6 @@ module _ (format : Format) (link next bytes : List ℕ) (n size : ℕ) (checksum
   pub no_second : (step : Step) → StandsAt format next (drop size bytes) step → ((m size' : ℕ) (sum : List ℕ) → step ≡ Whole m size' sum → ⊥) → AreTwoBlocks format link bytes → ⊥
   no_second step at other two =
       let text : List ℕ = take n (drop 40 bytes) in
-      let same = same_block format (checksum_of link two.first) two.first two.more (checksum_of link text) text (drop size bytes) bytes (length-checksum link two.first) (length-checksum link text) two.stands s.stands in
+      let same = same_block format (checksum_of format link two.first) two.first two.more (checksum_of format link text) text (drop size bytes) bytes (length-checksum format link two.first) (length-checksum format link text) two.stands s.stands in
       let links = ap (next_link format) same.0 ∙ sym follows in
       no_next format next (drop size bytes) step at other two.second two.rest (subst (λ (l : List ℕ). IsNext format next two.second two.rest l) same.2 (subst (λ (l : List ℕ). IsNext format l two.second two.rest two.more) links two.next))

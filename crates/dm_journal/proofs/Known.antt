@@ -7,6 +7,7 @@ use Rattle.std.proofs.lemmas.List.{drop_more, take-append-drop}
 use Rattle.memchr.specs.Find.{IsFirstByte, is_byte}
 use Rattle.dm_journal.specs.declared.format.Format.TheVariants.{First, Second, Third, Fields}
 use Rattle.dm_journal.specs.declared.format.KindsField.TheVariants.{Six, All}
+use Rattle.dm_journal.specs.declared.format.ChecksumField.TheVariants.{Sha256, Lanes}
 use Rattle.dm_journal.specs.Format.{line}
 use Rattle.dm_journal.specs.Laws.{FilesHaveOneUnknownField, KnownHeadersHaveNone}
 use Rattle.dm_journal.specs.Fields.{IsField, BeginsWithLine, AreFields, UnknownField}
@@ -85,7 +86,8 @@ empty_is_no_field : (line : List ℕ) → line ≡ [] → IsField line → ⊥
 empty_is_no_field line none (inl is) = omega (arith, ap length (sym none ∙ is))
 empty_is_no_field line none (inr (inl is)) = omega (arith, ap length (sym none ∙ is))
 empty_is_no_field line none (inr (inr (inl is))) = omega (arith, ap length (sym none ∙ is))
-empty_is_no_field line none (inr (inr (inr is))) = omega (arith, ap length (sym none ∙ is))
+empty_is_no_field line none (inr (inr (inr (inl is)))) = omega (arith, ap length (sym none ∙ is))
+empty_is_no_field line none (inr (inr (inr (inr is)))) = omega (arith, ap length (sym none ∙ is))
 
 -- no field stands where an unknown one does
 at_unknown : (file field : List ℕ) (u : UnknownField file field) → HasNoField u.rest
@@ -123,14 +125,14 @@ empty_line : (behind line more : List ℕ) → BeginsWithLine (10 ∷ behind) li
 empty_line behind line more b = (same_line (10 ∷ behind) line [] more behind b (record { whole = refl; is = refl })).0
 
 -- behind the first line of a header that is known
-of_known : (kinds file more field : List ℕ) → IsField kinds → has_newline kinds ≡ false → file ≡ codes "dm journal fields\n" ++ (kinds ++ 10 ∷ (codes "checksum sha256\nbase counted\n\n" ++ more)) → UnknownField file field → ⊥
-of_known kinds file more field known whole is =
+of_known : (kinds checksum file more field : List ℕ) → IsField kinds → has_newline kinds ≡ false → IsField checksum → has_newline checksum ≡ false → file ≡ codes "dm journal fields\n" ++ (kinds ++ 10 ∷ (checksum ++ 10 ∷ (codes "base counted\n\n" ++ more))) → UnknownField file field → ⊥
+of_known kinds checksum file more field known whole known_too whole_too is =
     let last = codes "base counted\n\n" ++ more in
-    let mid = codes "checksum sha256\nbase counted\n\n" ++ more in
-    let three = field_and last (codes "base counted") (10 ∷ more) [] (10 ∷ more) (inr (inr (inr refl))) (record { whole = refl; is = refl }) refl in
-    let two = field_and mid (codes "checksum sha256") last (codes "base counted" ∷ []) (10 ∷ more) (inr (inr (inl refl))) (record { whole = refl; is = refl }) three in
-    let all = field_and (kinds ++ 10 ∷ mid) kinds mid (codes "checksum sha256" ∷ codes "base counted" ∷ []) (10 ∷ more) known (record { whole = whole; is = refl }) two in
-    none_unknown file (kinds ++ 10 ∷ mid) (kinds ∷ codes "checksum sha256" ∷ codes "base counted" ∷ []) (10 ∷ more) is all (empty_line more) field
+    let mid = checksum ++ 10 ∷ last in
+    let three = field_and last (codes "base counted") (10 ∷ more) [] (10 ∷ more) (inr (inr (inr (inr refl)))) (record { whole = refl; is = refl }) refl in
+    let two = field_and mid checksum last (codes "base counted" ∷ []) (10 ∷ more) known_too (record { whole = whole_too; is = refl }) three in
+    let all = field_and (kinds ++ 10 ∷ mid) kinds mid (checksum ∷ codes "base counted" ∷ []) (10 ∷ more) known (record { whole = whole; is = refl }) two in
+    none_unknown file (kinds ++ 10 ∷ mid) (kinds ∷ checksum ∷ codes "base counted" ∷ []) (10 ∷ more) is all (empty_line more) field
 
 -- a known header has no unknown field
 pub none_in_known : KnownHeadersHaveNone
@@ -138,5 +140,7 @@ unfolding line
 none_in_known First file field w u = let h : 49 ≡ 102 = ap (λ (l : List ℕ). get_or l 11 0) (sym w.1 ∙ u.is) in omega (arith, h)
 none_in_known Second file field w u = let h : 50 ≡ 102 = ap (λ (l : List ℕ). get_or l 11 0) (sym w.1 ∙ u.is) in omega (arith, h)
 none_in_known Third file field w u = let h : 52 ≡ 102 = ap (λ (l : List ℕ). get_or l 11 0) (sym w.1 ∙ u.is) in omega (arith, h)
-none_in_known (Fields Six) file field w u = of_known (codes "kinds six") file w.0 field (inl refl) refl w.1 u
-none_in_known (Fields All) file field w u = of_known (codes "kinds all") file w.0 field (inr (inl refl)) refl w.1 u
+none_in_known (Fields Six Sha256) file field w u = of_known (codes "kinds six") (codes "checksum sha256") file w.0 field (inl refl) refl (inr (inr (inl refl))) refl w.1 u
+none_in_known (Fields Six Lanes) file field w u = of_known (codes "kinds six") (codes "checksum lanes") file w.0 field (inl refl) refl (inr (inr (inr (inl refl)))) refl w.1 u
+none_in_known (Fields All Sha256) file field w u = of_known (codes "kinds all") (codes "checksum sha256") file w.0 field (inr (inl refl)) refl (inr (inr (inl refl))) refl w.1 u
+none_in_known (Fields All Lanes) file field w u = of_known (codes "kinds all") (codes "checksum lanes") file w.0 field (inr (inl refl)) refl (inr (inr (inr (inl refl)))) refl w.1 u

@@ -7,6 +7,9 @@ mod Made
 mod Moments
 mod Once
 mod OneAnswer
-mod Untouched
+mod Stripes
+mod Takings
+mod Told
 mod Turned
 mod Units
+mod Untouched

@@ -25,7 +25,7 @@ pub closed_made : (format : Format) (file new : List ℕ) (texts : List (List �
 closed_made format file new texts more b is = subst (λ (l : List ℕ). Begins format l texts more) (sym is) (end_more format file texts more b)
 
 -- the text at an index joins those before it
-pub next_text : {X : Type 0} (format : Format) (f : X → List ℕ) (xs : List X) (i : ℕ) (d : X) (old new link next : List ℕ) → i < length xs → Begins format old (map f (take i xs)) [] → link ≡ link_after format [] (map f (take i xs)) → IsPushed format link (f (get_or xs i d)) old new → next ≡ next_link format (checksum_of link (f (get_or xs i d))) →
+pub next_text : {X : Type 0} (format : Format) (f : X → List ℕ) (xs : List X) (i : ℕ) (d : X) (old new link next : List ℕ) → i < length xs → Begins format old (map f (take i xs)) [] → link ≡ link_after format [] (map f (take i xs)) → IsPushed format link (f (get_or xs i d)) old new → next ≡ next_link format (checksum_of format link (f (get_or xs i d))) →
     Begins format new (map f (take (i + 1) xs)) [] × (next ≡ link_after format [] (map f (take (i + 1) xs)))
 next_text format f xs i d old new link next lt begins linked p is =
     let before = map f (take i xs) in
@@ -34,7 +34,7 @@ next_text format f xs i d old new link next lt begins linked p is =
     let longer = closed_made format old new before p.more begins p.is in
     let one = subst (λ (l : List ℕ). IsNext format l text [] p.more) linked p.next in (
       subst (λ l. Begins format new l []) all (begins_push format new before text p.more [] longer one),
-      is ∙ ap (λ (l : List ℕ). next_link format (checksum_of l text)) linked ∙ link_push format [] before text ∙ ap (link_after format []) all,
+      is ∙ ap (λ (l : List ℕ). next_link format (checksum_of format l text)) linked ∙ link_push format [] before text ∙ ap (link_after format []) all,
     )
 
 -- a block, and zeros behind it, among them a closed latch

@@ -6,8 +6,10 @@ use Rattle.sha2.proofs.Facts256.{length-sha256}
 use Rattle.dm_journal.specs.declared.format.Format.{Format}
 use Rattle.dm_journal.specs.declared.format.Format.TheVariants.{First, Second, Third, Fields}
 use Rattle.dm_journal.specs.declared.format.KindsField.TheVariants.{Six, All}
+use Rattle.dm_journal.specs.declared.format.ChecksumField.TheVariants.{Sha256, Lanes}
 use Rattle.dm_journal.specs.Format.{family, line, filling}
 use Rattle.dm_journal.specs.Journal.{block, checksum_of, next_link, link_after, IsLatch, IsBlock, IsNext, AreBlocks, Begins}
+use Rattle.dm_journal.specs.Lanes.{lanes}
 use Rattle.dm_journal.specs.Faults.{IsShort, EndsEarly, HasOtherChecksum, IsDamaged, BeginsWith}
 use Rattle.dm_journal.proofs.Blocks.{flat, length-block, same_parts, same_number}
 
@@ -24,8 +26,13 @@ same_blocks s t m u v n ls lu lt lv same =
     let texts = same_parts t m v n (same_number (length t) (length v) lt lv numbers.0) sums.1 in
     (sums.0, texts.0, texts.1)
 
-pub length-checksum : (link text : List ℕ) → length (checksum_of link text) ≡ 32
-length-checksum link text = length-sha256 (link ++ text)
+pub length-checksum : (format : Format) (link text : List ℕ) → length (checksum_of format link text) ≡ 32
+unfolding checksum_of lanes
+length-checksum First link text = length-sha256 (link ++ text)
+length-checksum Second link text = length-sha256 (link ++ text)
+length-checksum Third link text = length-sha256 (link ++ text)
+length-checksum (Fields kinds Sha256) link text = length-sha256 (link ++ text)
+length-checksum (Fields kinds Lanes) link text = refl
 
 -- what the header of a format begins with
 pub in_family : (format : Format) (more : List ℕ) → BeginsWith family (line format ++ more)
@@ -33,20 +40,24 @@ unfolding line
 in_family First more = (drop 11 (line First) ++ more, refl)
 in_family Second more = (drop 11 (line Second) ++ more, refl)
 in_family Third more = (drop 11 (line Third) ++ more, refl)
-in_family (Fields Six) more = (drop 11 (line (Fields Six)) ++ more, refl)
-in_family (Fields All) more = (drop 11 (line (Fields All)) ++ more, refl)
+in_family (Fields Six Sha256) more = (drop 11 (line (Fields Six Sha256)) ++ more, refl)
+in_family (Fields All Sha256) more = (drop 11 (line (Fields All Sha256)) ++ more, refl)
+in_family (Fields Six Lanes) more = (drop 11 (line (Fields Six Lanes)) ++ more, refl)
+in_family (Fields All Lanes) more = (drop 11 (line (Fields All Lanes)) ++ more, refl)
 
--- the format of a file, by two bytes of its header
+-- the format of a file, by three bytes of its header
 told : List ℕ → Format
-told file = cond (nat_eq (get_or file 11 0) 49) First (cond (nat_eq (get_or file 11 0) 50) Second (cond (nat_eq (get_or file 11 0) 52) Third (cond (nat_eq (get_or file 24 0) 115) (Fields Six) (Fields All))))
+told file = cond (nat_eq (get_or file 11 0) 49) First (cond (nat_eq (get_or file 11 0) 50) Second (cond (nat_eq (get_or file 11 0) 52) Third (cond (nat_eq (get_or file 37 0) 115) (cond (nat_eq (get_or file 24 0) 115) (Fields Six Sha256) (Fields All Sha256)) (cond (nat_eq (get_or file 24 0) 115) (Fields Six Lanes) (Fields All Lanes)))))
 
 told_line : (format : Format) (more : List ℕ) → told (line format ++ more) ≡ format
 unfolding line told
 told_line First more = refl
 told_line Second more = refl
 told_line Third more = refl
-told_line (Fields Six) more = refl
-told_line (Fields All) more = refl
+told_line (Fields Six Sha256) more = refl
+told_line (Fields All Sha256) more = refl
+told_line (Fields Six Lanes) more = refl
+told_line (Fields All Lanes) more = refl
 
 pub one_line : (f g : Format) (m n : List ℕ) → line f ++ m ≡ line g ++ n → f ≡ g
 one_line f g m n same = sym (told_line f m) ∙ ap told same ∙ told_line g n
@@ -67,7 +78,7 @@ module _ (format : Format) where
   pub same_next : (link t m u n bytes : List ℕ) → IsNext format link t m bytes → IsNext format link u n bytes → (t ≡ u) × (m ≡ n)
   same_next link t m u n bytes p q =
       let behind = (same_latch p.latch q.latch p.behind q.behind bytes p.stands q.stands).1 in
-      let parts = same_block (checksum_of link t) t m (checksum_of link u) u n q.behind (length-checksum link t) (length-checksum link u) (subst (λ (l : List ℕ). IsBlock format (checksum_of link t) t m l) behind p.has) q.has in
+      let parts = same_block (checksum_of format link t) t m (checksum_of format link u) u n q.behind (length-checksum format link t) (length-checksum format link u) (subst (λ (l : List ℕ). IsBlock format (checksum_of format link t) t m l) behind p.has) q.has in
       (parts.1, parts.2)
 
   -- no block that follows on the link stands here
@@ -80,7 +91,7 @@ module _ (format : Format) where
   ends_alike link bytes (t ∷ a) [] r s none none' p q = absurd (none' t p.0 (subst (λ (l : List ℕ). IsNext format link t p.0 l) q p.1))
   ends_alike link bytes (t ∷ a) (u ∷ b) r s none none' p q =
       let same = same_next link t p.0 u q.0 bytes p.1 q.1 in
-      let next = λ (x : List ℕ). next_link format (checksum_of link x) in
+      let next = λ (x : List ℕ). next_link format (checksum_of format link x) in
       let none'' = subst (λ (x : List ℕ). HasNone (link_after format (next x) a) r) same.0 none in
       let blocks = subst (λ (x : List ℕ). AreBlocks format (next x) q.0 a r) same.0 (subst (λ (l : List ℕ). AreBlocks format (next t) l a r) same.1 p.2) in
       let rest = ends_alike (next u) q.0 a b r s none'' none' blocks q.2 in
@@ -101,10 +112,10 @@ module _ (format : Format) where
       let fill = b.filled ∙ ap (λ (n : ℕ). filling format (40 + n)) (sym same) in
       omega (arith, same, fill, short.3, ap length b.is, length-block s t (b.fill ++ m) ls, length-append b.fill m)
 
-  pub other_has_none : (link t m bytes : List ℕ) → HasOtherChecksum format link bytes → IsBlock format (checksum_of link t) t m bytes → ⊥
+  pub other_has_none : (link t m bytes : List ℕ) → HasOtherChecksum format link bytes → IsBlock format (checksum_of format link t) t m bytes → ⊥
   other_has_none link t m bytes o b =
-      let same = same_block o.checksum o.text o.more (checksum_of link t) t m bytes o.whole (length-checksum link t) o.stands b in
-      o.differs (same.0 ∙ ap (checksum_of link) (sym same.1))
+      let same = same_block o.checksum o.text o.more (checksum_of format link t) t m bytes o.whole (length-checksum format link t) o.stands b in
+      o.differs (same.0 ∙ ap (checksum_of format link) (sym same.1))
 
   pub closed_has_none : (link behind bytes : List ℕ) → IsLatch format 0 behind bytes → HasNone link bytes
   closed_has_none link behind bytes g text more n = n.is_open (sym (same_latch 0 n.latch behind n.behind bytes g n.stands).0)
@@ -114,12 +125,12 @@ module _ (format : Format) where
       omega (arith, short, n.stands.filled, ap length n.stands.is, length-append n.stands.fill n.behind)
   early_has_none link bytes (inr early) text more n =
       let behind = (same_latch n.latch early.latch n.behind early.behind bytes n.stands early.stands).1 in
-      short_has_none (checksum_of link text) text more early.behind (length-checksum link text) early.has (subst (λ (l : List ℕ). IsBlock format (checksum_of link text) text more l) behind n.has)
+      short_has_none (checksum_of format link text) text more early.behind (length-checksum format link text) early.has (subst (λ (l : List ℕ). IsBlock format (checksum_of format link text) text more l) behind n.has)
 
   pub damaged_has_none : (link bytes : List ℕ) → IsDamaged format link bytes → HasNone link bytes
   damaged_has_none link bytes d text more n =
       let behind = (same_latch n.latch d.latch n.behind d.behind bytes n.stands d.stands).1 in
-      other_has_none link text more d.behind d.has (subst (λ (l : List ℕ). IsBlock format (checksum_of link text) text more l) behind n.has)
+      other_has_none link text more d.behind d.has (subst (λ (l : List ℕ). IsBlock format (checksum_of format link text) text more l) behind n.has)
 
   -- no two answers at one place
   pub closed_is_not_early : (link behind bytes : List ℕ) → IsLatch format 0 behind bytes → EndsEarly format link bytes → ⊥

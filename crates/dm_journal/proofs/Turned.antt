@@ -7,7 +7,9 @@ use Rattle.std.specs.List.{starts_with}
 use Rattle.dm_journal.specs.declared.format.Format.{Format}
 use Rattle.dm_journal.specs.declared.format.Format.TheVariants.{First, Second, Third, Fields}
 use Rattle.dm_journal.specs.declared.format.KindsField.{KindsField}
+use Rattle.dm_journal.specs.declared.format.ChecksumField.{ChecksumField}
 use Rattle.dm_journal.specs.declared.format.KindsField.TheVariants.{Six, All}
+use Rattle.dm_journal.specs.declared.format.ChecksumField.TheVariants.{Sha256, Lanes}
 use Rattle.dm_journal.specs.Format.{family, line}
 use Rattle.dm_journal.specs.Faults.{BeginsWith}
 use Rattle.dm_journal.specs.Laws.{HasTurned, TurnedFieldsAreTold, NoneTurnsIntoFields}
@@ -62,31 +64,55 @@ module _ (format : Format) (file : List ℕ) (t : HasTurned format file) where
 apart : (f g : Format) (file : List ℕ) (t : HasTurned f file) (w : BeginsWith (line g) file) (p q : ℕ) → p < q → (get_or (line g ++ w.0) p 0 ≡ get_or (line f ++ t.more) p 0 → ⊥) → (get_or (line g ++ w.0) q 0 ≡ get_or (line f ++ t.more) q 0 → ⊥) → ⊥
 apart f g file t w p q lt at_p at_q = two_places f file t p q lt (λ e. at_p (byte_of f file t g w p e)) (λ e. at_q (byte_of f file t g w q e))
 
-no_known : (kinds : KindsField) (file : List ℕ) → HasTurned (Fields kinds) file → (g : Format) → BeginsWith (line g) file → ⊥
+no_known : (kinds : KindsField) (checksum : ChecksumField) (file : List ℕ) → HasTurned (Fields kinds checksum) file → (g : Format) → BeginsWith (line g) file → ⊥
 unfolding line
-no_known Six file t First w = apart (Fields Six) First file t w 11 12 (omega arith) (λ (e : 49 ≡ 102). omega (arith, e)) (λ (e : 10 ≡ 105). omega (arith, e))
-no_known Six file t Second w = apart (Fields Six) Second file t w 11 12 (omega arith) (λ (e : 50 ≡ 102). omega (arith, e)) (λ (e : 10 ≡ 105). omega (arith, e))
-no_known Six file t Third w = apart (Fields Six) Third file t w 11 12 (omega arith) (λ (e : 52 ≡ 102). omega (arith, e)) (λ (e : 10 ≡ 105). omega (arith, e))
-no_known Six file t (Fields Six) w = not_itself (Fields Six) file t w
-no_known Six file t (Fields All) w = apart (Fields Six) (Fields All) file t w 24 25 (omega arith) (λ (e : 97 ≡ 115). omega (arith, e)) (λ (e : 108 ≡ 105). omega (arith, e))
-no_known All file t First w = apart (Fields All) First file t w 11 12 (omega arith) (λ (e : 49 ≡ 102). omega (arith, e)) (λ (e : 10 ≡ 105). omega (arith, e))
-no_known All file t Second w = apart (Fields All) Second file t w 11 12 (omega arith) (λ (e : 50 ≡ 102). omega (arith, e)) (λ (e : 10 ≡ 105). omega (arith, e))
-no_known All file t Third w = apart (Fields All) Third file t w 11 12 (omega arith) (λ (e : 52 ≡ 102). omega (arith, e)) (λ (e : 10 ≡ 105). omega (arith, e))
-no_known All file t (Fields Six) w = apart (Fields All) (Fields Six) file t w 24 25 (omega arith) (λ (e : 115 ≡ 97). omega (arith, e)) (λ (e : 105 ≡ 108). omega (arith, e))
-no_known All file t (Fields All) w = not_itself (Fields All) file t w
+no_known Six Sha256 file t First w = apart (Fields Six Sha256) First file t w 11 12 (omega arith) (λ (e : 49 ≡ 102). omega (arith, e)) (λ (e : 10 ≡ 105). omega (arith, e))
+no_known Six Sha256 file t Second w = apart (Fields Six Sha256) Second file t w 11 12 (omega arith) (λ (e : 50 ≡ 102). omega (arith, e)) (λ (e : 10 ≡ 105). omega (arith, e))
+no_known Six Sha256 file t Third w = apart (Fields Six Sha256) Third file t w 11 12 (omega arith) (λ (e : 52 ≡ 102). omega (arith, e)) (λ (e : 10 ≡ 105). omega (arith, e))
+no_known Six Sha256 file t (Fields Six Sha256) w = not_itself (Fields Six Sha256) file t w
+no_known Six Sha256 file t (Fields Six Lanes) w = apart (Fields Six Sha256) (Fields Six Lanes) file t w 37 38 (omega arith) (λ (e : 108 ≡ 115). omega (arith, e)) (λ (e : 97 ≡ 104). omega (arith, e))
+no_known Six Sha256 file t (Fields All Sha256) w = apart (Fields Six Sha256) (Fields All Sha256) file t w 24 25 (omega arith) (λ (e : 97 ≡ 115). omega (arith, e)) (λ (e : 108 ≡ 105). omega (arith, e))
+no_known Six Sha256 file t (Fields All Lanes) w = apart (Fields Six Sha256) (Fields All Lanes) file t w 24 25 (omega arith) (λ (e : 97 ≡ 115). omega (arith, e)) (λ (e : 108 ≡ 105). omega (arith, e))
+no_known Six Lanes file t First w = apart (Fields Six Lanes) First file t w 11 12 (omega arith) (λ (e : 49 ≡ 102). omega (arith, e)) (λ (e : 10 ≡ 105). omega (arith, e))
+no_known Six Lanes file t Second w = apart (Fields Six Lanes) Second file t w 11 12 (omega arith) (λ (e : 50 ≡ 102). omega (arith, e)) (λ (e : 10 ≡ 105). omega (arith, e))
+no_known Six Lanes file t Third w = apart (Fields Six Lanes) Third file t w 11 12 (omega arith) (λ (e : 52 ≡ 102). omega (arith, e)) (λ (e : 10 ≡ 105). omega (arith, e))
+no_known Six Lanes file t (Fields Six Sha256) w = apart (Fields Six Lanes) (Fields Six Sha256) file t w 37 38 (omega arith) (λ (e : 115 ≡ 108). omega (arith, e)) (λ (e : 104 ≡ 97). omega (arith, e))
+no_known Six Lanes file t (Fields Six Lanes) w = not_itself (Fields Six Lanes) file t w
+no_known Six Lanes file t (Fields All Sha256) w = apart (Fields Six Lanes) (Fields All Sha256) file t w 24 25 (omega arith) (λ (e : 97 ≡ 115). omega (arith, e)) (λ (e : 108 ≡ 105). omega (arith, e))
+no_known Six Lanes file t (Fields All Lanes) w = apart (Fields Six Lanes) (Fields All Lanes) file t w 24 25 (omega arith) (λ (e : 97 ≡ 115). omega (arith, e)) (λ (e : 108 ≡ 105). omega (arith, e))
+no_known All Sha256 file t First w = apart (Fields All Sha256) First file t w 11 12 (omega arith) (λ (e : 49 ≡ 102). omega (arith, e)) (λ (e : 10 ≡ 105). omega (arith, e))
+no_known All Sha256 file t Second w = apart (Fields All Sha256) Second file t w 11 12 (omega arith) (λ (e : 50 ≡ 102). omega (arith, e)) (λ (e : 10 ≡ 105). omega (arith, e))
+no_known All Sha256 file t Third w = apart (Fields All Sha256) Third file t w 11 12 (omega arith) (λ (e : 52 ≡ 102). omega (arith, e)) (λ (e : 10 ≡ 105). omega (arith, e))
+no_known All Sha256 file t (Fields Six Sha256) w = apart (Fields All Sha256) (Fields Six Sha256) file t w 24 25 (omega arith) (λ (e : 115 ≡ 97). omega (arith, e)) (λ (e : 105 ≡ 108). omega (arith, e))
+no_known All Sha256 file t (Fields Six Lanes) w = apart (Fields All Sha256) (Fields Six Lanes) file t w 24 25 (omega arith) (λ (e : 115 ≡ 97). omega (arith, e)) (λ (e : 105 ≡ 108). omega (arith, e))
+no_known All Sha256 file t (Fields All Sha256) w = not_itself (Fields All Sha256) file t w
+no_known All Sha256 file t (Fields All Lanes) w = apart (Fields All Sha256) (Fields All Lanes) file t w 37 38 (omega arith) (λ (e : 108 ≡ 115). omega (arith, e)) (λ (e : 97 ≡ 104). omega (arith, e))
+no_known All Lanes file t First w = apart (Fields All Lanes) First file t w 11 12 (omega arith) (λ (e : 49 ≡ 102). omega (arith, e)) (λ (e : 10 ≡ 105). omega (arith, e))
+no_known All Lanes file t Second w = apart (Fields All Lanes) Second file t w 11 12 (omega arith) (λ (e : 50 ≡ 102). omega (arith, e)) (λ (e : 10 ≡ 105). omega (arith, e))
+no_known All Lanes file t Third w = apart (Fields All Lanes) Third file t w 11 12 (omega arith) (λ (e : 52 ≡ 102). omega (arith, e)) (λ (e : 10 ≡ 105). omega (arith, e))
+no_known All Lanes file t (Fields Six Sha256) w = apart (Fields All Lanes) (Fields Six Sha256) file t w 24 25 (omega arith) (λ (e : 115 ≡ 97). omega (arith, e)) (λ (e : 105 ≡ 108). omega (arith, e))
+no_known All Lanes file t (Fields Six Lanes) w = apart (Fields All Lanes) (Fields Six Lanes) file t w 24 25 (omega arith) (λ (e : 115 ≡ 97). omega (arith, e)) (λ (e : 105 ≡ 108). omega (arith, e))
+no_known All Lanes file t (Fields All Sha256) w = apart (Fields All Lanes) (Fields All Sha256) file t w 37 38 (omega arith) (λ (e : 115 ≡ 108). omega (arith, e)) (λ (e : 104 ≡ 97). omega (arith, e))
+no_known All Lanes file t (Fields All Lanes) w = not_itself (Fields All Lanes) file t w
 
 pub turned_told : TurnedFieldsAreTold
-turned_told kinds file t = elim (cases_Bool (starts_with nat_eq file family)) [
-  | inl so ↦ inr (begins_so file family (starts_with nat_eq file family) refl so, no_known kinds file t)
+turned_told kinds checksum file t = elim (cases_Bool (starts_with nat_eq file family)) [
+  | inl so ↦ inr (begins_so file family (starts_with nat_eq file family) refl so, no_known kinds checksum file t)
   | inr not ↦ inl (begins_otherwise file family (starts_with nat_eq file family) refl not)
 ]
 
 pub none_turns : NoneTurnsIntoFields
 unfolding line
-none_turns First Six file t w = apart First (Fields Six) file t w 11 12 (omega arith) (λ (e : 102 ≡ 49). omega (arith, e)) (λ (e : 105 ≡ 10). omega (arith, e))
-none_turns First All file t w = apart First (Fields All) file t w 11 12 (omega arith) (λ (e : 102 ≡ 49). omega (arith, e)) (λ (e : 105 ≡ 10). omega (arith, e))
-none_turns Second Six file t w = apart Second (Fields Six) file t w 11 12 (omega arith) (λ (e : 102 ≡ 50). omega (arith, e)) (λ (e : 105 ≡ 10). omega (arith, e))
-none_turns Second All file t w = apart Second (Fields All) file t w 11 12 (omega arith) (λ (e : 102 ≡ 50). omega (arith, e)) (λ (e : 105 ≡ 10). omega (arith, e))
-none_turns Third Six file t w = apart Third (Fields Six) file t w 11 12 (omega arith) (λ (e : 102 ≡ 52). omega (arith, e)) (λ (e : 105 ≡ 10). omega (arith, e))
-none_turns Third All file t w = apart Third (Fields All) file t w 11 12 (omega arith) (λ (e : 102 ≡ 52). omega (arith, e)) (λ (e : 105 ≡ 10). omega (arith, e))
-none_turns (Fields kinds) other file t w = no_known kinds file t (Fields other) w
+none_turns First Six Sha256 file t w = apart First (Fields Six Sha256) file t w 11 12 (omega arith) (λ (e : 102 ≡ 49). omega (arith, e)) (λ (e : 105 ≡ 10). omega (arith, e))
+none_turns First Six Lanes file t w = apart First (Fields Six Lanes) file t w 11 12 (omega arith) (λ (e : 102 ≡ 49). omega (arith, e)) (λ (e : 105 ≡ 10). omega (arith, e))
+none_turns First All Sha256 file t w = apart First (Fields All Sha256) file t w 11 12 (omega arith) (λ (e : 102 ≡ 49). omega (arith, e)) (λ (e : 105 ≡ 10). omega (arith, e))
+none_turns First All Lanes file t w = apart First (Fields All Lanes) file t w 11 12 (omega arith) (λ (e : 102 ≡ 49). omega (arith, e)) (λ (e : 105 ≡ 10). omega (arith, e))
+none_turns Second Six Sha256 file t w = apart Second (Fields Six Sha256) file t w 11 12 (omega arith) (λ (e : 102 ≡ 50). omega (arith, e)) (λ (e : 105 ≡ 10). omega (arith, e))
+none_turns Second Six Lanes file t w = apart Second (Fields Six Lanes) file t w 11 12 (omega arith) (λ (e : 102 ≡ 50). omega (arith, e)) (λ (e : 105 ≡ 10). omega (arith, e))
+none_turns Second All Sha256 file t w = apart Second (Fields All Sha256) file t w 11 12 (omega arith) (λ (e : 102 ≡ 50). omega (arith, e)) (λ (e : 105 ≡ 10). omega (arith, e))
+none_turns Second All Lanes file t w = apart Second (Fields All Lanes) file t w 11 12 (omega arith) (λ (e : 102 ≡ 50). omega (arith, e)) (λ (e : 105 ≡ 10). omega (arith, e))
+none_turns Third Six Sha256 file t w = apart Third (Fields Six Sha256) file t w 11 12 (omega arith) (λ (e : 102 ≡ 52). omega (arith, e)) (λ (e : 105 ≡ 10). omega (arith, e))
+none_turns Third Six Lanes file t w = apart Third (Fields Six Lanes) file t w 11 12 (omega arith) (λ (e : 102 ≡ 52). omega (arith, e)) (λ (e : 105 ≡ 10). omega (arith, e))
+none_turns Third All Sha256 file t w = apart Third (Fields All Sha256) file t w 11 12 (omega arith) (λ (e : 102 ≡ 52). omega (arith, e)) (λ (e : 105 ≡ 10). omega (arith, e))
+none_turns Third All Lanes file t w = apart Third (Fields All Lanes) file t w 11 12 (omega arith) (λ (e : 102 ≡ 52). omega (arith, e)) (λ (e : 105 ≡ 10). omega (arith, e))
+none_turns (Fields kinds checksum) others other file t w = no_known kinds checksum file t (Fields others other) w

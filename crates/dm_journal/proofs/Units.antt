@@ -14,7 +14,7 @@ unfolding unit filling
 units_filled First n = (omega arith, (n, omega arith))
 units_filled Second n = (omega arith, (n / 4096 + 1 - (4096 - n % 4096) / 4096, omega arith))
 units_filled Third n = (omega arith, (n / 4096 + 1 - (4096 - n % 4096) / 4096, omega arith))
-units_filled (Fields kinds) n = (omega arith, (n / 4096 + 1 - (4096 - n % 4096) / 4096, omega arith))
+units_filled (Fields kinds checksum) n = (omega arith, (n / 4096 + 1 - (4096 - n % 4096) / 4096, omega arith))
 
 -- one unit and more
 sum_of_units : (u a b rest : ℕ) → u + (a * u + (b * u + rest)) ≡ (1 + (a + b)) * u + rest
@@ -34,7 +34,7 @@ module _ (format : Format) where
           ap length b.stands.is,
           length-append b.stands.fill b.behind,
           ap length b.has.is,
-          length-block (checksum_of link text) text (b.has.fill ++ more) (length-checksum link text),
+          length-block (checksum_of format link text) text (b.has.fill ++ more) (length-checksum format link text),
           length-append b.has.fill more,
         ),
       )
@@ -43,7 +43,7 @@ module _ (format : Format) where
   blocks_units link bytes [] rest same = (0, omega (arith, ap length same))
   blocks_units link bytes (text ∷ texts) rest blocks =
       let one = next_units link text blocks.0 bytes blocks.1 in
-      let more = blocks_units (next_link format (checksum_of link text)) blocks.0 texts rest blocks.2 in
+      let more = blocks_units (next_link format (checksum_of format link text)) blocks.0 texts rest blocks.2 in
       (1 + (one.0 + more.0), one.1 ∙ ap (λ (n : ℕ). unit format + (one.0 * unit format + n)) more.1 ∙ sum_of_units (unit format) one.0 more.0 (length rest))
 
 pub latchs_begin : LatchsBeginUnits

@@ -20,7 +20,7 @@ pub record HasOtherChecksum (format : Format) (link bytes : List ℕ) : Type 0 w
   pub text : List ℕ
   pub checksum : List ℕ
   pub whole : length checksum ≡ 32
-  pub differs : checksum ≢ checksum_of link text
+  pub differs : checksum ≢ checksum_of format link text
   pub more : List ℕ
   pub stands : IsBlock format checksum text more bytes
 

@@ -4,7 +4,7 @@ use Rattle.std.specs.List.{list_any}
 
 -- a field that a known header has, with its value
 abbrev pub IsField : List ℕ → Type 0
-IsField line = (line ≡ codes "kinds six") ⊎ (line ≡ codes "kinds all") ⊎ (line ≡ codes "checksum sha256") ⊎ (line ≡ codes "base counted")
+IsField line = (line ≡ codes "kinds six") ⊎ (line ≡ codes "kinds all") ⊎ (line ≡ codes "checksum sha256") ⊎ (line ≡ codes "checksum lanes") ⊎ (line ≡ codes "base counted")
 
 -- the bytes are a line, which no newline is in, a newline, and the rest
 pub record BeginsWithLine (bytes line rest : List ℕ) : Type 0 where

@@ -7,10 +7,10 @@ use Rattle.dm_journal.specs.Journal.{IsBlock, IsLatch, IsNext, Begins, checksum_
 pub record AreTwoBlocks (format : Format) (link bytes : List ℕ) : Type 0 where
   pub first : List ℕ
   pub more : List ℕ
-  pub stands : IsBlock format (checksum_of link first) first more bytes
+  pub stands : IsBlock format (checksum_of format link first) first more bytes
   pub second : List ℕ
   pub rest : List ℕ
-  pub next : IsNext format (next_link format (checksum_of link first)) second rest more
+  pub next : IsNext format (next_link format (checksum_of format link first)) second rest more
 
 -- the closed latch at this place hides two blocks that follow on those in front of it
 pub record Hides (file : List ℕ) (at : ℕ) : Type 0 where

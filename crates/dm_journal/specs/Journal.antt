@@ -5,27 +5,33 @@ use Rattle.std.specs.Int.{w64, to_le_bytes}
 use Rattle.sha2.specs.Sha256.{sha256}
 use Rattle.dm_journal.specs.declared.format.Format.{Format}
 use Rattle.dm_journal.specs.declared.format.Format.TheVariants.{First, Second, Third, Fields}
+use Rattle.dm_journal.specs.declared.format.ChecksumField.TheVariants.{Sha256, Lanes}
 use Rattle.dm_journal.specs.Format.{line, unit, filling}
+use Rattle.dm_journal.specs.Lanes.{lanes}
 
 -- a text's length in 8 bytes, this checksum, and the text
 abbrev pub block : List ℕ → List ℕ → List ℕ
 block checksum text = to_le_bytes w64 (length text) ++ (checksum ++ text)
 
 -- the checksum of a text that follows on a link
-abbrev pub checksum_of : List ℕ → List ℕ → List ℕ
-checksum_of link text = sha256 (link ++ text)
+unfoldable pub checksum_of : Format → List ℕ → List ℕ → List ℕ
+checksum_of First link text = sha256 (link ++ text)
+checksum_of Second link text = sha256 (link ++ text)
+checksum_of Third link text = sha256 (link ++ text)
+checksum_of (Fields kinds Sha256) link text = sha256 (link ++ text)
+checksum_of (Fields kinds Lanes) link text = lanes link text
 
 -- what a block follows on that stands behind one with this checksum: in the first format on nothing, in the others on that checksum
 unfoldable pub next_link : Format → List ℕ → List ℕ
 next_link First checksum = []
 next_link Second checksum = checksum
 next_link Third checksum = checksum
-next_link (Fields kinds) checksum = checksum
+next_link (Fields kinds field) checksum = checksum
 
 -- what a block follows on that stands behind blocks of these texts
 abbrev pub link_after : Format → List ℕ → List (List ℕ) → List ℕ
 link_after format link [] = link
-link_after format link (text ∷ texts) = link_after format (next_link format (checksum_of link text)) texts
+link_after format link (text ∷ texts) = link_after format (next_link format (checksum_of format link text)) texts
 
 -- the bytes of a link, none where there is no checksum
 abbrev pub link_bytes : Option (List ℕ) → List ℕ
@@ -55,13 +61,13 @@ pub record IsOpen (format : Format) (P : List ℕ → Type 0) (bytes : List ℕ)
 
 -- the bytes are an open latch, the block of a text that follows on the link, and the rest
 abbrev pub IsNext : Format → List ℕ → List ℕ → List ℕ → List ℕ → Type 0
-IsNext format link text rest = IsOpen format (IsBlock format (checksum_of link text) text rest)
+IsNext format link text rest = IsOpen format (IsBlock format (checksum_of format link text) text rest)
 
 -- the bytes are a block of each text in turn, each following on the one before it, and the rest
 abbrev pub AreBlocks : Format → List ℕ → List ℕ → List (List ℕ) → List ℕ → Type 0
 AreBlocks format link bytes [] rest = bytes ≡ rest
 AreBlocks format link bytes (text ∷ texts) rest =
-    (more : List ℕ) × IsNext format link text more bytes × AreBlocks format (next_link format (checksum_of link text)) more texts rest
+    (more : List ℕ) × IsNext format link text more bytes × AreBlocks format (next_link format (checksum_of format link text)) more texts rest
 
 -- the file is the header of the format, whatever fills its unit, a block of each text in turn, and the rest
 pub record Begins (format : Format) (file : List ℕ) (texts : List (List ℕ)) (rest : List ℕ) : Type 0 where

@@ -3,6 +3,7 @@ use Rattle.std.specs.Prelude.{◌≡◌, ◌≢◌, ◌⊎◌, ◌<◌, ℕ, ◌
 use Rattle.dm_journal.specs.declared.format.Format.{Format}
 use Rattle.dm_journal.specs.declared.format.Format.TheVariants.{Fields}
 use Rattle.dm_journal.specs.declared.format.KindsField.{KindsField}
+use Rattle.dm_journal.specs.declared.format.ChecksumField.{ChecksumField}
 use Rattle.dm_journal.specs.Format.{line, unit, filling, filled}
 use Rattle.dm_journal.specs.Journal.{Begins, StandsIn, StandsFor}
 use Rattle.dm_journal.specs.Faults.{BeginsWith, HasFault}
@@ -47,11 +48,11 @@ pub record HasTurned (format : Format) (file : List ℕ) : Type 0 where
 
 -- a file with a turned byte in a header of fields is no journal, or has no header that is known
 abbrev pub TurnedFieldsAreTold : Type 0
-TurnedFieldsAreTold = (kinds : KindsField) (file : List ℕ) → HasTurned (Fields kinds) file → HasFault file NotAJournal ⊎ HasFault file Unknown
+TurnedFieldsAreTold = (kinds : KindsField) (checksum : ChecksumField) (file : List ℕ) → HasTurned (Fields kinds checksum) file → HasFault file NotAJournal ⊎ HasFault file Unknown
 
 -- no byte that turns in a header makes it one of fields
 abbrev pub NoneTurnsIntoFields : Type 0
-NoneTurnsIntoFields = (format : Format) (kinds : KindsField) (file : List ℕ) → HasTurned format file → ¬ BeginsWith (line (Fields kinds)) file
+NoneTurnsIntoFields = (format : Format) (kinds : KindsField) (checksum : ChecksumField) (file : List ℕ) → HasTurned format file → ¬ BeginsWith (line (Fields kinds checksum)) file
 
 -- at most one field of a file is the first that isn't known
 abbrev pub FilesHaveOneUnknownField : Type 0

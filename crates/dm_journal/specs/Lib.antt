@@ -1,9 +1,11 @@
+pub mod Changes
 pub mod Device
 pub mod Faults
 pub mod Fields
 pub mod Format
 pub mod Hidden
 pub mod Journal
+pub mod Lanes
 pub mod Laws
 pub mod Memory
 pub mod Past

@@ -24,8 +24,8 @@ pub record IsHeaded (file : List ℕ) (format : Format) (at : ℕ) : Type 0 wher
 pub record IsWhole (format : Format) (link bytes : List ℕ) (n size : ℕ) (checksum : List ℕ) : Type 0 where
   pub reaches : size ≤ length bytes
   pub long : 40 + n ≤ size
-  pub is : checksum ≡ checksum_of link (take n (drop 40 bytes))
-  pub stands : IsBlock format (checksum_of link (take n (drop 40 bytes))) (take n (drop 40 bytes)) (drop size bytes) bytes
+  pub is : checksum ≡ checksum_of format link (take n (drop 40 bytes))
+  pub stands : IsBlock format (checksum_of format link (take n (drop 40 bytes))) (take n (drop 40 bytes)) (drop size bytes) bytes
 
 -- what stands behind an open latch
 abbrev pub StandsBehind : Format → List ℕ → List ℕ → Step → Type 0

@@ -33,5 +33,6 @@ fn is_known(line: &[u8]) -> bool
     line == b"kinds six".as_slice()
         || line == b"kinds all".as_slice()
         || line == b"checksum sha256".as_slice()
+        || line == b"checksum lanes".as_slice()
         || line == b"base counted".as_slice()
 }

@@ -1,8 +1,10 @@
 //! The formats of a journal's file, and what differs between them.
-ghost use Rattle.std.specs.Prelude.{◌≡◌, ◌≤◌, ◌<◌, ◌+◌, ◌^◌, length};
+ghost use Rattle.std.specs.Prelude.{◌≡◌, ◌≤◌, ◌<◌, ◌+◌, ◌++◌, ◌^◌, length};
+ghost use Rattle.sha2.specs.Sha256.{sha256};
 ghost use Rattle.dm_journal.specs.Format.{line, unit, filling, filled, renewed};
 ghost use Rattle.dm_journal.specs.Journal.{checksum_of, next_link, link_bytes};
 
+use crate::lanes::lanes;
 use sha2::{Digest, Sha256};
 
 /// How the bytes of a journal's file are laid out.
@@ -14,8 +16,8 @@ pub enum Format {
     Second,
     /// Version 4: as the second, with another line. There is no version 3, since a turned bit makes 3 of 2.
     Third,
-    /// As the second, with a header of named fields, of which `kinds` has one of two values.
-    Fields(KindsField),
+    /// As the second, with a header of named fields, of which `kinds` and `checksum` each have one of two values.
+    Fields(KindsField, ChecksumField),
 }
 
 /// What the field `kinds` says: which kinds of primitives the texts may have. A journal reads no text.
@@ -23,6 +25,15 @@ pub enum Format {
 pub enum KindsField {
     Six,
     All,
+}
+
+/// What the field `checksum` says: which checksum a block has.
+#[derive(Clone, Copy, Debug, PartialEq, Eq)]
+pub enum ChecksumField {
+    /// SHA-256, as before the field was there.
+    Sha256,
+    /// Four lanes, at the speed of memory.
+    Lanes,
 }
 
 /// What the next block follows on: a checksum, or nothing.
@@ -39,11 +50,17 @@ impl Format {
             Format::First => b"dm journal 1\n",
             Format::Second => b"dm journal 2\n",
             Format::Third => b"dm journal 4\n",
-            Format::Fields(KindsField::Six) => {
+            Format::Fields(KindsField::Six, ChecksumField::Sha256) => {
                 b"dm journal fields\nkinds six\nchecksum sha256\nbase counted\n\n"
             }
-            Format::Fields(KindsField::All) => {
+            Format::Fields(KindsField::All, ChecksumField::Sha256) => {
                 b"dm journal fields\nkinds all\nchecksum sha256\nbase counted\n\n"
+            }
+            Format::Fields(KindsField::Six, ChecksumField::Lanes) => {
+                b"dm journal fields\nkinds six\nchecksum lanes\nbase counted\n\n"
+            }
+            Format::Fields(KindsField::All, ChecksumField::Lanes) => {
+                b"dm journal fields\nkinds all\nchecksum lanes\nbase counted\n\n"
             }
         }
     }
@@ -57,7 +74,7 @@ impl Format {
     {
         match self {
             Format::First => 1,
-            Format::Second | Format::Third | Format::Fields(_) => 1 << 12,
+            Format::Second | Format::Third | Format::Fields(..) => 1 << 12,
         }
     }
 
@@ -79,7 +96,7 @@ impl Format {
     {
         match self {
             Format::First => None,
-            Format::Second | Format::Third | Format::Fields(_) => Some(checksum),
+            Format::Second | Format::Third | Format::Fields(..) => Some(checksum),
         }
     }
 
@@ -89,16 +106,30 @@ impl Format {
         ensures { result ≡ renewed self }
     {
         match self {
-            Format::First | Format::Second => Format::Fields(KindsField::Six),
-            Format::Third => Format::Fields(KindsField::All),
-            Format::Fields(kinds) => Format::Fields(kinds),
+            Format::First | Format::Second => {
+                Format::Fields(KindsField::Six, ChecksumField::Lanes)
+            }
+            Format::Third => Format::Fields(KindsField::All, ChecksumField::Lanes),
+            Format::Fields(kinds, _) => Format::Fields(kinds, ChecksumField::Lanes),
+        }
+    }
+
+    /// The checksum of a text that follows on a link.
+    #[tactic(auto, unfolding(crate::specs::Journal::checksum_of))]
+    pub fn checksum(self, link: Link, text: &[u8]) -> [u8; 32]
+        ensures { result ≡ checksum_of self (link_bytes link) text.now }
+    {
+        match self {
+            Format::Fields(_, ChecksumField::Lanes) => lanes(link, text),
+            Format::First | Format::Second | Format::Third => sha256(link, text),
+            Format::Fields(_, ChecksumField::Sha256) => sha256(link, text),
         }
     }
 }
 
-/// The checksum of a text that follows on a link.
-pub fn checksum(link: Link, text: &[u8]) -> [u8; 32]
-    ensures { result ≡ checksum_of (link_bytes link) text.now }
+// The SHA-256 of the bytes of a link and a text.
+fn sha256(link: Link, text: &[u8]) -> [u8; 32]
+    ensures { result ≡ sha256 (link_bytes link ++ text.now) }
 {
     let mut hasher = Sha256::new();
     if let Some(before) = link {

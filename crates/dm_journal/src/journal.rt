@@ -15,7 +15,7 @@ ghost use Rattle.dm_journal.specs.Ready.{HasTexts, IsTooLong, IsBeside, IsFailur
 
 use crate::device::Device;
 use crate::fault::{OpenError, WriteError};
-use crate::format::{Format, Link, checksum};
+use crate::format::{Format, Link};
 use crate::reading::{FRONT, read_blocks};
 use crate::texts::Texts;
 use crate::writing::{MOST_BYTES, OPEN, replace_file, stage, whole, write_synced};
@@ -126,7 +126,7 @@ impl<D: Device> Journal<D> {
         if latch > LAST_LATCH {
             return Err(WriteError::Full);
         }
-        let checksum = checksum(link, text);
+        let checksum = format.checksum(link, text);
         let behind = latch + format.unit();
         // What a write that failed has left behind the latch is no more.
         let room = size.saturating_sub(behind);

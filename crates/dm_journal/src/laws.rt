@@ -1,4 +1,5 @@
 //! Laws of the definitions alone. A call of them does nothing.
+ghost use Rattle.dm_journal.specs.Changes.{ChangedWordsAreTold, OtherLinksAreTold};
 ghost use Rattle.dm_journal.specs.Laws.{StandsForOneList, FilesHaveOneFormat, JournalsHaveNoFault, FilesHaveOneFault, LatchsBeginUnits, UnitsAreFilled, TurnedFieldsAreTold, NoneTurnsIntoFields, FilesHaveOneUnknownField, KnownHeadersHaveNone};
 
 /// A file has at most one answer: the texts that it stands for and its format, or one fault.
@@ -26,4 +27,11 @@ pub fn a_turned_header_is_told()
 pub fn one_field_is_named()
     ensures one { FilesHaveOneUnknownField }
     ensures none { KnownHeadersHaveNone }
+{}
+
+/// The checksum by lanes is another where one word of the text is another, as after a turned bit, or where the text follows on
+/// another checksum.
+pub fn a_changed_text_is_told()
+    ensures words { ChangedWordsAreTold }
+    ensures links { OtherLinksAreTold }
 {}

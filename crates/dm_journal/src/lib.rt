@@ -6,7 +6,8 @@
 //! stands for, or one fault.
 //!
 //! A file begins with a header, which tells its format ([`Format`]): all are read and appended to. A new file is given its
-//! format. One that takes the place of a journal has a header of named fields.
+//! format. One that takes the place of a journal has a header of named fields, and a checksum at the speed of memory, of which
+//! the laws say that another word in a text makes another one.
 //!
 //! The crate knows the disk as a [`Device`], and [`Memory`] is one. No contract can say that a real file is such a device.
 #![tactic(auto)]
@@ -16,6 +17,7 @@ mod fault;
 mod fields;
 mod format;
 mod journal;
+mod lanes;
 pub mod laws;
 mod memory;
 mod reading;
@@ -25,7 +27,7 @@ mod writing;
 pub use device::{Device, DeviceError};
 pub use fault::{Fault, OpenError, WriteError};
 pub use fields::unknown_field;
-pub use format::{Format, KindsField};
+pub use format::{ChecksumField, Format, KindsField};
 pub use journal::Journal;
 pub use memory::Memory;
 pub use reading::read_length;

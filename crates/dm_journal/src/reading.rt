@@ -9,7 +9,7 @@ ghost use Rattle.dm_journal.specs.Journal.{link_bytes};
 ghost use Rattle.dm_journal.specs.Reading.{IsHeaded, IsReading, IsFaultOf, StandsAt, StandsBehind};
 
 use crate::fault::{Fault, OpenError};
-use crate::format::{Format, KindsField, Link, checksum};
+use crate::format::{ChecksumField, Format, KindsField, Link};
 use crate::texts::Range;
 use std::alloc::Global;
 
@@ -125,11 +125,23 @@ fn known_format(bytes: &[u8]) -> Option<Format>
     if begins_with(bytes, Format::Third) {
         return Some(Format::Third);
     }
-    if begins_with(bytes, Format::Fields(KindsField::Six)) {
-        return Some(Format::Fields(KindsField::Six));
+    if begins_with(
+        bytes,
+        Format::Fields(KindsField::Six, ChecksumField::Sha256),
+    ) {
+        return Some(Format::Fields(KindsField::Six, ChecksumField::Sha256));
     }
-    if begins_with(bytes, Format::Fields(KindsField::All)) {
-        return Some(Format::Fields(KindsField::All));
+    if begins_with(
+        bytes,
+        Format::Fields(KindsField::All, ChecksumField::Sha256),
+    ) {
+        return Some(Format::Fields(KindsField::All, ChecksumField::Sha256));
+    }
+    if begins_with(bytes, Format::Fields(KindsField::Six, ChecksumField::Lanes)) {
+        return Some(Format::Fields(KindsField::Six, ChecksumField::Lanes));
+    }
+    if begins_with(bytes, Format::Fields(KindsField::All, ChecksumField::Lanes)) {
+        return Some(Format::Fields(KindsField::All, ChecksumField::Lanes));
     }
     None
 }
@@ -173,7 +185,7 @@ fn read_behind(format: Format, link: Link, bytes: &[u8]) -> Step
     if bytes.len() < size {
         return Step::Cut;
     }
-    let checksum = checksum(link, &rest[..len]);
+    let checksum = format.checksum(link, &rest[..len]);
     if checksum.as_slice() != told {
         return Step::Damaged;
     }

@@ -11,7 +11,7 @@ ghost use Rattle.std.proofs.Math.ListN.{replicate};
 
 use crate::device::{Device, DeviceError};
 use crate::fault::WriteError;
-use crate::format::{Format, Link, checksum};
+use crate::format::{Format, Link};
 use crate::reading::FRONT;
 use std::alloc::Global;
 
@@ -86,11 +86,11 @@ fn push_text(
 ) -> Result<Link, DeviceError>
     requires { length text.now ≤ 2 ^ 40 }
     ensures bytes { OnOk result (IsPushed format (link_bytes link) text.now bytes.old.items bytes.new.items) }
-    ensures link { IfOk result (λ next. link_bytes next ≡ next_link format (checksum_of (link_bytes link) text.now)) }
+    ensures link { IfOk result (λ next. link_bytes next ≡ next_link format (checksum_of format (link_bytes link) text.now)) }
     ensures err { IfErr result (λ e. e ≡ Memory) }
 {
     push_latch(bytes, format, OPEN)?;
-    let checksum = checksum(link, text);
+    let checksum = format.checksum(link, text);
     push_block(bytes, &checksum, text)?;
     fill_up(bytes, format, FRONT + text.len())?;
     Ok(format.next_link(checksum))

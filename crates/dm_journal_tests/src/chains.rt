@@ -2,6 +2,7 @@
 
 use crate::asking::{fault_of, hidden_in, texts_in};
 use crate::fields::{ALL, SIX};
+use crate::lanes;
 use dm_journal::{Fault, Format, Journal, Memory};
 use std::alloc::Global;
 
@@ -89,7 +90,7 @@ fn a_second_journal_has_these_bytes(rt: HostRuntime) {
         "a new journal takes two texts"
     );
     assert!(rt; texts_in(alloc, &three) == Some(3), "all are read");
-    let one = file_of(alloc, &[SIX, OPEN, ABC, CLOSED]);
+    let one = file_of(alloc, &[SIX, OPEN, lanes::ABC, CLOSED]);
     assert!(rt;
         becomes(alloc, b"dm journal 1\n\0", &one),
         "a file of the first format is replaced by one with fields"
@@ -105,7 +106,7 @@ fn a_third_journal_has_these_bytes(rt: HostRuntime) {
         "a new journal takes two texts"
     );
     assert!(rt; texts_in(alloc, &three) == Some(3), "all are read");
-    let one = file_of(alloc, &[ALL, OPEN, ABC, CLOSED]);
+    let one = file_of(alloc, &[ALL, OPEN, lanes::ABC, CLOSED]);
     assert!(rt;
         becomes(alloc, &three, &one),
         "it is replaced by one with fields, and keeps the kinds"

@@ -11,3 +11,5 @@ mod chains;
 mod fields;
 #[cfg(test)]
 mod files;
+#[cfg(test)]
+mod lanes;

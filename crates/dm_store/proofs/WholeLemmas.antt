@@ -136,8 +136,8 @@ unfolding renewed
 same_kinds First = refl
 same_kinds Second = refl
 same_kinds Third = refl
-same_kinds (Fields field.Six) = refl
-same_kinds (Fields field.All) = refl
+same_kinds (Fields field.Six checksum) = refl
+same_kinds (Fields field.All checksum) = refl
 
 -- a new file is for the kinds that it is made for
 pub made_for : (kinds : Kinds) → kinds_of (format_of kinds) ≡ kinds

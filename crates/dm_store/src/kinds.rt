@@ -5,7 +5,7 @@ ghost use Rattle.dm_named.specs.Kinds.{AreOf, IsOf, IsOfSix};
 ghost use Rattle.dm_prim.specs.Prims.{prim_of, prims_of};
 ghost use Rattle.dm_store.specs.Kinds.{kinds_of, format_of};
 
-use dm_journal::{Format, KindsField};
+use dm_journal::{ChecksumField, Format, KindsField};
 use dm_named::{Kinds, Named};
 use dm_prim::Prim;
 use std::alloc::Global;
@@ -15,8 +15,8 @@ pub fn kinds_of(format: Format) -> Kinds
     ensures { result ≡ kinds_of format }
 {
     match format {
-        Format::First | Format::Second | Format::Fields(KindsField::Six) => Kinds::Six,
-        Format::Third | Format::Fields(KindsField::All) => Kinds::All,
+        Format::First | Format::Second | Format::Fields(KindsField::Six, _) => Kinds::Six,
+        Format::Third | Format::Fields(KindsField::All, _) => Kinds::All,
     }
 }
 
@@ -25,8 +25,8 @@ pub fn format_of(kinds: Kinds) -> Format
     ensures { result ≡ format_of kinds }
 {
     match kinds {
-        Kinds::Six => Format::Fields(KindsField::Six),
-        Kinds::All => Format::Fields(KindsField::All),
+        Kinds::Six => Format::Fields(KindsField::Six, ChecksumField::Lanes),
+        Kinds::All => Format::Fields(KindsField::All, ChecksumField::Lanes),
     }
 }
 

@@ -33,7 +33,7 @@ returns-clause-acknowledged g c texts has =
     let fits : length text < 2 ^ 64 = omega (arith, c.if-text-gt-MOST_BYTES.false) in
     let some : 1 ≤ unit format = omega (arith, c.unit.ensures.is, c.unit.ensures.some) in
     let s = staged_by d.seen d.may_leave d.file_may_leave c.args.self.now texts has _ at text c.checksum-checksum.result _ _ _ c.checksum-checksum.ensures c.saturating_sub-room.ensures (c.deref.ensures.value ∙ c.in_ok-staged.ensures.bytes) fits some c.in_ok-write_synced.ensures.written in
-    let links = c.next_link.ensures ∙ ap (next_link format) (c.checksum-checksum.ensures ∙ ap (λ (l : List ℕ). checksum_of l text) has.end.link) in
+    let links = c.next_link.ensures ∙ ap (next_link format) (c.checksum-checksum.ensures ∙ ap (λ (l : List ℕ). checksum_of format l text) has.end.link) in
     let ends = acknowledged format texts text _ _ _ s _ _ _ _ c.in_ok-write_synced-2.ensures.written links (omega (arith, c.unit.ensures.is, c.filled.ensures.is)) (omega (arith, c.unit.ensures.is, c.len.ensures, c.deref.ensures.len)) in
     has_texts d.seen d.may_leave d.file_may_leave _ _ _ ends refl c.in_ok-write_synced-2.ensures.durable
 
