@@ -1,5 +1,5 @@
 -- Meanings over numbers: what patches do is found by applying them, with the next numbers as identities.
-use Rattle.std.proofs.Common.{◌≡◌, ◌≢◌, ◌⊎◌, inl, inr, ℕ, zero, suc, ◌+◌, ◌<◌, ◌≤◌, List, [], ◌∷◌, length, map, refl, sym, ap, subst, ◌∙◌, arith}
+use Rattle.std.proofs.Common.{◌≡◌, ◌≢◌, ◌⊎◌, inl, inr, ℕ, zero, suc, ◌+◌, ◌<◌, ◌≤◌, List, [], ◌∷◌, length, refl, sym, ap, subst, ◌∙◌, arith}
 use Rattle.std.specs.List.{Contains}
 use Rattle.std.proofs.lemmas.Bool.{cases_Bool, false≢true}
 use Rattle.std.proofs.lemmas.List.Elements.{Contains-append_cases}
@@ -16,7 +16,7 @@ use Rattle.dm_repo.proofs.Members.{here, more, one_of, none_of}
 use Rattle.dm_chain.specs.Chains as chains
 use Rattle.dm_facts.specs.Nodes.{Folder, NodeMap, plain, IsTree}
 use Rattle.dm_facts.specs.Facts.{Effect}
-use Rattle.dm_facts.specs.Identities.{subject, Introduces, IsIn, UsesOf}
+use Rattle.dm_facts.specs.Identities.{subjects_of, Introduces, IsIn, UsesOf}
 use Rattle.dm_facts.specs.Runs.{StepsAll, SharesNone, AllAddNew, enough_for_all}
 use Rattle.dm_facts.proofs.LawProofs as facts
 use Rattle.dm_facts.proofs.Newness.{in_after, in_before, new_after}
@@ -53,7 +53,7 @@ IsBelow n s = (x : ℕ) → IsIn x s → x < n
 
 -- so is what the effects add facts about
 abbrev AddBelow : ℕ → List (Effect ℕ) → Type 0
-AddBelow n es = (e : Effect ℕ) → Contains es e → (x : ℕ) → Contains (map subject e.added) x → x < n
+AddBelow n es = (e : Effect ℕ) → Contains es e → (x : ℕ) → Contains (subjects_of e.added) x → x < n
 
 pub root_below : (n r : ℕ) → r < n → IsBelow n (root_of r)
 root_below n r l x ([], y, e, i) = let k : Folder r ≡ y = cc in let j : r ≡ x = rw (← k) at i in omega (arith, l, j)
@@ -73,7 +73,7 @@ uses_below n ids [] (e ∷ es) s t f h b u = absurd h
 uses_below n ids (p ∷ ps) (e ∷ es) s t f (v, h, r) b u =
     all (uses_below n ids ps es v t f r (λ x i. elim (in_after ℕ p e s v h x i) [ inl j ↦ b x j | inr j ↦ first x j ]) (λ d c. u d (more e es c)))
   where
-    first : (x : ℕ) → Contains (map subject e.added) x → x < n
+    first : (x : ℕ) → Contains (subjects_of e.added) x → x < n
     first x c = elim (u e (here e es) x c) [ inl k ↦ b x (in_before ℕ p e s v h x k) | inr k ↦ f x k ]
 
     all : AddBelow n es → AddBelow n (e ∷ es)

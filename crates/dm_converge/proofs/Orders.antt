@@ -12,6 +12,7 @@ use Rattle.dm_named.specs.Patches.{Patch}
 use Rattle.dm_bundle.specs.Patches.{infos_of, Distinct, SameMembers}
 use Rattle.dm_repo.proofs.Members.{here, more, one_of, none_of}
 use Rattle.dm_chain.specs.Chains.{Token}
+use Rattle.dm_facts.specs.Heaps.{Heap}
 use Rattle.dm_facts.specs.Nodes.{Node, FileWith, NodeMap, IsTree}
 use Rattle.dm_facts.specs.Facts.{Effect}
 use Rattle.dm_facts.specs.Sums.{AreFacts}
@@ -118,9 +119,9 @@ module _ (I : Type 0) (r : I) where
   root_none [] n = refl
   root_none (x ∷ p) n = refl
 
-  root_file : (p : Path) (x : I) (c : List (Token I)) → root_of r p ≡ Some (FileWith x c) → ⊥
-  root_file [] x c e = absurd (cc)
-  root_file (n ∷ p) x c e = absurd (cc)
+  root_file : (p : Path) (x : I) (h : Heap) (c : List (Token I)) → root_of r p ≡ Some (FileWith x h c) → ⊥
+  root_file [] x h c e = absurd (cc)
+  root_file (n ∷ p) x h c e = absurd (cc)
 
   only_root : (p q : Path) (x y : Node I) → root_of r p ≡ Some x → root_of r q ≡ Some y → p ≡ q
   only_root [] [] x y e f = refl
@@ -131,7 +132,7 @@ module _ (I : Type 0) (r : I) where
   root_tree = record {
     root = (r, refl);
     parents = λ p n h. absurd (h (root_none p n));
-    files = λ p x c e. absurd (root_file p x c e);
+    files = λ p x h c e. absurd (root_file p x h c e);
     unique = λ p q x y e f g. only_root p q x y e f;
   }
 

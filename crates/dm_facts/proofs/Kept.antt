@@ -11,15 +11,16 @@ use Rattle.dm_prim.proofs.Undoing.{OffRoot, kept}
 use Rattle.dm_chain.specs.Chains.{Token, HunkSteps, lefts, Distinct, HasOnePortEach}
 use Rattle.dm_chain.proofs.Members.{none_in_nil, head_is_in, distinct-left, distinct-right, distinct-apart, distinct-append}
 use Rattle.dm_chain.proofs.Stepping.{steps_keep_chains}
+use Rattle.dm_facts.specs.Heaps.{Heap}
 use Rattle.dm_facts.specs.Nodes.{Node, Folder, FileWith, NodeMap, identity, plain, IsFile, IsFolder, IsEmptyFile, IsTree}
-use Rattle.dm_facts.specs.Facts.{TokenOf, facts_of, Effect}
-use Rattle.dm_facts.specs.Steps.{Creates, Edits, Exchanges, Makes, StepsAt, StepsMove, Steps}
-use Rattle.dm_facts.specs.Identities.{subject, IsOf, ports_of, AddsNew}
+use Rattle.dm_facts.specs.Facts.{TokenOf, Turned, facts_of, Effect}
+use Rattle.dm_facts.specs.Steps.{Creates, Edits, Rewrites, TurnsFile, Makes, StepsAt, StepsMove, Steps}
+use Rattle.dm_facts.specs.Identities.{subjects_of, IsOf, ports_of, AddsNew}
 use Rattle.dm_facts.specs.Laws.{StepsKeepTrees}
 use Rattle.dm_facts.proofs.TreeLemmas.{folder_of, none_of, tree_lawful}
 use Rattle.dm_facts.proofs.StepLemmas.{applies}
 use Rattle.dm_facts.proofs.SquareLemmas.{swaps_from}
-use Rattle.dm_facts.proofs.Made.{subjects, ports}
+use Rattle.dm_facts.proofs.Made.{subjects, ports, file_ports}
 
 module _ (I : Type 0) where
   -- a name is no root
@@ -38,12 +39,12 @@ module _ (I : Type 0) where
   -- a node's own identity is one of it
   pub own : (x : Node I) → IsOf (identity x) x
   own (Folder x) = refl
-  own (FileWith x c) = inl refl
+  own (FileWith x h c) = inl refl
 
   -- the first fact of a node is about it
-  about : (x : Node I) (d : I) (n : Name) → Contains (map subject (facts_of x d n)) (identity x)
+  about : (x : Node I) (d : I) (n : Name) → Contains (subjects_of (facts_of x d n)) (identity x)
   about (Folder x) d n = head_is_in x []
-  about (FileWith x c) d n = head_is_in x (map subject (map (TokenOf x) c))
+  about (FileWith x h c) d n = head_is_in x (subjects_of (map (TokenOf x) c ++ map (Turned x) h))
 
   -- gaps and lines replaced by others whose ports are new, or those of some replaced
   ports_apart : (f i j b : List I) → Distinct (f ++ (i ++ b)) → Distinct j → ((y : I) → Contains j y → (Contains i y → ⊥) → Contains (f ++ (i ++ b)) y → ⊥) → Distinct (f ++ (j ++ b))
@@ -65,71 +66,80 @@ module _ (I : Type 0) where
         let same : c.node ≡ x = cc (c.there, i) in
         absurd (new.new (identity y) (rw c.effect ((rw (← k, ← same) (about c.node d n)), none_in_nil (identity y))) (q, y, j, own y))
 
-    hunk_apart : (l : ℕ) (old more : Lines) → Edits l old more (s p) (t p) e → (x : I) (c : List (Token I)) → t p ≡ Some (FileWith x c) → IsFile x c × HasOnePortEach c
-    hunk_apart l old more h x c i = go h.replaced
+    hunk_apart : (l : ℕ) (old more : Lines) → Edits l old more (s p) (t p) e → (x : I) (k : Heap) (c : List (Token I)) → t p ≡ Some (FileWith x k c) → IsFile x k c × HasOnePortEach c
+    hunk_apart l old more h x k c i = go h.replaced
       where
-        go : HunkSteps l old more h.taken h.added h.tokens h.tokens' → IsFile x c × HasOnePortEach c
+        go : HunkSteps l h.was h.is h.taken h.added h.tokens h.tokens' → IsFile x k c × HasOnePortEach c
         go r =
             let file : h.file ≡ x = cc (h.there, i) in
+            let heap : h.heap ≡ k = cc (h.there, i) in
             let same : h.tokens' ≡ c = cc (h.there, i) in
-            let was = tree.files p h.file h.tokens h.stood in
+            let was = tree.files p h.file h.heap h.tokens h.stood in
             let before : Distinct (lefts r.front ++ (lefts h.taken ++ lefts r.back)) = rw (r.before, map-append (λ z. z.left) r.front (h.taken ++ r.back), map-append (λ z. z.left) h.taken r.back) at was.1 in
             let added : Distinct (lefts h.added) = rw (h.effect, ports I h.file h.added) at new.apart in
             let after : Distinct (lefts r.front ++ (lefts h.added ++ lefts r.back)) = ports_apart (lefts r.front) (lefts h.taken) (lefts h.added) (lefts r.back) before added
             (λ y k n m. new.new y (rw (h.effect, subjects I h.file h.added, subjects I h.file h.taken) (k, n))
-            (p, FileWith h.file h.tokens, h.stood, inr (rw (r.before, map-append (λ z. z.left) r.front (h.taken ++ r.back), map-append (λ z. z.left) h.taken r.back) m))) in
+            (p, FileWith h.file h.heap h.tokens, h.stood, inr (rw (r.before, map-append (λ z. z.left) r.front (h.taken ++ r.back), map-append (λ z. z.left) h.taken r.back) m))) in
             let all : HasOnePortEach h.tokens' = rw (r.after, map-append (λ z. z.left) r.front (h.added ++ r.back), map-append (λ z. z.left) h.added r.back) after in
-            (rw (← file, ← same) (was.0.0, steps_keep_chains I h.file was.0.0 l old more h.taken h.added h.tokens h.tokens' was.0.1 r), rw (← same) all)
+            (rw (← file, ← heap, ← same) (was.0.0, steps_keep_chains I h.file was.0.0 l h.was h.is h.taken h.added h.tokens h.tokens' was.0.1 r, was.0.2), rw (← same) all)
 
-    exchange_apart : Exchanges (s p) (t p) e → (x : I) (c : List (Token I)) → t p ≡ Some (FileWith x c) → IsFile x c × HasOnePortEach c
-    exchange_apart h x c i =
+    rewritten_apart : (old more : Lines) → Rewrites old more (s p) (t p) e → (x : I) (k : Heap) (c : List (Token I)) → t p ≡ Some (FileWith x k c) → IsFile x k c × HasOnePortEach c
+    rewritten_apart old more h x k c i =
         let file : h.file ≡ x = cc (h.there, i) in
+        let heap : h.heap ≡ k = cc (h.there, i) in
         let same : h.tokens' ≡ c = cc (h.there, i) in
         let all : HasOnePortEach h.tokens' = rw (h.effect, ports I h.file h.tokens') at new.apart in
-        (rw (← file, ← same) h.is_file, rw (← same) all)
+        (rw (← file, ← heap, ← same) h.is_file, rw (← same) all)
 
-    file_after : (w : Work) (d : I) (n : Name) → Makes w d n (s p) (t p) e → (x : I) (c : List (Token I)) → t p ≡ Some (FileWith x c) → IsFile x c × HasOnePortEach c
-    file_after AddFile d n h x c i =
-        let same : h.node ≡ FileWith x c = cc (h.there, i) in
-        let is : IsEmptyFile (FileWith x c) = rw same at h.is in
-        let all : Distinct (ports_of (map (TokenOf x) c)) = rw (h.effect, same) at new.apart in
-        (is.0, rw (ports I x c) at all)
-    file_after RmFile d n h x c i = let k : t p ≡ None = h.nothing in absurd (cc)
-    file_after AddDir d n h x c i = let same : h.node ≡ FileWith x c = cc (h.there, i) in absurd (rw same at h.is)
-    file_after RmDir d n h x c i = let k : t p ≡ None = h.nothing in absurd (cc)
-    file_after (Hunk l old more) d n h x c i = hunk_apart l old more h x c i
-    file_after (Binary old more) d n h x c i = exchange_apart h.exchange x c i
-    file_after (Replace set old more) d n h x c i = exchange_apart h.exchange x c i
+    turned_apart : (set old more : List ℕ) → TurnsFile set old more (s p) (t p) e → (x : I) (k : Heap) (c : List (Token I)) → t p ≡ Some (FileWith x k c) → IsFile x k c × HasOnePortEach c
+    turned_apart set old more h x k c i =
+        let file : h.file ≡ x = cc (h.there, i) in
+        let heap : h.heap' ≡ k = cc (h.there, i) in
+        let same : h.tokens ≡ c = cc (h.there, i) in
+        (rw (← file, ← heap, ← same) h.is_file, rw (← same) (tree.files p h.file h.heap h.tokens h.stood).1)
+
+    file_after : (w : Work) (d : I) (n : Name) → Makes w d n (s p) (t p) e → (x : I) (k : Heap) (c : List (Token I)) → t p ≡ Some (FileWith x k c) → IsFile x k c × HasOnePortEach c
+    file_after AddFile d n h x k c i =
+        let same : h.node ≡ FileWith x k c = cc (h.there, i) in
+        let is : IsEmptyFile (FileWith x k c) = rw same at h.is in
+        let all : Distinct (ports_of (map (TokenOf x) c ++ map (Turned x) k)) = rw (h.effect, same) at new.apart in
+        (is.0, rw (file_ports I x k c) at all)
+    file_after RmFile d n h x k c i = let z : t p ≡ None = h.nothing in absurd (cc)
+    file_after AddDir d n h x k c i = let same : h.node ≡ FileWith x k c = cc (h.there, i) in absurd (rw same at h.is)
+    file_after RmDir d n h x k c i = let z : t p ≡ None = h.nothing in absurd (cc)
+    file_after (Hunk l old more) d n h x k c i = hunk_apart l old more h x k c i
+    file_after (Binary old more) d n h x k c i = rewritten_apart old more h x k c i
+    file_after (Replace set old more) d n h x k c i = turned_apart set old more h x k c i
 
     -- a file that keeps its identity
-    only_file : (f : I) (c c' : List (Token I)) → s p ≡ Some (FileWith f c) → t p ≡ Some (FileWith f c') → (x y : Node I) (q : Path) → t p ≡ Some x → s q ≡ Some y → identity x ≡ identity y → p ≡ q
-    only_file f c c' stood there x y q i j k =
-        let same : FileWith f c' ≡ x = cc (there, i) in
-        tree.unique p q (FileWith f c) y stood j (ap identity same ∙ k)
+    only_file : (f : I) (h h' : Heap) (c c' : List (Token I)) → s p ≡ Some (FileWith f h c) → t p ≡ Some (FileWith f h' c') → (x y : Node I) (q : Path) → t p ≡ Some x → s q ≡ Some y → identity x ≡ identity y → p ≡ q
+    only_file f h h' c c' stood there x y q i j k =
+        let same : FileWith f h' c' ≡ x = cc (there, i) in
+        tree.unique p q (FileWith f h c) y stood j (ap identity same ∙ k)
 
     only_one : (w : Work) (d : I) (n : Name) → Makes w d n (s p) (t p) e → (x y : Node I) (q : Path) → t p ≡ Some x → s q ≡ Some y → identity x ≡ identity y → p ≡ q
     only_one AddFile d n h x y q i j k = created IsEmptyFile d n h x y q i j k
     only_one RmFile d n h x y q i j k = let z : t p ≡ None = h.nothing in absurd (cc)
     only_one AddDir d n h x y q i j k = created IsFolder d n h x y q i j k
     only_one RmDir d n h x y q i j k = let z : t p ≡ None = h.nothing in absurd (cc)
-    only_one (Hunk l old more) d n h x y q i j k = only_file h.file h.tokens h.tokens' h.stood h.there x y q i j k
-    only_one (Binary old more) d n h x y q i j k = only_file h.exchange.file h.exchange.tokens h.exchange.tokens' h.exchange.stood h.exchange.there x y q i j k
-    only_one (Replace set old more) d n h x y q i j k = only_file h.exchange.file h.exchange.tokens h.exchange.tokens' h.exchange.stood h.exchange.there x y q i j k
+    only_one (Hunk l old more) d n h x y q i j k = only_file h.file h.heap h.heap h.tokens h.tokens' h.stood h.there x y q i j k
+    only_one (Binary old more) d n h x y q i j k = only_file h.file h.heap h.heap h.tokens h.tokens' h.stood h.there x y q i j k
+    only_one (Replace set old more) d n h x y q i j k = only_file h.file h.heap h.heap' h.tokens h.tokens h.stood h.there x y q i j k
 
     work_keeps : (w : Work) → StepsAt p w e s t → IsTree t
     work_keeps w h = record {
       root = folder_of I (t []) l.root;
       parents = λ q n k. folder_of I (t q) (l.parents q n (λ z. k (none_of I (t (q ++ n ∷ [])) z)));
-      files = λ q x c i. file q x c i (path_dec q p);
+      files = λ q x k c i. file q x k c i (path_dec q p);
       unique = λ q r x y i j k. one q r x y i j k (path_dec q p) (path_dec r p);
     }
       where
         l : IsLawful (plain t)
         l = lawful_after (At p w) e s t tree h
 
-        file : (q : Path) (x : I) (c : List (Token I)) → t q ≡ Some (FileWith x c) → (q ≡ p) ⊎ (q ≢ p) → IsFile x c × HasOnePortEach c
-        file q x c i (inl k) = file_after w h.directory h.name h.here x c (ap t (sym k) ∙ i)
-        file q x c i (inr k) = tree.files q x c (sym (h.elsewhere q k) ∙ i)
+        file : (q : Path) (x : I) (k : Heap) (c : List (Token I)) → t q ≡ Some (FileWith x k c) → (q ≡ p) ⊎ (q ≢ p) → IsFile x k c × HasOnePortEach c
+        file q x k c i (inl j) = file_after w h.directory h.name h.here x k c (ap t (sym j) ∙ i)
+        file q x k c i (inr j) = tree.files q x k c (sym (h.elsewhere q j) ∙ i)
 
         one : (q r : Path) (x y : Node I) → t q ≡ Some x → t r ≡ Some y → identity x ≡ identity y → (q ≡ p) ⊎ (q ≢ p) → (r ≡ p) ⊎ (r ≢ p) → q ≡ r
         one q r x y i j k (inl a) (inl b) = a ∙ sym b
@@ -144,7 +154,7 @@ module _ (I : Type 0) where
       record {
         root = folder_of I (t []) l.root;
         parents = λ q n k. folder_of I (t q) (l.parents q n (λ z. k (none_of I (t (q ++ n ∷ [])) z)));
-        files = λ q x c i. tree.files (swap a b q) x c (sym (sw.is q) ∙ i);
+        files = λ q x k c i. tree.files (swap a b q) x k c (sym (sw.is q) ∙ i);
         unique = λ q r x y i j k. swap_inj a b q r h.apart (tree.unique (swap a b q) (swap a b r) x y (sym (sw.is q) ∙ i) (sym (sw.is r) ∙ j) k);
       }
 

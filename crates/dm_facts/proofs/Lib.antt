@@ -1,5 +1,6 @@
 pub mod TreeLemmas
-pub mod TurnedTokens
+pub mod HeapLemmas
+pub mod TextLemmas
 pub mod StepLemmas
 pub mod Undoing
 pub mod SquareLemmas

@@ -1,30 +1,29 @@
 -- What applies to a tree with its identities left out is a step of that tree.
-use Rattle.std.proofs.Common.{◌≡◌, ◌≢◌, ℕ, ◌≤◌, ◌*◌, ◌⊎◌, inl, inr, List, [], ◌∷◌, ◌++◌, length, map, Option, Some, None, option_map, Contains, refl, sym, ap, subst, ◌∙◌, arith}
-use Rattle.std.proofs.lemmas.List.{map-append}
+use Rattle.std.proofs.Common.{◌≡◌, ◌≢◌, ℕ, ◌≤◌, ◌*◌, ◌⊎◌, inl, inr, List, [], ◌∷◌, ◌++◌, length, map, Option, Some, None, option_map, Contains, refl, sym, ap, ap₂, subst, ◌∙◌, append_assoc, append-nil, arith}
+use Rattle.std.proofs.lemmas.List.{length-map, map-append}
 use Rattle.std.proofs.lemmas.List.Elements.{Contains-append_left, Contains-append_right}
-use Rattle.std.specs.List.{AllZip}
 use Rattle.dm_tree.specs.Paths.{Name, Path}
 use Rattle.dm_tree.specs.Trees.{Lines, Dir, File, Map, IsLawful, empty_file}
-use Rattle.dm_tree.specs.Listings.{file_size}
 use Rattle.dm_tree.specs.Changes.{ReplacesLines}
 use Rattle.dm_tree.proofs.Paths.{swap}
-use Rattle.dm_tokens.specs.Turning.{TurnAll}
-use Rattle.dm_tokens.specs.Validity.{AreOfSet}
-use Rattle.dm_prim.specs.Primitives.{Work, AddFile, RmFile, AddDir, RmDir, Hunk, Binary, Replace, Prim, At, Move, ChangePref, Changes, WorksAt, AppliesMove, Applies, most_turned}
+use Rattle.dm_tokens.specs.Validity.{TokenWords}
+use Rattle.dm_prim.specs.Primitives.{Work, AddFile, RmFile, AddDir, RmDir, Hunk, Binary, Replace, Prim, At, Move, ChangePref, Changes, TurnsLines, WorksAt, AppliesMove, Applies}
 use Rattle.dm_prim.specs.Table.{IsDirectoryWork}
 use Rattle.dm_prim.proofs.Maps.{path_dec, below_absent, swaps_from}
 use Rattle.dm_prim.proofs.Undoing.{OffRoot, parent_of}
 use Rattle.dm_prim.proofs.Single.{same_map}
-use Rattle.dm_chain.specs.Chains.{Token, Gap, Line, IsChain, HunkSteps, lefts, inner, lines_of, cuts_at, other, Distinct, HasOnePortEach}
+use Rattle.dm_chain.specs.Chains.{Token, Gap, Line, IsChain, HunkSteps, lefts, inner, lines_of, cuts_at, other, Distinct}
 use Rattle.dm_chain.proofs.Members.{none_in_nil, head_is_in, it_is_in, in_cases, distinct-left}
 use Rattle.dm_chain.proofs.Determined.{lefts-cons}
 use Rattle.dm_chain.proofs.Made.{replaced_step, lines_have_a_chain}
 use Rattle.dm_chain.proofs.Once.{left_ports}
-use Rattle.dm_facts.specs.Nodes.{Node, Folder, FileWith, NodeMap, entry_of, plain, IsFile, IsNameIn, IsTree}
-use Rattle.dm_facts.specs.Facts.{TokenOf, stands, facts_of, Effect}
-use Rattle.dm_facts.specs.Steps.{TurnsInPlace, Makes, Steps}
-use Rattle.dm_facts.specs.Identities.{subject, IsIn, UsesOf, ports_of, AddsNew, enough}
-use Rattle.dm_facts.proofs.TurnedTokens.{same_lefts, chain_turns, turned_tokens}
+use Rattle.dm_facts.specs.Heaps.{Heap, entry_on, put_on, spelled}
+use Rattle.dm_facts.specs.Nodes.{Node, Folder, FileWith, NodeMap, texts_of, entry_of, plain, IsFile, IsNameIn, IsTree}
+use Rattle.dm_facts.specs.Facts.{Fact, FolderIn, FileIn, TokenOf, Turned, stands, facts_of, Effect}
+use Rattle.dm_facts.specs.Steps.{Makes, Steps}
+use Rattle.dm_facts.specs.Identities.{subject, subjects_of, IsIn, UsesOf, ports_of, AddsNew, enough}
+use Rattle.dm_facts.proofs.HeapLemmas.{put_on_heap, symbol, symbol_spells}
+use Rattle.dm_facts.proofs.TextLemmas.{none_left, SymbolsReplaced, symbols_replaced, symbols_spell, turned_spells}
 use Rattle.dm_facts.proofs.TreeLemmas.{folder_of, text_of, none_of, some_of, name_of, tree_lawful}
 use Rattle.dm_facts.proofs.SquareLemmas.{put, put_same, put_other, moves_from}
 
@@ -39,13 +38,40 @@ module _ (I : Type 0) where
     pub apart : Distinct (ports_of effect.added)
 
   -- the subjects and ports of the facts of a file's gaps and lines
-  pub subjects : (x : I) (ts : List (Token I)) → map subject (map (TokenOf x) ts) ≡ lefts ts
+  pub subjects : (x : I) (ts : List (Token I)) → subjects_of (map (TokenOf x) ts) ≡ lefts ts
   subjects x [] = refl
   subjects x (t ∷ ts) = ap (λ l. t.left ∷ l) (subjects x ts)
 
   pub ports : (x : I) (ts : List (Token I)) → ports_of (map (TokenOf x) ts) ≡ lefts ts
   ports x [] = refl
   ports x (t ∷ ts) = ap (λ l. t.left ∷ l) (ports x ts)
+
+  -- its replaces have none
+  no_subjects : (x : I) (h : Heap) → subjects_of (map (Turned x) h) ≡ []
+  no_subjects x [] = refl
+  no_subjects x (r ∷ h) = no_subjects x h
+
+  no_ports : (x : I) (h : Heap) → ports_of (map (Turned x) h) ≡ []
+  no_ports x [] = refl
+  no_ports x (r ∷ h) = no_ports x h
+
+  subjects_both : (fs gs : List (Fact I)) → subjects_of (fs ++ gs) ≡ subjects_of fs ++ subjects_of gs
+  subjects_both [] gs = refl
+  subjects_both (f ∷ fs) gs = ap (λ z. subject f ++ z) (subjects_both fs gs) ∙ sym (append_assoc (subject f) (subjects_of fs) (subjects_of gs))
+
+  ports_both : (fs gs : List (Fact I)) → ports_of (fs ++ gs) ≡ ports_of fs ++ ports_of gs
+  ports_both [] gs = refl
+  ports_both (FolderIn x d n ∷ fs) gs = ports_both fs gs
+  ports_both (FileIn x d n ∷ fs) gs = ports_both fs gs
+  ports_both (TokenOf x t ∷ fs) gs = ap (λ z. t.left ∷ z) (ports_both fs gs)
+  ports_both (Turned x r ∷ fs) gs = ports_both fs gs
+
+  -- those of all facts that a file has besides where it stands
+  pub file_subjects : (x : I) (h : Heap) (ts : List (Token I)) → subjects_of (map (TokenOf x) ts ++ map (Turned x) h) ≡ lefts ts
+  file_subjects x h ts = subjects_both (map (TokenOf x) ts) (map (Turned x) h) ∙ ap₂ (λ a b. a ++ b) (subjects x ts) (no_subjects x h) ∙ append-nil (lefts ts)
+
+  pub file_ports : (x : I) (h : Heap) (ts : List (Token I)) → ports_of (map (TokenOf x) ts ++ map (Turned x) h) ≡ lefts ts
+  file_ports x h ts = ports_both (map (TokenOf x) ts) (map (Turned x) h) ∙ ap₂ (λ a b. a ++ b) (ports x ts) (no_ports x h) ∙ append-nil (lefts ts)
 
   module _ (p : Path) (w : Work) (s : NodeMap I) (m : Map) (ids : List I) (tree : IsTree s) (off : p ≢ []) (h : WorksAt p w (plain s) m) where
     -- p stands in a directory, where something is there
@@ -82,11 +108,15 @@ module _ (I : Type 0) where
   empty_chain : (x a b z : I) → IsChain x (empty_tokens x a b z) z
   empty_chain x a b z = record { leads = (refl, (refl, (refl, refl))); has_lines = λ e. let k : [] ∷ [] ≡ [] = e in cc }
 
+  empty_texts : (x a b z : I) → texts_of [] (empty_tokens x a b z) ≡ [] ∷ []
+  unfolding spelled
+  empty_texts x a b z = refl
+
   -- the file is one of those in s, so its ports are identities there
-  in_file : (s : NodeMap I) (p : Path) (x : I) (c front taken back : List (Token I)) (y : I) → s p ≡ Some (FileWith x c) → c ≡ front ++ (taken ++ back) → Contains (lefts taken) y → IsIn y s
-  in_file s p x c front taken back y is e k = (
+  in_file : (s : NodeMap I) (p : Path) (x : I) (h : Heap) (c front taken back : List (Token I)) (y : I) → s p ≡ Some (FileWith x h c) → c ≡ front ++ (taken ++ back) → Contains (lefts taken) y → IsIn y s
+  in_file s p x h c front taken back y is e k = (
     p,
-    FileWith x c,
+    FileWith x h c,
     is,
     inr (rw (e, map-append (λ t. t.left) front (taken ++ back), map-append (λ t. t.left) taken back)
         (Contains-append_right (lefts front) (lefts taken ++ lefts back) y (Contains-append_left (lefts taken) (lefts back) y k))),
@@ -100,10 +130,10 @@ module _ (I : Type 0) where
     adds_file h (x ∷ a ∷ b ∷ []) i k = absurd (omega arith)
     adds_file h (x ∷ a ∷ b ∷ z ∷ rest) i k =
         let r = name_of I p s h.around in
-        let node : Node I = FileWith x (empty_tokens x a b z) in
+        let node : Node I = FileWith x [] (empty_tokens x a b z) in
         work_step p AddFile s m ids tree off h r.0 r.1 (Some node) (record { taken = []; added = facts_of node r.0 r.1 }) r.2 (λ d. absurd d)
-        (record { node = node; is = ((z, empty_chain x a b z), refl); nothing = none_of I (s p) h.here.0; there = refl; effect = refl })
-        (sym h.here.1) (λ y c. inr (rw i (listed y c))) (distinct-left (x ∷ a ∷ b ∷ []) (z ∷ rest) (rw i at apart))
+        (record { node = node; is = ((z, empty_chain x a b z, tt), empty_texts x a b z); nothing = none_of I (s p) h.here.0; there = refl; effect = refl })
+        (ap (λ u. Some (File u)) (empty_texts x a b z) ∙ sym h.here.1) (λ y c. inr (rw i (listed y c))) (distinct-left (x ∷ a ∷ b ∷ []) (z ∷ rest) (rw i at apart))
       where
         listed : (y : I) → Contains (x ∷ x ∷ a ∷ b ∷ []) y → Contains (x ∷ a ∷ b ∷ z ∷ rest) y
         listed y c = elim (in_cases x y (x ∷ a ∷ b ∷ []) c) [
@@ -123,9 +153,9 @@ module _ (I : Type 0) where
     removes_file h =
         let r = named p RmFile s m ids tree off h (λ k. let z : plain s p ≡ Some empty_file = h.here.0 in cc) in
         let f = text_of I (s p) ([] ∷ []) h.here.0 in
-        let e : Effect I = record { taken = facts_of (FileWith f.0 f.1) r.0 r.1; added = [] } in
+        let e : Effect I = record { taken = facts_of (FileWith f.0 f.1 f.2) r.0 r.1; added = [] } in
         work_step p RmFile s m ids tree off h r.0 r.1 None e r.2 (λ d. absurd d)
-        (record { node = FileWith f.0 f.1; is = ((tree.files p f.0 f.1 f.2).0, f.3); nothing = refl; there = f.2; effect = refl })
+        (record { node = FileWith f.0 f.1 f.2; is = ((tree.files p f.0 f.1 f.2 f.3).0, f.4); nothing = refl; there = f.3; effect = refl })
         (sym h.here.1) (takes_alone e ids refl) tt
 
     removes_folder : WorksAt p RmDir (plain s) m → HasStep (At p RmDir) s m ids
@@ -144,28 +174,45 @@ module _ (I : Type 0) where
         go (ls, ls', is, is', rep) =
             let r = named p (Hunk l old more) s m ids tree off h (λ k. let z : plain s p ≡ Some (File ls) = is in cc) in
             let f = text_of I (s p) ls is in
-            let file = (tree.files p f.0 f.1 f.2).0 in
-            made r.0 r.1 r.2 f.0 f.1 f.2 file ls' is' (replaced_step I f.0 file.0 l old more ls' f.1 ids file.1 (subst (λ z. ReplacesLines l old more z ls') (sym f.3) rep) k)
+            let file = (tree.files p f.0 f.1 f.2 f.3).0 in
+            let y = symbols_replaced (spelled f.1) (symbol f.1) (symbol_spells f.1 file.2) l old more (lines_of f.2) ls' (subst (λ z. ReplacesLines l old more z ls') (sym f.4) rep) in
+            made r.0 r.1 r.2 f.0 f.1 f.2 f.3 file ls' is' y (replaced_step I f.0 file.0 l y.was y.is y.all f.2 ids file.1 y.replaces (subst (λ z. 2 * z ≤ length ids) (ap length (sym y.new_is) ∙ length-map y.is (spelled f.1)) k))
           where
-            made : (d : I) (n : Name) → IsNameIn p d n s → (x : I) (c : List (Token I)) → s p ≡ Some (FileWith x c) → IsFile x c → (ls' : Lines) → m p ≡ Some (File ls') →
-                (taken : List (Token I)) × (added : List (Token I)) × (c' : List (Token I)) × (rest : List I) ×
-                HunkSteps l old more taken added c c' × (lines_of c' ≡ ls') × (ids ≡ inner added ++ rest) → HasStep (At p (Hunk l old more)) s m ids
-            made d n placed x c is file ls' is' (taken, added, c', rest, step, lines, all) =
-                work_step p (Hunk l old more) s m ids tree off h d n (Some (FileWith x c')) (record { taken = map (TokenOf x) taken; added = map (TokenOf x) added }) placed (λ i. absurd i)
-                (record { file = x; tokens = c; tokens' = c'; taken = taken; added = added; stood = is; there = refl; is_file = file; replaced = step; effect = refl })
-                (ap (λ z. Some (File z)) lines ∙ sym is') listed (rw (ports x added, of_added) (λ k. new step.from (from_inner step.from k) from_in, inner_apart))
+            made : (d : I) (n : Name) → IsNameIn p d n s → (x : I) (hp : Heap) (c : List (Token I)) → s p ≡ Some (FileWith x hp c) → IsFile x hp c → (ls' : Lines) → m p ≡ Some (File ls') →
+                (y : SymbolsReplaced (spelled hp) l old more (lines_of c) ls') → (taken : List (Token I)) × (added : List (Token I)) × (c' : List (Token I)) × (rest : List I) ×
+                HunkSteps l y.was y.is taken added c c' × (lines_of c' ≡ y.all) × (ids ≡ inner added ++ rest) → HasStep (At p (Hunk l old more)) s m ids
+            made d n placed x hp c is file ls' is' y (taken, added, c', rest, step, lines, all) =
+                work_step p (Hunk l old more) s m ids tree off h d n (Some (FileWith x hp c')) (record { taken = map (TokenOf x) taken; added = map (TokenOf x) added }) placed (λ i. absurd i)
+                (record {
+                  file = x;
+                  heap = hp;
+                  tokens = c;
+                  tokens' = c';
+                  taken = taken;
+                  added = added;
+                  was = y.was;
+                  is = y.is;
+                  stood = is;
+                  there = refl;
+                  is_file = file;
+                  old_is = y.old_is;
+                  new_is = y.new_is;
+                  replaced = step;
+                  effect = refl;
+                })
+                (ap (λ z. Some (File (map (spelled hp) z))) lines ∙ ap (λ z. Some (File z)) y.all_is ∙ sym is') listed (rw (ports x added, of_added) (λ k. new step.from (from_inner step.from k) from_in, inner_apart))
               where
                 of_added : lefts added ≡ step.from ∷ inner added
-                of_added = lefts-cons added (record { port = step.from; next = cuts_at old more }) (record { port = step.to; next = other (cuts_at old more) }) step.adds refl
+                of_added = lefts-cons added (record { port = step.from; next = cuts_at y.was y.is }) (record { port = step.to; next = other (cuts_at y.was y.is) }) step.adds refl
 
                 of_taken : lefts taken ≡ step.from ∷ inner taken
-                of_taken = lefts-cons taken (record { port = step.from; next = cuts_at old more }) (record { port = step.to; next = other (cuts_at old more) }) step.takes refl
+                of_taken = lefts-cons taken (record { port = step.from; next = cuts_at y.was y.is }) (record { port = step.to; next = other (cuts_at y.was y.is) }) step.takes refl
 
                 taken_from : Contains (lefts taken) step.from
                 taken_from = rw of_taken (head_is_in step.from (inner taken))
 
                 from_in : IsIn step.from s
-                from_in = in_file s p x c step.front taken step.back step.from is step.before taken_from
+                from_in = in_file s p x hp c step.front taken step.back step.from is step.before taken_from
 
                 from_inner : (y : I) → Contains (inner added) y → Contains ids y
                 from_inner y k = rw all (Contains-append_left (inner added) rest y k)
@@ -183,21 +230,24 @@ module _ (I : Type 0) where
     rewrites_file old more h k =
         let r = named p (Binary old more) s m ids tree off h (λ k. let z : plain s p ≡ Some (File old) = h.here.0 in cc) in
         let f = text_of I (s p) old h.here.0 in
-        let file = (tree.files p f.0 f.1 f.2).0 in
-        made r.0 r.1 r.2 f.0 f.1 file.0 f.2 file.1 f.3 (lines_have_a_chain I f.0 file.0 more ids h.here.2 k)
+        let file = (tree.files p f.0 f.1 f.2 f.3).0 in
+        made r.0 r.1 r.2 f.0 f.1 f.2 f.3 file f.4 (lines_have_a_chain I f.0 file.0 (map (symbol f.1) more) ids (λ z. h.here.2 (none_left (symbol f.1) more z)) (subst (λ z. 2 * z ≤ length ids) (sym (length-map more (symbol f.1))) k))
       where
-        made : (d : I) (n : Name) → IsNameIn p d n s → (x : I) (c : List (Token I)) (last : I) → s p ≡ Some (FileWith x c) → IsChain x c last → lines_of c ≡ old →
-            (c' : List (Token I)) × (rest : List I) × IsChain x c' last × (lines_of c' ≡ more) × (ids ≡ inner c' ++ rest) → HasStep (At p (Binary old more)) s m ids
-        made d n placed x c last is chain was (c', rest, chain', lines, all) =
-            work_step p (Binary old more) s m ids tree off h d n (Some (FileWith x c')) (record { taken = map (TokenOf x) c; added = map (TokenOf x) c' }) placed (λ i. absurd i)
-            (record { exchange = record { file = x; tokens = c; tokens' = c'; stood = is; there = refl; was_file = (last, chain); is_file = (last, chain'); effect = refl }; old_is = was; new_is = lines })
-            (ap (λ z. Some (File z)) lines ∙ sym h.here.1) listed (rw (ports x c', of_new) (λ k. new x (from_inner x k) (p, FileWith x c, is, inl refl), inner_apart))
+        made : (d : I) (n : Name) → IsNameIn p d n s → (x : I) (hp : Heap) (c : List (Token I)) → s p ≡ Some (FileWith x hp c) → (file : IsFile x hp c) → texts_of hp c ≡ old →
+            (c' : List (Token I)) × (rest : List I) × IsChain x c' file.0 × (lines_of c' ≡ map (symbol hp) more) × (ids ≡ inner c' ++ rest) → HasStep (At p (Binary old more)) s m ids
+        made d n placed x hp c is file was (c', rest, chain', lines, all) =
+            work_step p (Binary old more) s m ids tree off h d n (Some (FileWith x hp c')) (record { taken = map (TokenOf x) c; added = map (TokenOf x) c' }) placed (λ i. absurd i)
+            (record { file = x; heap = hp; tokens = c; tokens' = c'; stood = is; there = refl; was_file = file; is_file = (file.0, chain', file.2); old_is = was; new_is = texts; effect = refl })
+            (ap (λ z. Some (File z)) texts ∙ sym h.here.1) listed (rw (ports x c', of_new) (λ k. new x (from_inner x k) (p, FileWith x hp c, is, inl refl), inner_apart))
           where
+            texts : texts_of hp c' ≡ more
+            texts = ap (map (spelled hp)) lines ∙ symbols_spell hp file.2 more
+
             of_new : lefts c' ≡ x ∷ inner c'
-            of_new = left_ports I x last c' chain'
+            of_new = left_ports I x file.0 c' chain'
 
             of_old : lefts c ≡ x ∷ inner c
-            of_old = left_ports I x last c chain
+            of_old = left_ports I x file.0 c file.1
 
             from_inner : (y : I) → Contains (inner c') y → Contains ids y
             from_inner y k = rw all (Contains-append_left (inner c') rest y k)
@@ -214,28 +264,33 @@ module _ (I : Type 0) where
     turns_file : (set old more : List ℕ) → WorksAt p (Replace set old more) (plain s) m → HasStep (At p (Replace set old more)) s m ids
     turns_file set old more h = go h.here
       where
+        words : TokenWords
+        words = record { set = set; old = old; new = more }
+
         go : Changes (Replace set old more) (plain s p) (m p) → HasStep (At p (Replace set old more)) s m ids
         go (ls, ls', is, is', turn) =
             let r = named p (Replace set old more) s m ids tree off h (λ k. let z : plain s p ≡ Some (File ls) = is in cc) in
             let f = text_of I (s p) ls is in
-            let file = tree.files p f.0 f.1 f.2 in
-            made r.0 r.1 r.2 f.0 f.1 file.0.0 f.2 file.0.1 file.1 ls' is' turn.tokens
-            (turned_tokens I turn.tokens.set old more f.1 ls' (subst (λ z. TurnAll turn.tokens.set old more z ls') (sym f.3) turn.turned)) (subst (λ z. file_size z ≤ most_turned) (sym f.3) turn.was_small) turn.is_small
+            made r.0 r.1 r.2 f.0 f.1 f.2 f.3 (tree.files p f.0 f.1 f.2 f.3).0 ls' is' (subst (λ z. TurnsLines set old more z ls') (sym f.4) turn)
           where
-            made : (d : I) (n : Name) → IsNameIn p d n s → (x : I) (c : List (Token I)) (last : I) → s p ≡ Some (FileWith x c) → IsChain x c last → HasOnePortEach c → (ls' : Lines) →
-                m p ≡ Some (File ls') → (words : AreOfSet set old more) → (c' : List (Token I)) × AllZip (TurnsInPlace words.set old more) c c' × (lines_of c' ≡ ls') →
-                file_size (lines_of c) ≤ most_turned → file_size ls' ≤ most_turned → HasStep (At p (Replace set old more)) s m ids
-            made d n placed x c last is chain each ls' is' words (c', turned, lines) was_small is_small =
-                let same : lefts c' ≡ lefts c = same_lefts I words.set old more c c' turned in
-                work_step p (Replace set old more) s m ids tree off h d n (Some (FileWith x c')) (record { taken = map (TokenOf x) c; added = map (TokenOf x) c' }) placed (λ i. absurd i)
+            made : (d : I) (n : Name) → IsNameIn p d n s → (x : I) (hp : Heap) (c : List (Token I)) → s p ≡ Some (FileWith x hp c) → IsFile x hp c → (ls' : Lines) → m p ≡ Some (File ls') →
+                TurnsLines set old more (texts_of hp c) ls' → HasStep (At p (Replace set old more)) s m ids
+            made d n placed x hp c is file ls' is' turn =
+                let texts : texts_of (put_on words hp) c ≡ ls' = turned_spells words hp file.2 turn.tokens (lines_of c) ls' turn.turned in
+                work_step p (Replace set old more) s m ids tree off h d n (Some (FileWith x (put_on words hp) c)) (record { taken = []; added = Turned x (entry_on words hp) ∷ [] }) placed (λ i. absurd i)
                 (record {
-                  exchange = record { file = x; tokens = c; tokens' = c'; stood = is; there = refl; was_file = (last, chain); is_file = (last, chain_turns I words.set old more x last c c' chain turned); effect = refl };
-                  words = words;
-                  turned = turned;
-                  was_small = was_small;
-                  is_small = subst (λ z. file_size z ≤ most_turned) (sym lines) is_small;
+                  file = x;
+                  heap = hp;
+                  heap' = put_on words hp;
+                  tokens = c;
+                  stood = is;
+                  there = refl;
+                  was_file = file;
+                  is_file = (file.0, file.1, put_on_heap words hp file.2 turn.tokens);
+                  turned = subst (λ z. TurnsLines set old more (texts_of hp c) z) (sym texts) turn;
+                  change = inl (record { on = refl; effect = refl });
                 })
-                (ap (λ z. Some (File z)) lines ∙ sym is') (λ y k. inl (rw (subjects x c, ← same) (rw (subjects x c') at k))) (rw (ports x c', same) each)
+                (ap (λ z. Some (File z)) texts ∙ sym is') (λ y k. absurd (none_in_nil y k)) tt
 
   moves : (a b : Path) (s : NodeMap I) (m : Map) (ids : List I) → IsTree s → AppliesMove a b (plain s) m → HasStep (Move a b) s m ids
   moves a b s m ids tree h =
@@ -268,13 +323,13 @@ module _ (I : Type 0) where
         apart = no_port node.0 to.0 to.1;
       }
     where
-      no_new : (x : Node I) (d d' : I) (n n' : Name) (y : I) → Contains (map subject (stands x d' n' ∷ [])) y → Contains (map subject (stands x d n ∷ [])) y
+      no_new : (x : Node I) (d d' : I) (n n' : Name) (y : I) → Contains (subjects_of (stands x d' n' ∷ [])) y → Contains (subjects_of (stands x d n ∷ [])) y
       no_new (Folder x) d d' n n' y k = k
-      no_new (FileWith x c) d d' n n' y k = k
+      no_new (FileWith x hp c) d d' n n' y k = k
 
       no_port : (x : Node I) (d : I) (n : Name) → Distinct (ports_of (stands x d n ∷ []))
       no_port (Folder x) d n = tt
-      no_port (FileWith x c) d n = tt
+      no_port (FileWith x hp c) d n = tt
 
   pub has_step : (p : Prim) (s : NodeMap I) (m : Map) (ids : List I) → OffRoot p → IsTree s → Applies p (plain s) m →
       Distinct ids → enough p ≤ length ids → ((x : I) → Contains ids x → IsIn x s → ⊥) → HasStep p s m ids

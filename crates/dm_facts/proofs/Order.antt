@@ -10,8 +10,9 @@ use Rattle.dm_tree.specs.Paths.{Name, Path, Under}
 use Rattle.dm_prim.specs.Primitives.{Prim, At, Move, ChangePref}
 use Rattle.dm_chain.specs.Chains.{Token}
 use Rattle.dm_chain.proofs.Members.{none_in_nil, head_is_in, next_is_in, in_cases, map_is_in}
+use Rattle.dm_facts.specs.Heaps.{HeapEntry, Heap}
 use Rattle.dm_facts.specs.Nodes.{Node, Folder, FileWith, NodeMap, IsNameIn, IsTree}
-use Rattle.dm_facts.specs.Facts.{Fact, FolderIn, FileIn, TokenOf, facts_of, Effect, IsFactOf}
+use Rattle.dm_facts.specs.Facts.{Fact, FolderIn, FileIn, TokenOf, Turned, facts_of, Effect, IsFactOf}
 use Rattle.dm_facts.specs.Steps.{Steps}
 use Rattle.dm_facts.specs.Sums.{FactsAt, AreFacts}
 use Rattle.dm_facts.specs.Runs.{StepsAll, SharesNone, AllAddNew}
@@ -53,15 +54,22 @@ module _ (I : Type 0) where
 
   holds_next : (s : NodeMap I) (p : Path) (x : Node I) (d : I) (n : Name) (a : Fact I) → s p ≡ Some x → IsNameIn p d n s → Contains (facts_of x d n) a → IsFactOf a s
   holds_next s p (Folder x) d n a i k c = elim (in_cases (FolderIn x d n) a [] c) [ inl e ↦ subst (λ z. IsFactOf z s) e (p, i, k) | inr e ↦ absurd (none_in_nil a e) ]
-  holds_next s p (FileWith x ts) d n a i k c = elim (in_cases (FileIn x d n) a (map (TokenOf x) ts) c) [
-    | inl e ↦ subst (λ z. IsFactOf z s) e (p, ts, i, k)
-    | inr e ↦ token ts (λ t m. m) e
+  holds_next s p (FileWith x hp ts) d n a i k c = elim (in_cases (FileIn x d n) a (map (TokenOf x) ts ++ map (Turned x) hp) c) [
+    | inl e ↦ subst (λ z. IsFactOf z s) e (p, hp, ts, i, k)
+    | inr e ↦ elim (Contains-append_cases (map (TokenOf x) ts) (map (Turned x) hp) a e) [ inl f ↦ token ts (λ t m. m) f | inr f ↦ replace hp (λ t m. m) f ]
   ]
     where
+      replace : (us : Heap) → ((r : HeapEntry) → Contains us r → Contains hp r) → Contains (map (Turned x) us) a → IsFactOf a s
+      replace [] inside e = absurd (none_in_nil a e)
+      replace (u ∷ us) inside e = elim (in_cases (Turned x u) a (map (Turned x) us) e) [
+        | inl f ↦ subst (λ z. IsFactOf z s) f (p, hp, ts, i, inside u (head_is_in u us))
+        | inr f ↦ replace us (λ t m. inside t (next_is_in u t us m)) f
+      ]
+
       token : (us : List (Token I)) → ((t : Token I) → Contains us t → Contains ts t) → Contains (map (TokenOf x) us) a → IsFactOf a s
       token [] inside e = absurd (none_in_nil a e)
       token (u ∷ us) inside e = elim (in_cases (TokenOf x u) a (map (TokenOf x) us) e) [
-        | inl f ↦ subst (λ z. IsFactOf z s) f (p, ts, i, inside u (head_is_in u us))
+        | inl f ↦ subst (λ z. IsFactOf z s) f (p, hp, ts, i, inside u (head_is_in u us))
         | inr f ↦ token us (λ t m. inside t (next_is_in u t us m)) f
       ]
 
@@ -91,16 +99,24 @@ module _ (I : Type 0) where
       no_top p n [] i j = cc
       no_top p n (x ∷ q) i j = cc
 
-  is_listed : (s : NodeMap I) (fs : List (Fact I)) → IsTree s → AreFacts s fs → (a : Fact I) → IsFactOf a s → Contains fs a
-  is_listed s fs tree all (FolderIn x d n) (p, i, k) = at_name s fs all p (Folder x) d n i k (FolderIn x d n) (head_is_in (FolderIn x d n) [])
-  is_listed s fs tree all (FileIn x d n) (p, c, i, k) = at_name s fs all p (FileWith x c) d n i k (FileIn x d n) (head_is_in (FileIn x d n) (map (TokenOf x) c))
-  is_listed s fs tree all (TokenOf x t) (p, c, i, m) =
-      let r = listed_facts s all.paths fs all.listed p (all.all p off (λ z. let y : Some (FileWith x c) ≡ None = sym i ∙ z in cc)) in
-      let node : FileWith x c ≡ r.0 = cc (i, r.3) in
-      r.5 (TokenOf x t) (rw (← node) (next_is_in (FileIn x r.1 r.2) (TokenOf x t) (map (TokenOf x) c) (map_is_in (TokenOf x) t c m)))
+  -- so is each fact that a file has besides where it stands
+  of_file : (s : NodeMap I) (fs : List (Fact I)) → IsTree s → AreFacts s fs → (p : Path) (x : I) (h : Heap) (c : List (Token I)) → s p ≡ Some (FileWith x h c) → (a : Fact I) →
+      Contains (map (TokenOf x) c ++ map (Turned x) h) a → Contains fs a
+  of_file s fs tree all p x h c i a m =
+      let r = listed_facts s all.paths fs all.listed p (all.all p off (λ z. let y : Some (FileWith x h c) ≡ None = sym i ∙ z in cc)) in
+      let node : FileWith x h c ≡ r.0 = cc (i, r.3) in
+      r.5 a (rw (← node) (next_is_in (FileIn x r.1 r.2) a (map (TokenOf x) c ++ map (Turned x) h) m))
     where
       off : p ≢ []
-      off j = let y : Some (Folder tree.root.0) ≡ Some (FileWith x c) = sym tree.root.1 ∙ ap s (sym j) ∙ i in cc
+      off j = let y : Some (Folder tree.root.0) ≡ Some (FileWith x h c) = sym tree.root.1 ∙ ap s (sym j) ∙ i in cc
+
+  is_listed : (s : NodeMap I) (fs : List (Fact I)) → IsTree s → AreFacts s fs → (a : Fact I) → IsFactOf a s → Contains fs a
+  is_listed s fs tree all (FolderIn x d n) (p, i, k) = at_name s fs all p (Folder x) d n i k (FolderIn x d n) (head_is_in (FolderIn x d n) [])
+  is_listed s fs tree all (FileIn x d n) (p, h, c, i, k) = at_name s fs all p (FileWith x h c) d n i k (FileIn x d n) (head_is_in (FileIn x d n) (map (TokenOf x) c ++ map (Turned x) h))
+  is_listed s fs tree all (TokenOf x t) (p, h, c, i, m) =
+      of_file s fs tree all p x h c i (TokenOf x t) (Contains-append_left (map (TokenOf x) c) (map (Turned x) h) (TokenOf x t) (map_is_in (TokenOf x) t c m))
+  is_listed s fs tree all (Turned x r) (p, h, c, i, m) =
+      of_file s fs tree all p x h c i (Turned x r) (Contains-append_right (map (TokenOf x) c) (map (Turned x) h) (Turned x r) (map_is_in (Turned x) r h m))
 
   -- what is new in one order is new in any
 

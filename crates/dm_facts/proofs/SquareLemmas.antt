@@ -1,5 +1,5 @@
 -- Both ways of a square make the same tree with identities, and each primitive has the same effect in both.
-use Rattle.std.proofs.Common.{◌≡◌, ◌≢◌, ℕ, List, [], ◌∷◌, ◌++◌, Option, Some, None, option_map, ◌⊎◌, inl, inr, refl, sym, ap, subst, ◌∙◌}
+use Rattle.std.proofs.Common.{◌≡◌, ◌≢◌, ℕ, List, [], ◌∷◌, ◌++◌, length, Option, Some, None, option_map, ◌⊎◌, inl, inr, refl, sym, ap, subst, ◌∙◌}
 use Rattle.dm_tree.specs.Paths.{Name, Path, Inside, Apart}
 use Rattle.dm_tree.specs.Trees.{Lines, Dir}
 use Rattle.dm_tree.proofs.Paths.{Place, in_left, in_right, outside, place, apart_sym, swap, swap-left, swap-right, swap-other, swap-swap, swap_inj, swap_turn, Clear, swap-append}
@@ -13,10 +13,12 @@ use Rattle.dm_prim.proofs.Ends.{dir_before, dir_after, passing_cross, inv_twice}
 use Rattle.dm_chain.specs.Chains.{Token, HunkSteps}
 use Rattle.dm_chain.proofs.Stepping.{steps_keep_chains}
 use Rattle.dm_chain.proofs.Commuted.{commuted_alike}
+use Rattle.dm_facts.specs.Heaps.{Heap, spelled}
 use Rattle.dm_facts.specs.Nodes.{Node, FileWith, NodeMap, entry_of, IsNameIn}
 use Rattle.dm_facts.specs.Facts.{Effect, inverse, stands}
 use Rattle.dm_facts.specs.Steps.{Edits, Makes, StepsAt, StepsMove, Steps}
 use Rattle.dm_facts.proofs.StepLemmas.{changes}
+use Rattle.dm_facts.proofs.TextLemmas.{as_many}
 use Rattle.dm_facts.proofs.Undoing.{parent_off, name_under, name_kept, works_back, moves_back}
 
 -- t with e at p
@@ -220,13 +222,13 @@ module _ (I : Type 0) where
 
   module _ (f : Path) (l1 l2 m k : ℕ) (o1 n1 o2 n2 : Lines) (x y : Effect I) (s t u : NodeMap I) (h : StepsAt f (Hunk l1 o1 n1) x s t) (j : StepsAt f (Hunk l2 o2 n2) y t u) where
     -- the file with these gaps and lines between
-    abbrev between : I → List (Token I) → NodeMap I
-    between file via = put s f (Some (FileWith file via))
+    abbrev pub between : I → Heap → List (Token I) → NodeMap I
+    between file heap via = put s f (Some (FileWith file heap via))
 
-    hunks_via : (p : Edits l1 o1 n1 (s f) (t f) x) (q : Edits l2 o2 n2 (t f) (u f) y) → q.file ≡ p.file → (via : List (Token I)) →
-        HunkSteps m o2 n2 q.taken q.added p.tokens via → HunkSteps k o1 n1 p.taken p.added via q.tokens' → BothStep (At f (Hunk m o2 n2)) (At f (Hunk k o1 n1)) y x s u
-    hunks_via p q one via left right = (
-      between p.file via,
+    hunks_via : (p : Edits l1 o1 n1 (s f) (t f) x) (q : Edits l2 o2 n2 (t f) (u f) y) → q.file ≡ p.file → q.heap ≡ p.heap → (via : List (Token I)) →
+        HunkSteps m q.was q.is q.taken q.added p.tokens via → HunkSteps k p.was p.is p.taken p.added via q.tokens' → BothStep (At f (Hunk m o2 n2)) (At f (Hunk k o1 n1)) y x s u
+    hunks_via p q one same via left right = (
+      between p.file p.heap via,
       record {
         directory = h.directory;
         name = h.name;
@@ -234,48 +236,63 @@ module _ (I : Type 0) where
         empty = λ i. absurd i;
         here = record {
           file = p.file;
+          heap = p.heap;
           tokens = p.tokens;
           tokens' = via;
           taken = q.taken;
           added = q.added;
+          was = q.was;
+          is = q.is;
           stood = p.stood;
-          there = put_same s f (Some (FileWith p.file via));
+          there = put_same s f (Some (FileWith p.file p.heap via));
           is_file = p.is_file;
+          old_is = rw (← same) q.old_is;
+          new_is = rw (← same) q.new_is;
           replaced = left;
           effect = rw (← one) q.effect;
         };
-        elsewhere = λ z n. put_other s f (Some (FileWith p.file via)) z n;
+        elsewhere = λ z n. put_other s f (Some (FileWith p.file p.heap via)) z n;
       },
       record {
         directory = h.directory;
         name = h.name;
-        placed = name_kept I f h.directory h.name s (between p.file via) h.placed (put_other s f (Some (FileWith p.file via)) h.placed.parent (λ i. child_differs f h.name (sym (rw i at h.placed.is))));
+        placed = name_kept I f h.directory h.name s (between p.file p.heap via) h.placed (put_other s f (Some (FileWith p.file p.heap via)) h.placed.parent (λ i. child_differs f h.name (sym (rw i at h.placed.is))));
         empty = λ i. absurd i;
         here = record {
           file = p.file;
+          heap = p.heap;
           tokens = via;
           tokens' = q.tokens';
           taken = p.taken;
           added = p.added;
-          stood = put_same s f (Some (FileWith p.file via));
-          there = q.there ∙ ap (λ z. Some (FileWith z q.tokens')) one;
-          is_file = (p.is_file.0, steps_keep_chains I p.file p.is_file.0 m o2 n2 q.taken q.added p.tokens via p.is_file.1 left);
+          was = p.was;
+          is = p.is;
+          stood = put_same s f (Some (FileWith p.file p.heap via));
+          there = q.there ∙ ap (λ z. Some (FileWith z q.heap q.tokens')) one ∙ ap (λ z. Some (FileWith p.file z q.tokens')) same;
+          is_file = (p.is_file.0, steps_keep_chains I p.file p.is_file.0 m q.was q.is q.taken q.added p.tokens via p.is_file.1 left, p.is_file.2);
+          old_is = p.old_is;
+          new_is = p.new_is;
           replaced = right;
           effect = p.effect;
         };
-        elsewhere = λ z n. j.elsewhere z n ∙ h.elsewhere z n ∙ sym (put_other s f (Some (FileWith p.file via)) z n);
+        elsewhere = λ z n. j.elsewhere z n ∙ h.elsewhere z n ∙ sym (put_other s f (Some (FileWith p.file p.heap via)) z n);
       },
     )
 
-    hunks_step : TableRow (At f (Hunk l1 o1 n1)) (At f (Hunk l2 o2 n2)) (At f (Hunk m o2 n2)) (At f (Hunk k o1 n1)) → BothStep (At f (Hunk m o2 n2)) (At f (Hunk k o1 n1)) y x s u
+    -- the row holds of the symbols too, as of all lines of these counts
+    hunks_step : ((w1 i1 w2 i2 : Lines) → length w1 ≡ length o1 → length i1 ≡ length n1 → length w2 ≡ length o2 → length i2 ≡ length n2 →
+        TableRow (At f (Hunk l1 w1 i1)) (At f (Hunk l2 w2 i2)) (At f (Hunk m w2 i2)) (At f (Hunk k w1 i1))) → BothStep (At f (Hunk m o2 n2)) (At f (Hunk k o1 n1)) y x s u
     hunks_step row = go h.here j.here
       where
         go : Edits l1 o1 n1 (s f) (t f) x → Edits l2 o2 n2 (t f) (u f) y → BothStep (At f (Hunk m o2 n2)) (At f (Hunk k o1 n1)) y x s u
         go p q =
             let one : q.file ≡ p.file = cc (p.there, q.stood) in
+            let heap : q.heap ≡ p.heap = cc (p.there, q.stood) in
             let same : q.tokens ≡ p.tokens' = cc (p.there, q.stood) in
-            let r = commuted_alike I p.file p.is_file.0 f l1 l2 m k o1 n1 o2 n2 o1 n1 o2 n2 p.taken p.added q.taken q.added p.tokens p.tokens' q.tokens' row p.is_file.1 p.replaced (rw same at q.replaced) in
-            hunks_via p q one r.0 r.1 r.2
+            let of_symbols = row p.was p.is q.was q.is
+            (as_many (spelled p.heap) p.was o1 p.old_is) (as_many (spelled p.heap) p.is n1 p.new_is) (as_many (spelled q.heap) q.was o2 q.old_is) (as_many (spelled q.heap) q.is n2 q.new_is) in
+            let r = commuted_alike I p.file p.is_file.0 f l1 l2 m k p.was p.is q.was q.is p.was p.is q.was q.is p.taken p.added q.taken q.added p.tokens p.tokens' q.tokens' of_symbols p.is_file.1 p.replaced (rw same at q.replaced) in
+            hunks_via p q one heap r.0 r.1 r.2
 
   -- work, then a move
 
@@ -288,9 +305,9 @@ module _ (I : Type 0) where
   any_name (Binary old new) d d' n n' o o' e i h = h
   any_name (Replace set old new) d d' n n' o o' e i h = h
 
-  file_alike : (f : I) (c c' : List (Token I)) (o o' : Option (Node I)) (x : Node I) → o ≡ Some (FileWith f c) → o' ≡ Some (FileWith f c') → o' ≡ Some x →
+  file_alike : (f : I) (h h' : Heap) (c c' : List (Token I)) (o o' : Option (Node I)) (x : Node I) → o ≡ Some (FileWith f h c) → o' ≡ Some (FileWith f h' c') → o' ≡ Some x →
       (y : Node I) × (o ≡ Some y) × ((d : I) (n : Name) → stands y d n ≡ stands x d n)
-  file_alike f c c' o o' x stood there j = let z : FileWith f c' ≡ x = (cc (there, j)) in (FileWith f c, stood, λ d n. rw (← z))
+  file_alike f h h' c c' o o' x stood there j = let z : FileWith f h' c' ≡ x = (cc (there, j)) in (FileWith f h c, stood, λ d n. rw (← z))
 
   -- what work finds that keeps the file stands where what it leaves does
   stands_alike : (w : Work) (d : I) (n : Name) (o o' : Option (Node I)) (e : Effect I) (x : Node I) → KeepsFile w → Makes w d n o o' e → o' ≡ Some x →
@@ -299,9 +316,9 @@ module _ (I : Type 0) where
   stands_alike RmFile d n o o' e x i h j = absurd i
   stands_alike AddDir d n o o' e x i h j = absurd i
   stands_alike RmDir d n o o' e x i h j = absurd i
-  stands_alike (Hunk l old new) d n o o' e x i h j = file_alike h.file h.tokens h.tokens' o o' x h.stood h.there j
-  stands_alike (Binary old new) d n o o' e x i h j = file_alike h.exchange.file h.exchange.tokens h.exchange.tokens' o o' x h.exchange.stood h.exchange.there j
-  stands_alike (Replace set old new) d n o o' e x i h j = file_alike h.exchange.file h.exchange.tokens h.exchange.tokens' o o' x h.exchange.stood h.exchange.there j
+  stands_alike (Hunk l old new) d n o o' e x i h j = file_alike h.file h.heap h.heap h.tokens h.tokens' o o' x h.stood h.there j
+  stands_alike (Binary old new) d n o o' e x i h j = file_alike h.file h.heap h.heap h.tokens h.tokens' o o' x h.stood h.there j
+  stands_alike (Replace set old new) d n o o' e x i h j = file_alike h.file h.heap h.heap' h.tokens h.tokens o o' x h.stood h.there j
 
   work_then_move : (f : Path) (w : Work) (a b : Path) → Beside f w a b → (x y : Effect I) (s t u : NodeMap I) → StepsAt f w x s t → StepsMove a b y t u → BothStep (Move a b) (At (swap a b f) w) y x s u
   work_then_move f w a b c x y s t u h k = (m, moves_from a b y s m first, second (path_dec f a))
@@ -381,8 +398,10 @@ module _ (I : Type 0) where
       (r.0, rw (swap_turn b a (swap a b f) (apart_sym d), swap-swap a b f d, inv_twice w) at v, moves_back I b a (inverse x) u r.0 r.1)
 
   pub square_steps : {p q q' p' : Prim} → Square p q q' p' → (e f : Effect I) (s t u : NodeMap I) → Steps p e s t → Steps q f t u → BothStep q' p' f e s u
-  square_steps (hunk_down {f} {l1} {l2} {l2'} {o1} {n1} {o2} {n2} c e) x y s t u h k = hunks_step f l1 l2 l2' l1 o1 n1 o2 n2 x y s t u h k (row_from (hunk_down c e))
-  square_steps (hunk_up {f} {l1} {l2} {l1'} {o1} {n1} {o2} {n2} c e) x y s t u h k = hunks_step f l1 l2 l2 l1' o1 n1 o2 n2 x y s t u h k (row_from (hunk_up c e))
+  square_steps (hunk_down {f} {l1} {l2} {l2'} {o1} {n1} {o2} {n2} c e) x y s t u h k =
+      hunks_step f l1 l2 l2' l1 o1 n1 o2 n2 x y s t u h k (λ w1 i1 w2 i2 a b g d. row_from (hunk_down {o1 = w1} {n1 = i1} {o2 = w2} {n2 = i2} (rw (a, b, g, d) c) (rw (a, b) e)))
+  square_steps (hunk_up {f} {l1} {l2} {l1'} {o1} {n1} {o2} {n2} c e) x y s t u h k =
+      hunks_step f l1 l2 l2 l1' o1 n1 o2 n2 x y s t u h k (λ w1 i1 w2 i2 a b g d. row_from (hunk_up {o1 = w1} {n1 = i1} {o2 = w2} {n2 = i2} (rw (a, b, g, d) c) (rw (g, d) e)))
   square_steps (free {f} {g} {w} {v} c) x y s t u h k = works_step f w g v c x y s t u h k
   square_steps (then_move {f} {f'} {a} {b} {w} c e) x y s t u h k = rw e (work_then_move f w a b c x y s t u h k)
   square_steps (move_then {f} {f'} {a} {b} {w} c e) x y s t u h k = move_then_work f w a b c x y s t u h (rw e at k)

@@ -5,10 +5,11 @@ use Rattle.dm_tree.specs.Trees.{Entry, Dir, File, HasParent, empty_file}
 use Rattle.dm_prim.specs.Primitives.{Work, AddFile, RmFile, AddDir, RmDir, Hunk, Binary, Replace, Prim, At, Move, ChangePref, Changes, Around, Applies}
 use Rattle.dm_chain.specs.Chains.{lines_of}
 use Rattle.dm_chain.proofs.Stepping.{steps_replace}
-use Rattle.dm_facts.specs.Nodes.{Node, Folder, FileWith, NodeMap, IsFolder, IsEmptyFile, entry_of, plain, IsNameIn}
+use Rattle.dm_facts.specs.Heaps.{spelled}
+use Rattle.dm_facts.specs.Nodes.{Node, Folder, FileWith, NodeMap, texts_of, IsFolder, IsEmptyFile, entry_of, plain, IsNameIn}
 use Rattle.dm_facts.specs.Facts.{Effect}
 use Rattle.dm_facts.specs.Steps.{Creates, Makes, StepsAt, Steps}
-use Rattle.dm_facts.proofs.TurnedTokens.{lines_turn}
+use Rattle.dm_facts.proofs.TextLemmas.{none_left, texts_replaced}
 
 module _ (I : Type 0) where
   parent_of : (p : Path) (d : I) (n : Name) (s : NodeMap I) → IsNameIn p d n s → HasParent p (plain s)
@@ -20,29 +21,27 @@ module _ (I : Type 0) where
 
   empty_is : (x : Node I) → IsEmptyFile x → entry_of x ≡ empty_file
   empty_is (Folder x) h = absurd h
-  empty_is (FileWith x c) h = ap File h.1
+  empty_is (FileWith x k c) h = ap File h.1
 
   folder_is : (x : Node I) → IsFolder x → entry_of x ≡ Dir
   folder_is (Folder x) h = refl
-  folder_is (FileWith x c) h = absurd h
+  folder_is (FileWith x k c) h = absurd h
 
   pub changes : (w : Work) (d : I) (n : Name) (o o' : Option (Node I)) (e : Effect I) → Makes w d n o o' e → Changes w (option_map entry_of o) (option_map entry_of o')
   changes AddFile d n o o' e c = creates IsEmptyFile empty_file empty_is d n o o' e c
   changes RmFile d n o o' e c = let h = creates IsEmptyFile empty_file empty_is d n o' o (record { taken = e.added; added = e.taken }) c in (h.1, h.0)
   changes AddDir d n o o' e c = creates IsFolder Dir folder_is d n o o' e c
   changes RmDir d n o o' e c = let h = creates IsFolder Dir folder_is d n o' o (record { taken = e.added; added = e.taken }) c in (h.1, h.0)
-  changes (Hunk l old new) d n o o' e c = (lines_of c.tokens, lines_of c.tokens', ap (option_map entry_of) c.stood, ap (option_map entry_of) c.there, steps_replace I l old new c.taken c.added c.tokens c.tokens' c.replaced)
+  changes (Hunk l old new) d n o o' e c = (
+    texts_of c.heap c.tokens,
+    texts_of c.heap c.tokens',
+    ap (option_map entry_of) c.stood,
+    ap (option_map entry_of) c.there,
+    rw (← c.old_is, ← c.new_is) (texts_replaced (spelled c.heap) l c.was c.is (lines_of c.tokens) (lines_of c.tokens') (steps_replace I l c.was c.is c.taken c.added c.tokens c.tokens' c.replaced)),
+  )
   changes (Binary old new) d n o o' e c =
-      let a = c.exchange in
-      (ap (option_map entry_of) a.stood ∙ ap (λ z. Some (File z)) c.old_is, ap (option_map entry_of) a.there ∙ ap (λ z. Some (File z)) c.new_is, λ z. a.is_file.1.has_lines (c.new_is ∙ z))
-  changes (Replace set old new) d n o o' e c =
-      let a = c.exchange in (
-        lines_of a.tokens,
-        lines_of a.tokens',
-        ap (option_map entry_of) a.stood,
-        ap (option_map entry_of) a.there,
-        record { tokens = c.words; turned = lines_turn I c.words.set old new a.tokens a.tokens' c.turned; left = a.is_file.1.has_lines; was_small = c.was_small; is_small = c.is_small },
-      )
+      (ap (option_map entry_of) c.stood ∙ ap (λ z. Some (File z)) c.old_is, ap (option_map entry_of) c.there ∙ ap (λ z. Some (File z)) c.new_is, λ z. c.is_file.1.has_lines (none_left (spelled c.heap) (lines_of c.tokens') (c.new_is ∙ z)))
+  changes (Replace set old new) d n o o' e c = (texts_of c.heap c.tokens, texts_of c.heap' c.tokens, ap (option_map entry_of) c.stood, ap (option_map entry_of) c.there, c.turned)
 
   around : (w : Work) (p : Path) (e : Effect I) (s t : NodeMap I) → StepsAt p w e s t → Around w p (plain s)
   around AddFile p e s t h = parent_of p h.directory h.name s h.placed

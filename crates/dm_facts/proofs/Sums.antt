@@ -2,7 +2,7 @@
 use Rattle.std.proofs.Common.{◌≡◌, ◌≢◌, ◌⊎◌, inl, inr, List, [], ◌∷◌, ◌++◌, map, Some, None, Contains, refl, sym, ap, subst, ◌∙◌, append-nil, append_assoc}
 use Rattle.std.specs.List.Sorted.{IsPermutation}
 use Rattle.std.proofs.lemmas.List.{map-append}
-use Rattle.std.proofs.lemmas.List.Sorted.{IsPermutation-refl, IsPermutation-trans, IsPermutation-cons, IsPermutation-map, IsPermutation-append_comm, IsPermutation-append_left, IsPermutation-append_right}
+use Rattle.std.proofs.lemmas.List.Sorted.{IsPermutation-refl, IsPermutation-sym, IsPermutation-trans, IsPermutation-cons, IsPermutation-map, IsPermutation-append_comm, IsPermutation-append_left, IsPermutation-append_right}
 use Rattle.dm_tree.specs.Paths.{Name, Path}
 use Rattle.dm_tree.proofs.Paths.{swap, swap-swap, swap-other, swap_inj}
 use Rattle.dm_tree.proofs.Trees.{snoc_inj}
@@ -13,14 +13,17 @@ use Rattle.dm_chain.specs.Chains.{Token, Distinct}
 use Rattle.dm_chain.proofs.Members.{none_in_nil, head_is_in, it_is_in, next_is_in, in_cases, map_is_in}
 use Rattle.dm_chain.proofs.Determined.{keep_the_sum}
 use Rattle.dm_chain.proofs.Adding.{last_exchanged}
+use Rattle.dm_tokens.specs.Validity.{TokenWords}
+use Rattle.dm_facts.specs.Heaps.{Heap, entry_on, put_on}
 use Rattle.dm_facts.specs.Nodes.{Node, Folder, FileWith, NodeMap, IsFolder, IsEmptyFile, IsNameIn}
-use Rattle.dm_facts.specs.Facts.{Fact, FileIn, TokenOf, stands, facts_of, Effect, inverse}
-use Rattle.dm_facts.specs.Steps.{Creates, Exchanges, StepsAt, StepsMove}
+use Rattle.dm_facts.specs.Facts.{Fact, FileIn, TokenOf, Turned, stands, facts_of, Effect, inverse}
+use Rattle.dm_facts.specs.Steps.{Creates, PutsOn, StepsAt, StepsMove}
 use Rattle.dm_facts.specs.Sums.{FactsAt, AreFacts}
 use Rattle.dm_facts.specs.Laws.{StepsKeepTheSum}
 use Rattle.dm_facts.proofs.Undoing.{name_kept, moved_node, moved_name}
 use Rattle.dm_facts.proofs.SquareLemmas.{Swaps, swaps_from, name_swapped}
 use Rattle.dm_facts.proofs.Kept.{off_root}
+use Rattle.dm_facts.proofs.HeapLemmas.{put_permutes}
 
 module _ {X : Type 0} where
   -- x put in between two parts of what is a permutation
@@ -130,10 +133,29 @@ module _ (I : Type 0) where
   map-same [] = refl
   map-same (p ∷ ps) = ap (λ z. p ∷ z) (map-same ps)
 
-  edited_facts : (x d : I) (n : Name) (c c' taken added : List (Token I)) → IsPermutation (c ++ added) (c' ++ taken) →
-      IsPermutation (facts_of (FileWith x c) d n ++ map (TokenOf x) added) (facts_of (FileWith x c') d n ++ map (TokenOf x) taken)
-  edited_facts x d n c c' taken added h = IsPermutation-cons (FileIn x d n) (map (TokenOf x) c ++ map (TokenOf x) added) (map (TokenOf x) c' ++ map (TokenOf x) taken)
-      (rw (map-append (TokenOf x) c added, map-append (TokenOf x) c' taken) at (IsPermutation-map (TokenOf x) (c ++ added) (c' ++ taken) h))
+  edited_facts : (x d : I) (n : Name) (h : Heap) (c c' taken added : List (Token I)) → IsPermutation (c ++ added) (c' ++ taken) →
+      IsPermutation (facts_of (FileWith x h c) d n ++ map (TokenOf x) added) (facts_of (FileWith x h c') d n ++ map (TokenOf x) taken)
+  edited_facts x d n h c c' taken added sum =
+      let m = map (TokenOf x) in
+      IsPermutation-cons (FileIn x d n) ((m c ++ map (Turned x) h) ++ m added) ((m c' ++ map (Turned x) h) ++ m taken)
+      (beside_rest (m c ++ map (Turned x) h) (m c) (m c') (map (Turned x) h) (m added) (m taken) (IsPermutation-refl (m c ++ map (Turned x) h))
+      (rw (map-append (TokenOf x) c added, map-append (TokenOf x) c' taken) at (IsPermutation-map (TokenOf x) (c ++ added) (c' ++ taken) sum)))
+
+  -- a replace that is put on the heap is one fact more
+  turned_facts : (x d : I) (n : Name) (w : TokenWords) (h : Heap) (c : List (Token I)) →
+      IsPermutation (facts_of (FileWith x h c) d n ++ Turned x (entry_on w h) ∷ []) (facts_of (FileWith x (put_on w h) c) d n ++ [])
+  turned_facts x d n w h c =
+      let m = map (TokenOf x) c in
+      let r = Turned x (entry_on w h) in
+      let on : IsPermutation (map (Turned x) h ++ r ∷ []) (map (Turned x) (put_on w h)) =
+      IsPermutation-trans (map (Turned x) h ++ r ∷ []) (r ∷ map (Turned x) h) (map (Turned x) (put_on w h)) (IsPermutation-append_comm (map (Turned x) h) (r ∷ []))
+      (IsPermutation-map (Turned x) (entry_on w h ∷ h) (put_on w h) (put_permutes (entry_on w h) h)) in
+      IsPermutation-cons (FileIn x d n) ((m ++ map (Turned x) h) ++ r ∷ []) ((m ++ map (Turned x) (put_on w h)) ++ [])
+      (rw (append-nil (m ++ map (Turned x) (put_on w h)), append_assoc m (map (Turned x) h) (r ∷ [])) (IsPermutation-append_right m (map (Turned x) h ++ r ∷ []) (map (Turned x) (put_on w h)) on))
+
+  put_facts : (x d : I) (n : Name) (w : TokenWords) (h h' : Heap) (c : List (Token I)) (e : Effect I) → PutsOn x w h h' e →
+      IsPermutation (facts_of (FileWith x h c) d n ++ e.added) (facts_of (FileWith x h' c) d n ++ e.taken)
+  put_facts x d n w h h' c e k = rw (k.on, ap (λ z. z.taken) k.effect, ap (λ z. z.added) k.effect) (turned_facts x d n w h c)
 
   module _ (p : Path) (s t : NodeMap I) (elsewhere : (q : Path) → q ≢ p → t q ≡ s q) (fs : List (Fact I)) (all : AreFacts s fs) where
     -- where p isn't a directory that holds something, the facts of other paths stay
@@ -202,34 +224,33 @@ module _ (I : Type 0) where
             found q nr k (inl j) = absurd (k (ap t j ∙ c.nothing))
             found q nr k (inr j) = elim (r.cases q (all.all q nr (λ i. k (elsewhere q j ∙ i)))) [ inl a ↦ absurd (j a) | inr a ↦ a ]
 
-    -- a file whose gaps and lines give way to others, as a sum
-    replaces : (x : I) (c c' taken added : List (Token I)) (e : Effect I) → s p ≡ Some (FileWith x c) → t p ≡ Some (FileWith x c') → IsPermutation (c ++ added) (c' ++ taken) →
-        e ≡ record { taken = map (TokenOf x) taken; added = map (TokenOf x) added } → p ≢ [] → Result t e fs
-    replaces x c c' taken added e stood after sum effect nr = go (there (FileWith x c) stood nr)
+    -- a file that keeps its identity, as a sum
+    changes : (x : I) (h h' : Heap) (c c' : List (Token I)) (e : Effect I) → s p ≡ Some (FileWith x h c) → t p ≡ Some (FileWith x h' c') →
+        ((d : I) (n : Name) → IsPermutation (facts_of (FileWith x h c) d n ++ e.added) (facts_of (FileWith x h' c') d n ++ e.taken)) → p ≢ [] → Result t e fs
+    changes x h h' c c' e stood after sum nr = go (there (FileWith x h c) stood nr)
       where
         go : Split s p all.paths fs → Result t e fs
         go r =
             let apart = r.apart all.distinct in
-            let node : r.node ≡ FileWith x c = cc (r.there, stood) in (
-              facts_of (FileWith x c') r.directory r.name ++ r.rest,
+            let node : r.node ≡ FileWith x h c = cc (r.there, stood) in (
+              facts_of (FileWith x h' c') r.directory r.name ++ r.rest,
               record {
                 paths = p ∷ r.others;
                 distinct = (apart.1, apart.0);
                 all = λ q nr k. found q nr k (path_dec q p);
                 listed = (
-                  FileWith x c',
+                  FileWith x h' c',
                   r.directory,
                   r.name,
                   r.rest,
                   after,
                   name_stays p p r.directory r.name s t elsewhere r.placed (λ j. child_differs p r.name (sym (rw j at r.placed.is))),
                   refl,
-                  others_stay r.others r.rest r.listed apart.1 (λ d q n m i. let z : Some (FileWith x c) ≡ Some (Folder d) = sym stood ∙ i in absurd (cc)),
+                  others_stay r.others r.rest r.listed apart.1 (λ d q n m i. let z : Some (FileWith x h c) ≡ Some (Folder d) = sym stood ∙ i in absurd (cc)),
                 );
               },
-              rw effect (beside_rest fs (facts_of (FileWith x c) r.directory r.name) (facts_of (FileWith x c') r.directory r.name) r.rest (map (TokenOf x) added) (map (TokenOf x) taken)
-                  (subst (λ z. IsPermutation fs (facts_of z r.directory r.name ++ r.rest)) node r.parts)
-                  (edited_facts x r.directory r.name c c' taken added sum)),
+              beside_rest fs (facts_of (FileWith x h c) r.directory r.name) (facts_of (FileWith x h' c') r.directory r.name) r.rest e.added e.taken
+                  (subst (λ z. IsPermutation fs (facts_of z r.directory r.name ++ r.rest)) node r.parts) (sum r.directory r.name),
             )
           where
             found : (q : Path) → q ≢ [] → t q ≢ None → (q ≡ p) ⊎ (q ≢ p) → Contains (p ∷ r.others) q
@@ -239,8 +260,8 @@ module _ (I : Type 0) where
   -- where a node stands is one of its facts
   stands_exchanged : (x : Node I) (d d' : I) (n n' : Name) → IsPermutation (facts_of x d n ++ stands x d' n' ∷ []) (facts_of x d' n' ++ stands x d n ∷ [])
   stands_exchanged (Folder x) d d' n n' = IsPermutation-append_comm (facts_of (Folder x) d n) (stands (Folder x) d' n' ∷ [])
-  stands_exchanged (FileWith x c) d d' n n' =
-      let a = FileIn x d n in let b = FileIn x d' n' in let m = map (TokenOf x) c in
+  stands_exchanged (FileWith x h c) d d' n n' =
+      let a = FileIn x d n in let b = FileIn x d' n' in let m = map (TokenOf x) c ++ map (Turned x) h in
       IsPermutation-trans ((a ∷ m) ++ b ∷ []) ((b ∷ []) ++ (a ∷ m)) ((b ∷ m) ++ a ∷ []) (IsPermutation-append_comm (a ∷ m) (b ∷ []))
       (IsPermutation-cons b (a ∷ m) (m ++ a ∷ []) (IsPermutation-append_comm (a ∷ []) m))
 
@@ -310,10 +331,6 @@ module _ (I : Type 0) where
           bare : (q : Path) (x : Node I) → s q ≡ Some x → q ≢ b
           bare q x i j = let z : Some x ≡ None = sym i ∙ ap s (j ∙ sym (append-nil b)) ∙ h.free [] in cc
 
-  exchanged : (p : Path) (e : Effect I) (s t : NodeMap I) (fs : List (Fact I)) → AreFacts s fs → ((q : Path) → q ≢ p → t q ≡ s q) → Exchanges (s p) (t p) e → p ≢ [] → Result t e fs
-  exchanged p e s t fs all elsewhere k nr =
-      replaces p s t elsewhere fs all k.file k.tokens k.tokens' k.tokens k.tokens' e k.stood k.there (IsPermutation-append_comm k.tokens k.tokens') k.effect nr
-
   works : (p : Path) (w : Work) (e : Effect I) (s t : NodeMap I) (fs : List (Fact I)) → AreFacts s fs → StepsAt p w e s t → p ≢ [] → Result t e fs
   works p AddFile e s t fs all h nr = adds p s t h.elsewhere fs all IsEmptyFile h.directory h.name e h.here h.placed
   works p RmFile e s t fs all h nr = removes p s t h.elsewhere fs all IsEmptyFile h.directory h.name e h.here h.placed nr (λ d i n r. absurd (no_folder h.here d i))
@@ -324,9 +341,20 @@ module _ (I : Type 0) where
   works p RmDir e s t fs all h nr = removes p s t h.elsewhere fs all IsFolder h.directory h.name e h.here h.placed nr (λ d i n r. h.empty tt n r)
   works p (Hunk l old new) e s t fs all h nr =
       let k = h.here in
-      replaces p s t h.elsewhere fs all k.file k.tokens k.tokens' k.taken k.added e k.stood k.there (keep_the_sum I l old new k.taken k.added k.tokens k.tokens' k.replaced) k.effect nr
-  works p (Binary old new) e s t fs all h nr = exchanged p e s t fs all h.elsewhere h.here.exchange nr
-  works p (Replace set old new) e s t fs all h nr = exchanged p e s t fs all h.elsewhere h.here.exchange nr
+      changes p s t h.elsewhere fs all k.file k.heap k.heap k.tokens k.tokens' e k.stood k.there
+      (λ d n. rw k.effect (edited_facts k.file d n k.heap k.tokens k.tokens' k.taken k.added (keep_the_sum I l k.was k.is k.taken k.added k.tokens k.tokens' k.replaced))) nr
+  works p (Binary old new) e s t fs all h nr =
+      let k = h.here in
+      changes p s t h.elsewhere fs all k.file k.heap k.heap k.tokens k.tokens' e k.stood k.there
+      (λ d n. rw k.effect (edited_facts k.file d n k.heap k.tokens k.tokens' k.tokens k.tokens' (IsPermutation-append_comm k.tokens k.tokens'))) nr
+  works p (Replace set old new) e s t fs all h nr =
+      let k = h.here in
+      changes p s t h.elsewhere fs all k.file k.heap k.heap' k.tokens k.tokens e k.stood k.there
+      (λ d n. elim k.change [
+        | inl m ↦ put_facts k.file d n (record { set = set; old = old; new = new }) k.heap k.heap' k.tokens e m
+        | inr m ↦ IsPermutation-sym (facts_of (FileWith k.file k.heap' k.tokens) d n ++ e.taken) (facts_of (FileWith k.file k.heap k.tokens) d n ++ e.added)
+            (put_facts k.file d n (record { set = set; old = new; new = old }) k.heap' k.heap k.tokens (inverse e) m)
+      ]) nr
 
   pub steps_keep_the_sum : StepsKeepTheSum I
   steps_keep_the_sum (At p w) e s t fs all h = works p w e s t fs all h (off_root I (At p w) e s t h)

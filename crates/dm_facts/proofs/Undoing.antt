@@ -1,16 +1,19 @@
 -- What a primitive did to a tree with identities is undone by its inverse.
-use Rattle.std.proofs.Common.{◌≡◌, ◌≢◌, [], ◌∷◌, ◌++◌, Option, Some, sym, ap, ◌∙◌, append_assoc, append-nil}
+use Rattle.std.proofs.Common.{◌≡◌, ◌≢◌, inl, inr, [], ◌∷◌, ◌++◌, Option, Some, sym, ap, ◌∙◌, append_assoc, append-nil}
 use Rattle.std.proofs.lemmas.List.{append_cancel_left}
 use Rattle.dm_tree.specs.Paths.{Name, Path, Under}
 use Rattle.dm_tree.proofs.Paths.{apart_sym, under_append, under_trans}
 use Rattle.dm_prim.specs.Primitives.{Work, AddFile, RmFile, AddDir, RmDir, Hunk, Binary, Replace, Prim, At, Move, ChangePref, inv_work, inv}
 use Rattle.dm_prim.proofs.Maps.{child_differs}
 use Rattle.dm_prim.proofs.Squares.{dir_inv}
+use Rattle.dm_prim.proofs.TurnedLines.{turned_back}
+use Rattle.dm_chain.specs.Chains.{lines_of}
 use Rattle.dm_chain.proofs.Stepping.{steps_keep_chains, inverses_step_back}
-use Rattle.dm_facts.specs.Nodes.{Node, NodeMap, IsNameIn}
+use Rattle.dm_facts.specs.Heaps.{spelled}
+use Rattle.dm_facts.specs.Nodes.{Node, NodeMap, texts_of, IsNameIn}
 use Rattle.dm_facts.specs.Facts.{Effect, inverse}
-use Rattle.dm_facts.specs.Steps.{Exchanges, Makes, StepsAt, StepsMove, Steps}
-use Rattle.dm_facts.proofs.TurnedTokens.{tokens_back, words_back}
+use Rattle.dm_facts.specs.Steps.{Makes, StepsAt, StepsMove, Steps}
+use Rattle.dm_facts.proofs.TextLemmas.{none_left}
 
 nonempty : (r : Path) (n : Name) → r ++ n ∷ [] ≡ [] → ⊥
 nonempty [] n e = cc
@@ -36,18 +39,6 @@ module _ (I : Type 0) where
   pub name_kept : (p : Path) (d : I) (n : Name) (s t : NodeMap I) (h : IsNameIn p d n s) → t h.parent ≡ s h.parent → IsNameIn p d n t
   name_kept p d n s t h e = record { parent = h.parent; is = h.is; folder = e ∙ h.folder }
 
-  abbrev exchanged_back : (o o' : Option (Node I)) (e : Effect I) → Exchanges o o' e → Exchanges o' o (inverse e)
-  exchanged_back o o' e c = record {
-    file = c.file;
-    tokens = c.tokens';
-    tokens' = c.tokens;
-    stood = c.there;
-    there = c.stood;
-    was_file = c.is_file;
-    is_file = c.was_file;
-    effect = ap inverse c.effect;
-  }
-
   makes_back : (w : Work) (d : I) (n : Name) (o o' : Option (Node I)) (e : Effect I) → Makes w d n o o' e → Makes (inv_work w) d n o' o (inverse e)
   makes_back AddFile d n o o' e c = c
   makes_back RmFile d n o o' e c = c
@@ -55,23 +46,45 @@ module _ (I : Type 0) where
   makes_back RmDir d n o o' e c = c
   makes_back (Hunk l old new) d n o o' e c = record {
     file = c.file;
+    heap = c.heap;
     tokens = c.tokens';
     tokens' = c.tokens;
     taken = c.added;
     added = c.taken;
+    was = c.is;
+    is = c.was;
     stood = c.there;
     there = c.stood;
-    is_file = (c.is_file.0, steps_keep_chains I c.file c.is_file.0 l old new c.taken c.added c.tokens c.tokens' c.is_file.1 c.replaced);
-    replaced = (inverses_step_back I l old new c.taken c.added c.tokens c.tokens').0 c.replaced;
+    is_file = (c.is_file.0, steps_keep_chains I c.file c.is_file.0 l c.was c.is c.taken c.added c.tokens c.tokens' c.is_file.1 c.replaced, c.is_file.2);
+    old_is = c.new_is;
+    new_is = c.old_is;
+    replaced = (inverses_step_back I l c.was c.is c.taken c.added c.tokens c.tokens').0 c.replaced;
     effect = ap inverse c.effect;
   }
-  makes_back (Binary old new) d n o o' e c = record { exchange = exchanged_back o o' e c.exchange; old_is = c.new_is; new_is = c.old_is }
+  makes_back (Binary old new) d n o o' e c = record {
+    file = c.file;
+    heap = c.heap;
+    tokens = c.tokens';
+    tokens' = c.tokens;
+    stood = c.there;
+    there = c.stood;
+    was_file = c.is_file;
+    is_file = c.was_file;
+    old_is = c.new_is;
+    new_is = c.old_is;
+    effect = ap inverse c.effect;
+  }
   makes_back (Replace set old new) d n o o' e c = record {
-    exchange = exchanged_back o o' e c.exchange;
-    words = words_back set old new c.words;
-    turned = tokens_back I c.words.set old new c.words.old_token c.words.new_token c.exchange.tokens c.exchange.tokens' c.turned;
-    was_small = c.is_small;
-    is_small = c.was_small;
+    file = c.file;
+    heap = c.heap';
+    heap' = c.heap;
+    tokens = c.tokens;
+    stood = c.there;
+    there = c.stood;
+    was_file = c.is_file;
+    is_file = c.was_file;
+    turned = turned_back set old new (texts_of c.heap c.tokens) (texts_of c.heap' c.tokens) c.turned (λ z. c.was_file.1.has_lines (none_left (spelled c.heap) (lines_of c.tokens) z));
+    change = elim c.change [ inl k ↦ inr k | inr k ↦ inl k ];
   }
 
   pub works_back : (p : Path) (w : Work) (e : Effect I) (s t : NodeMap I) → StepsAt p w e s t → StepsAt p (inv_work w) (inverse e) t s

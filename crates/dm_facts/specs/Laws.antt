@@ -1,10 +1,12 @@
 -- What holds of all trees with identities, and of what primitives do to them.
-use Rattle.std.specs.Prelude.{◌≡◌, ◌≤◌, ◌↔◌, List, [], ◌++◌, length}
+use Rattle.std.specs.Prelude.{◌≡◌, ◌≤◌, ◌↔◌, ℕ, false, List, [], ◌++◌, length}
 use Rattle.std.specs.List.{Contains}
 use Rattle.std.specs.List.Sorted.{IsPermutation}
+use Rattle.dm_tokens.specs.Validity.{TokenWords, AreOfSet}
 use Rattle.dm_prim.specs.Primitives.{Prim, inv, inv_all, Applies, LawfulMap, LeadsAll}
 use Rattle.dm_prim.specs.Commuting.{Commutes, ListsCommute}
 use Rattle.dm_chain.specs.Chains.{Distinct}
+use Rattle.dm_facts.specs.Heaps.{leans, Heap, put_on, IsHeap, exchange, spelled}
 use Rattle.dm_facts.specs.Nodes.{NodeMap, plain, IsTree}
 use Rattle.dm_facts.specs.Facts.{Fact, Effect, inverse, IsFactOf}
 use Rattle.dm_facts.specs.Steps.{Steps}
@@ -58,3 +60,16 @@ FactsDetermineTheTree I = (s t : NodeMap I) → IsTree s → IsTree t → s [] �
 abbrev pub EffectsDetermineTheEnd : Type 0 → Type 0
 EffectsDetermineTheEnd I = (ps qs : List Prim) (es ds : List (Effect I)) (s t u : NodeMap I) (fs : List (Fact I)) →
     IsTree s → AreFacts s fs → AllAddNew es s → IsPermutation es ds → StepsAll ps es s t → StepsAll qs ds s u → t ≡ u
+
+-- replaces that don't lean on each other make the same heap in both orders
+abbrev pub HeapsForgetOrder : Type 0
+HeapsForgetOrder = (v w : TokenWords) (h : Heap) → leans v w ≡ false → IsHeap h → AreOfSet v.set v.old v.new → AreOfSet w.set w.old w.new →
+    put_on v (put_on w h) ≡ put_on w (put_on v h)
+
+-- with a replace put on, a heap spells each symbol as before, and then with the two tokens exchanged
+abbrev pub HeapsSpellInTurn : Type 0
+HeapsSpellInTurn = (w : TokenWords) (h : Heap) (x : List ℕ) → IsHeap h → AreOfSet w.set w.old w.new → spelled (put_on w h) x ≡ exchange w (spelled h x)
+
+-- a heap spells each text of one symbol
+abbrev pub TextsHaveOneSymbol : Type 0
+TextsHaveOneSymbol = (h : Heap) (y : List ℕ) → IsHeap h → (x : List ℕ) × (spelled h x ≡ y) × ((z : List ℕ) → spelled h z ≡ y → z ≡ x)

@@ -1,3 +1,4 @@
+pub mod Heaps
 pub mod Nodes
 pub mod Facts
 pub mod Steps

@@ -1,17 +1,14 @@
 -- What a primitive does to a tree with identities, and which facts it takes away and adds.
-use Rattle.std.specs.Prelude.{◌≡◌, ◌≢◌, ◌≤◌, ℕ, List, [], ◌∷◌, ◌++◌, map, Option, Some, None}
-use Rattle.std.specs.List.{AllZip}
+use Rattle.std.specs.Prelude.{◌≡◌, ◌≢◌, ◌⊎◌, ℕ, List, [], ◌∷◌, ◌++◌, map, Option, Some, None}
 use Rattle.dm_tree.specs.Paths.{Name, Path, Under, Apart}
 use Rattle.dm_tree.specs.Trees.{Lines}
-use Rattle.dm_tree.specs.Listings.{file_size}
-use Rattle.dm_tokens.specs.Sets.{ByteSet}
-use Rattle.dm_tokens.specs.Turning.{Turns}
-use Rattle.dm_tokens.specs.Validity.{AreOfSet}
-use Rattle.dm_prim.specs.Primitives.{Work, AddFile, RmFile, AddDir, RmDir, Hunk, Binary, Replace, Prim, At, Move, ChangePref, most_turned}
+use Rattle.dm_tokens.specs.Validity.{TokenWords}
+use Rattle.dm_prim.specs.Primitives.{Work, AddFile, RmFile, AddDir, RmDir, Hunk, Binary, Replace, Prim, At, Move, ChangePref, TurnsLines}
 use Rattle.dm_prim.specs.Table.{IsDirectoryWork}
-use Rattle.dm_chain.specs.Chains.{Kind, Gap, Line, Token, HunkSteps, lines_of}
-use Rattle.dm_facts.specs.Nodes.{Node, FileWith, NodeMap, IsFolder, IsFile, IsEmptyFile, IsNameIn}
-use Rattle.dm_facts.specs.Facts.{TokenOf, stands, facts_of, Effect, inverse}
+use Rattle.dm_chain.specs.Chains.{Token, HunkSteps}
+use Rattle.dm_facts.specs.Heaps.{Heap, undoing, entry_on, put_on, spelled}
+use Rattle.dm_facts.specs.Nodes.{Node, FileWith, NodeMap, texts_of, IsFolder, IsFile, IsEmptyFile, IsNameIn}
+use Rattle.dm_facts.specs.Facts.{TokenOf, Turned, stands, facts_of, Effect, inverse}
 
 -- where nothing stood, a node of this kind stands in the directory d under the name n, and its facts are added
 pub record Creates {I : Type 0} (Is : Node I → Type 0) (d : I) (n : Name) (before after : Option (Node I)) (e : Effect I) : Type 0 where
@@ -21,57 +18,59 @@ pub record Creates {I : Type 0} (Is : Node I → Type 0) (d : I) (n : Name) (bef
   pub there : after ≡ Some node
   pub effect : e ≡ record { taken = []; added = facts_of node d n }
 
--- a file keeps its identity while lines of it are replaced
+-- a file keeps its identity and its replaces while lines of it are replaced; the heap spells the old and the new lines
 pub record Edits {I : Type 0} (l : ℕ) (old new : Lines) (before after : Option (Node I)) (e : Effect I) : Type 0 where
   pub file : I
+  pub heap : Heap
   pub tokens : List (Token I)
   pub tokens' : List (Token I)
   pub taken : List (Token I)
   pub added : List (Token I)
-  pub stood : before ≡ Some (FileWith file tokens)
-  pub there : after ≡ Some (FileWith file tokens')
-  pub is_file : IsFile file tokens
-  pub replaced : HunkSteps l old new taken added tokens tokens'
+  pub was : Lines
+  pub is : Lines
+  pub stood : before ≡ Some (FileWith file heap tokens)
+  pub there : after ≡ Some (FileWith file heap tokens')
+  pub is_file : IsFile file heap tokens
+  pub old_is : map (spelled heap) was ≡ old
+  pub new_is : map (spelled heap) is ≡ new
+  pub replaced : HunkSteps l was is taken added tokens tokens'
   pub effect : e ≡ record { taken = map (TokenOf file) taken; added = map (TokenOf file) added }
 
--- a file keeps its identity while all its gaps and lines give way to others
-pub record Exchanges {I : Type 0} (before after : Option (Node I)) (e : Effect I) : Type 0 where
+-- a file keeps its identity and its replaces while all its gaps and lines give way to others
+pub record Rewrites {I : Type 0} (old new : Lines) (before after : Option (Node I)) (e : Effect I) : Type 0 where
   pub file : I
+  pub heap : Heap
   pub tokens : List (Token I)
   pub tokens' : List (Token I)
-  pub stood : before ≡ Some (FileWith file tokens)
-  pub there : after ≡ Some (FileWith file tokens')
-  pub was_file : IsFile file tokens
-  pub is_file : IsFile file tokens'
+  pub stood : before ≡ Some (FileWith file heap tokens)
+  pub there : after ≡ Some (FileWith file heap tokens')
+  pub was_file : IsFile file heap tokens
+  pub is_file : IsFile file heap tokens'
+  pub old_is : texts_of heap tokens ≡ old
+  pub new_is : texts_of heap tokens' ≡ new
   pub effect : e ≡ record { taken = map (TokenOf file) tokens; added = map (TokenOf file) tokens' }
 
--- all lines of a file are replaced
-pub record Rewrites {I : Type 0} (old new : Lines) (before after : Option (Node I)) (e : Effect I) : Type 0 where
-  pub exchange : Exchanges before after e
-  pub old_is : lines_of exchange.tokens ≡ old
-  pub new_is : lines_of exchange.tokens' ≡ new
+-- a replace is put on the heap of a file
+pub record PutsOn {I : Type 0} (file : I) (words : TokenWords) (heap heap' : Heap) (e : Effect I) : Type 0 where
+  pub on : heap' ≡ put_on words heap
+  pub effect : e ≡ record { taken = []; added = Turned file (entry_on words heap) ∷ [] }
 
--- a gap stays a gap, and the text of a line turns
-abbrev pub TurnsKind : ByteSet → List ℕ → List ℕ → Kind → Kind → Type 0
-TurnsKind set old new Gap Gap = Unit {0}
-TurnsKind set old new Gap (Line y) = ⊥
-TurnsKind set old new (Line x) Gap = ⊥
-TurnsKind set old new (Line x) (Line y) = Turns set old new x y
+-- a replace changes the heap of a file: it is put on, or it undoes one on which nothing leans, and that one is taken off
+abbrev pub ChangesHeap : {I : Type 0} → I → TokenWords → Heap → Heap → Effect I → Type 0
+ChangesHeap file words heap heap' e = PutsOn file words heap heap' e ⊎ PutsOn file (undoing words) heap' heap (inverse e)
 
--- so a gap or line turns, and keeps its ports
-pub record TurnsInPlace {I : Type 0} (set : ByteSet) (old new : List ℕ) (t t' : Token I) : Type 0 where
-  pub left : t'.left ≡ t.left
-  pub kind : TurnsKind set old new t.kind t'.kind
-  pub right : t'.right ≡ t.right
-
--- all lines of a file turn, by the set that the text means, of which both words are tokens, and the gaps and lines keep their ports; the file isn't too large,
--- before and after
+-- a file keeps its identity, its gaps and its symbols while its heap changes, and so its lines turn
 pub record TurnsFile {I : Type 0} (set_text old new : List ℕ) (before after : Option (Node I)) (e : Effect I) : Type 0 where
-  pub exchange : Exchanges before after e
-  pub words : AreOfSet set_text old new
-  pub turned : AllZip (TurnsInPlace words.set old new) exchange.tokens exchange.tokens'
-  pub was_small : file_size (lines_of exchange.tokens) ≤ most_turned
-  pub is_small : file_size (lines_of exchange.tokens') ≤ most_turned
+  pub file : I
+  pub heap : Heap
+  pub heap' : Heap
+  pub tokens : List (Token I)
+  pub stood : before ≡ Some (FileWith file heap tokens)
+  pub there : after ≡ Some (FileWith file heap' tokens)
+  pub was_file : IsFile file heap tokens
+  pub is_file : IsFile file heap' tokens
+  pub turned : TurnsLines set_text old new (texts_of heap tokens) (texts_of heap' tokens)
+  pub change : ChangesHeap file (record { set = set_text; old = old; new = new }) heap heap' e
 
 -- what work finds under the name n of the directory d, and what it leaves there
 abbrev pub Makes : {I : Type 0} → Work → I → Name → Option (Node I) → Option (Node I) → Effect I → Type 0

@@ -1,5 +1,5 @@
-//! The laws of trees with identities of any type `I`. Each call does nothing; whoever calls it knows the law from there on.
-ghost use Rattle.dm_facts.specs.Laws.{EffectsDetermineTheEnd, EffectsStay, FactsDetermineTheTree, InversesStepBack, ListEffectsStay, MergedEffectsStay, StepsApply, StepsKeepTheSum, StepsKeepTrees, WhatLeadsSteps};
+//! The laws of trees with identities of any type `I`, and of heaps of replaces. Each call does nothing; whoever calls it knows the law from there on.
+ghost use Rattle.dm_facts.specs.Laws.{EffectsDetermineTheEnd, EffectsStay, FactsDetermineTheTree, HeapsForgetOrder, HeapsSpellInTurn, InversesStepBack, ListEffectsStay, MergedEffectsStay, StepsApply, StepsKeepTheSum, StepsKeepTrees, TextsHaveOneSymbol, WhatLeadsSteps};
 
 /// A step of a tree with identities is one of the tree with none.
 pub fn steps_apply<I>()
@@ -50,4 +50,19 @@ pub fn facts_determine_the_tree<I>()
 /// Two runs from one tree that have the same effects, in any order, end in one tree, as long as all that they introduce is new.
 pub fn effects_determine_the_end<I>()
     ensures { EffectsDetermineTheEnd I }
+{}
+
+/// Two replaces that don't lean on each other make the same heap in both orders.
+pub fn heaps_forget_order()
+    ensures { HeapsForgetOrder }
+{}
+
+/// With a replace put on, a heap spells each symbol as before, and then with the two tokens exchanged.
+pub fn heaps_spell_in_turn()
+    ensures { HeapsSpellInTurn }
+{}
+
+/// A heap spells each text of one symbol.
+pub fn texts_have_one_symbol()
+    ensures { TextsHaveOneSymbol }
 {}

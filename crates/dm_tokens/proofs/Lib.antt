@@ -1,3 +1,4 @@
+pub mod ExchangeLemmas
 pub mod PieceLemmas
 pub mod SetLemmas
 pub mod TurnLemmas

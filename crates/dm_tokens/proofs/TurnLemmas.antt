@@ -20,7 +20,7 @@ same_bytes xs ys e = (bytes_eq-Decides xs ys).0 e
 pub other_bytes : (xs ys : List ℕ) → bytes_eq xs ys ≡ false → xs ≢ ys
 other_bytes xs ys e same = false≢true (sym e ∙ (bytes_eq-Decides xs ys).1 same)
 
-differ : (xs ys : List ℕ) → xs ≢ ys → bytes_eq xs ys ≡ false
+pub differ : (xs ys : List ℕ) → xs ≢ ys → bytes_eq xs ys ≡ false
 differ xs ys ne = false_from_ne_true (bytes_eq xs ys) (λ e. ne (same_bytes xs ys e))
 
 -- a piece that turns is turned as it is computed
@@ -126,7 +126,7 @@ only_itself set token x y = (
 )
 
 -- bytes that are a token are of the set alone
-inside_is : (set : ByteSet) (inside : Bool) (p : List ℕ) → p ≢ [] → AreAll set inside p → AreAll set true p → inside ≡ true
+pub inside_is : (set : ByteSet) (inside : Bool) (p : List ℕ) → p ≢ [] → AreAll set inside p → AreAll set true p → inside ≡ true
 inside_is set inside [] some are token = absurd (some refl)
 inside_is set inside (b ∷ p) some are token = sym (All-head (λ x. set x ≡ inside) b p are) ∙ All-head (λ x. set x ≡ true) b p token
 

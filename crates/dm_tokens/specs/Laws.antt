@@ -1,9 +1,10 @@
--- Laws of pieces and of turning. The set is any set of bytes.
+-- Laws of pieces, of turning and of exchanging. The set is any set of bytes.
 use Rattle.std.specs.Prelude.{◌≡◌, ◌≢◌, ◌↔◌, ℕ, false, List, length, All}
 use Rattle.std.specs.List.{AllZip}
 use Rattle.dm_tokens.specs.Sets.{ByteSet}
 use Rattle.dm_tokens.specs.Pieces.{ArePieces, HasPiece, IsToken}
 use Rattle.dm_tokens.specs.Turning.{IsLine, Turns, TurnAll, TurnsPiece}
+use Rattle.dm_tokens.specs.Exchanging.{exchanged}
 
 -- each text has pieces
 abbrev pub TextHasPieces : Type 0
@@ -58,3 +59,20 @@ TurningLinesTurnsBack = (set : ByteSet) (old new : List ℕ) (ls ls' : List (Lis
 abbrev pub TurningsPassEachOther : Type 0
 TurningsPassEachOther = (set : ByteSet) (o1 n1 o2 n2 x y z : List ℕ) → IsToken set o1 → IsToken set n1 → IsToken set o2 → IsToken set n2 →
     o1 ≢ o2 → o1 ≢ n2 → n1 ≢ o2 → n1 ≢ n2 → Turns set o1 n1 x y → Turns set o2 n2 y z → (w : List ℕ) × Turns set o2 n2 x w × Turns set o1 n1 w z
+
+-- exchanging two tokens is its own inverse
+abbrev pub ExchangingTurnsBack : Type 0
+ExchangingTurnsBack = (set : ByteSet) (old new x : List ℕ) → IsToken set old → IsToken set new → exchanged set old new (exchanged set old new x) ≡ x
+
+-- it is the same whichever of the two comes first
+abbrev pub ExchangingHasNoOrder : Type 0
+ExchangingHasNoOrder = (set : ByteSet) (old new x : List ℕ) → exchanged set new old x ≡ exchanged set old new x
+
+-- what a text turns to is the text with the two tokens exchanged
+abbrev pub TurningExchanges : Type 0
+TurningExchanges = (set : ByteSet) (old new x y : List ℕ) → Turns set old new x y → y ≡ exchanged set old new x
+
+-- exchanging two tokens and exchanging two others come to the same in both orders
+abbrev pub ExchangesPassEachOther : Type 0
+ExchangesPassEachOther = (set : ByteSet) (o1 n1 o2 n2 x : List ℕ) → IsToken set o1 → IsToken set n1 → IsToken set o2 → IsToken set n2 →
+    o1 ≢ o2 → o1 ≢ n2 → n1 ≢ o2 → n1 ≢ n2 → exchanged set o2 n2 (exchanged set o1 n1 x) ≡ exchanged set o1 n1 (exchanged set o2 n2 x)

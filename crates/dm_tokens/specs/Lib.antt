@@ -1,3 +1,4 @@
+pub mod Exchanging
 pub mod Laws
 pub mod Pieces
 pub mod Reading

@@ -1,4 +1,4 @@
--- Pieces and turned texts as they are computed. For the clauses of private functions alone.
+-- Pieces and turned texts as they are computed. For the clauses of private functions, and for what exchanges tokens.
 use Rattle.std.specs.Prelude.{ℕ, Bool, cond, List, [], ◌∷◌, map}
 use Rattle.std.specs.List.{concat, list_any}
 use Rattle.std.specs.Str.{bytes_eq}

@@ -1,6 +1,6 @@
-//! Laws of pieces and of turning. The calls do nothing; their contracts are the laws.
+//! Laws of pieces, of turning and of exchanging. The calls do nothing; their contracts are the laws.
 
-ghost use Rattle.dm_tokens.specs.Laws.{TextHasPieces, TextHasOnePieces, TurningHasOneAnswer, TextTurnsUnlessNewIsThere, TextWithNewTurnsToNothing, TurningTurnsBack, TurningKeepsPieces, SameTokenChangesNothing, TurnedLinesAreLines, LinesTurnToAsMany, TurningLinesHasOneAnswer, TurningLinesTurnsBack, TurningsPassEachOther};
+ghost use Rattle.dm_tokens.specs.Laws.{TextHasPieces, TextHasOnePieces, TurningHasOneAnswer, TextTurnsUnlessNewIsThere, TextWithNewTurnsToNothing, TurningTurnsBack, TurningKeepsPieces, SameTokenChangesNothing, TurnedLinesAreLines, LinesTurnToAsMany, TurningLinesHasOneAnswer, TurningLinesTurnsBack, TurningsPassEachOther, ExchangingTurnsBack, ExchangingHasNoOrder, TurningExchanges, ExchangesPassEachOther};
 
 /// Each text has pieces.
 pub fn text_has_pieces()
@@ -66,4 +66,24 @@ pub fn turning_lines_turns_back()
 /// the first two.
 pub fn turnings_pass_each_other()
     ensures { TurningsPassEachOther }
+{}
+
+/// Exchanging two tokens is its own inverse.
+pub fn exchanging_turns_back()
+    ensures { ExchangingTurnsBack }
+{}
+
+/// Exchanging two tokens is the same whichever of the two comes first.
+pub fn exchanging_has_no_order()
+    ensures { ExchangingHasNoOrder }
+{}
+
+/// What a text turns to is the text with the two tokens exchanged.
+pub fn turning_exchanges()
+    ensures { TurningExchanges }
+{}
+
+/// Exchanging two tokens and exchanging two others come to the same in both orders.
+pub fn exchanges_pass_each_other()
+    ensures { ExchangesPassEachOther }
 {}

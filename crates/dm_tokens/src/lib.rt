@@ -7,8 +7,9 @@
 //!
 //! What is proved: a set has exactly the bytes that its text means, or the text means none. [`turn_into`] appends the one text that
 //! a text turns to, or nothing only if it turns to none. What is turned turns back ([`laws::turning_turns_back`]), keeps its pieces
-//! ([`laws::turning_keeps_pieces`]) and its lines ([`laws::turned_lines_are_lines`]). [`Tokens`] are two tokens of a set as a patch
-//! names them, or it is refused.
+//! ([`laws::turning_keeps_pieces`]) and its lines ([`laws::turned_lines_are_lines`]). It is what exchanging the two tokens does
+//! ([`laws::turning_exchanges`]), and that is a map on all texts. [`Tokens`] are two tokens of a set as a patch names them, or it is
+//! refused.
 #![tactic(auto)]
 
 pub mod laws;
