@@ -176,7 +176,7 @@ fn write_unmerging<W: Write>(f: &mut Formatter<W>, remedy: Remedy) -> fmt::Resul
     match remedy {
         Remedy::Nothing => Ok(()),
         Remedy::Known | Remedy::Word | Remedy::Mirror => f.write_str(
-            "Where it is history that stays, a mirror can begin at a later tag:\n  move-on OLD REPOSITORY TAG NEW\n",
+            "Where it is history that stays, the mirror begins anew at a later tag of the repository:\n  darcs tag NAME\n  dm-from-darcs --move-on REPOSITORY MIRROR\n",
         ),
     }
 }

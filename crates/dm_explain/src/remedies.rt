@@ -48,17 +48,19 @@ fn write_one_patch<W: Write>(f: &mut Formatter<W>) -> fmt::Result {
     )
 }
 
-/// Writes how a sender sends what a held patch leaves of their own.
+/// Writes how a sender takes back what a held patch does too. Merged first, darcs-1 would take back both.
 fn write_twin<W: Write>(f: &mut Formatter<W>) -> fmt::Result {
     f.write_str(
-        "Both make the same change. The sender pulls, and makes one patch of what is left of their own. The files stay as they are:\n  darcs pull\n  darcs unrecord --not-in-remote\n  darcs record --look-for-adds\n  darcs send --no-minimize\n",
+        "Both make the same change. The sender takes that of their own back, and no other, before they pull:\n  darcs unrecord --not-in-remote\n  darcs revert\n  darcs pull\n  darcs record\n  darcs send --no-minimize\nA folder that has files of theirs goes by another name in place of `darcs revert`:\n  darcs move FOLDER OTHER\n",
     )
 }
 
 /// Writes how a sender puts a replace on top of other changes of its file.
 fn write_replace<W: Write>(f: &mut Formatter<W>) -> fmt::Result {
     f.write_str("dm merges no replace with other changes of its file. ")?;
-    write_whole_context(f)
+    write_whole_context(f)?;
+    f.write_str("If darcs finds a conflict there, too:\n")?;
+    write_one_patch(f)
 }
 
 /// Whether a primitive is a replace.
