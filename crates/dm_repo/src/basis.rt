@@ -91,7 +91,7 @@ pub(crate) fn split_both<A: Allocator, B: Allocator + Copy>(
 }
 
 /// Applies the front and then the patches to merge, on the part of the kept tree that they reach.
-pub(crate) fn fit_on_part<A: Allocator, B: Allocator + Copy>(
+fn fit_on_part<A: Allocator, B: Allocator + Copy>(
     alloc: B,
     repo: &Repo<A>,
     sides: &Sides<B>,
@@ -112,6 +112,45 @@ pub(crate) fn fit_on_part<A: Allocator, B: Allocator + Copy>(
         Ok(()) => Ok(()),
         Err(stop) => Err(stop.does_not_fit()),
     }
+}
+
+/// Applies the front from the root alone, and then the patches to merge.
+fn fit_from_root<A: Allocator, B: Allocator + Copy>(
+    alloc: B,
+    repo: &Repo<A>,
+    sides: &Sides<B>,
+) -> Result<(), Refusal>
+    requires { sides.now.kept ≤ length repo.now.patches }
+    ensures { (b : Contents) →
+        IsBundleSplit repo.now.patches b (placed (take sides.now.kept repo.now.patches) ++ sides.now.front.items) sides.now.rest.items sides.now.new.items → MatchResult result
+        (λ _. Fits repo.now.patches b sides.now.rest.items sides.now.new.items)
+        (λ why. (policy : Policy) → RefusesBundle repo.now.patches b policy why) }
+{
+    let mut tree = front_tree(alloc, repo, sides)?;
+    match fit(&sides.new, &mut tree) {
+        Ok(()) => Ok(()),
+        Err(stop) => Err(stop.does_not_fit()),
+    }
+}
+
+/// Applies the front and then the patches to merge: on a part of the kept tree where few patches have to be taken back for that,
+/// else from the root alone, which is nearer then.
+pub(crate) fn fit_both<A: Allocator, B: Allocator + Copy>(
+    alloc: B,
+    repo: &Repo<A>,
+    sides: &Sides<B>,
+) -> Result<(), Refusal>
+    requires { sides.now.kept ≤ length repo.now.patches }
+    ensures { (b : Contents) →
+        IsBundleSplit repo.now.patches b (placed (take sides.now.kept repo.now.patches) ++ sides.now.front.items) sides.now.rest.items sides.now.new.items → MatchResult result
+        (λ _. Fits repo.now.patches b sides.now.rest.items sides.now.new.items)
+        (λ why. (policy : Policy) → RefusesBundle repo.now.patches b policy why) }
+{
+    let copied = repo.len() - sides.kept;
+    if copied <= repo.len() / 4 {
+        return fit_on_part(alloc, repo, sides);
+    }
+    fit_from_root(alloc, repo, sides)
 }
 
 /// What a bundle's new patches are applied to and merged with: none where nothing is new.

@@ -7,7 +7,7 @@ ghost use Rattle.dm_repo.specs.Trials.{MakesPart};
 ghost use Rattle.dm_repo.specs.Weighing.{IsMergeOf, RefusesBundle};
 ghost use Rattle.dm_repo.specs.Weighed.{IsLookedUp, LeavesRepo, Weighs};
 
-use crate::basis::{fit_on_part, split_both};
+use crate::basis::{fit_both, split_both};
 use crate::lookup::look_up;
 use crate::marks::Marks;
 use crate::merge::{append_to_whole, merge};
@@ -60,7 +60,7 @@ fn weigh_new<A: Allocator, B: Allocator + Copy>(
     if sides.rest.is_empty() {
         return append_to_whole(alloc, repo, sides.new);
     }
-    fit_on_part(alloc, repo, &sides)?;
+    fit_both(alloc, repo, &sides)?;
     merge(alloc, repo, sides.rest, sides.new, policy)
 }
 
