@@ -2,12 +2,12 @@
 //! bytes to the repository's tree.
 //!
 //! [`take`] reads a text in an arena, weighs its bundle against the repository there, and copies what is accepted out of
-//! the arena, once, before it commits it in one step that can't fail. A text that isn't taken has touched nothing but the
-//! arena. [`take_in`] does so with the kinds of primitives that the caller allows, and [`take_each`] takes texts in turn;
+//! the arena, once, and appends it; where that fails the repository is as it was. A text that isn't taken has touched nothing but
+//! the arena. [`take_in`] does so with the kinds of primitives that the caller allows, and [`take_each`] takes texts in turn;
 //! [`take_within`] takes one without an arena, within limits of the caller's. [`push_verdict`] and [`push_listing`] print a
 //! verdict and a tree.
 //!
-//! The crate stands on dm_bundle for the text of bundles, on dm_repo for weighing and committing, and on `bumpalo` for the
+//! The crate stands on dm_bundle for the text of bundles, on dm_repo for weighing and appending, and on `bumpalo` for the
 //! arena. Its theorem is the contract of [`take`]; the [`laws`] say that a repository and a text have one outcome.
 #![tactic(auto)]
 
