@@ -31,5 +31,6 @@ pub use depth::Depth;
 pub use fates::{Fate, Fates};
 pub use malformed::{Malformed, Remedy};
 pub use printing::AccountWithSkips;
+pub use seeming::has_signed_dashes;
 pub use shown::Who;
 pub use skips::{NamedSkip, Reason, Skips, skips_of};

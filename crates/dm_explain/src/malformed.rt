@@ -173,6 +173,11 @@ fn write_unmerging<W: Write>(f: &mut Formatter<W>, remedy: Remedy) -> fmt::Resul
     f.write_str(
         "The sender makes one patch of their own. The files stay as they are:\n  darcs unrecord --not-in-remote\n  darcs record --look-for-adds\n  darcs send --no-minimize\n",
     )?;
+    write_moving_on(f, remedy)
+}
+
+/// Writes how the mirror begins anew, behind patches that no bundle can have.
+fn write_moving_on<W: Write>(f: &mut Formatter<W>, remedy: Remedy) -> fmt::Result {
     match remedy {
         Remedy::Nothing => Ok(()),
         Remedy::Known | Remedy::Word | Remedy::Mirror => f.write_str(
@@ -182,8 +187,11 @@ fn write_unmerging<W: Write>(f: &mut Formatter<W>, remedy: Remedy) -> fmt::Resul
 }
 
 /// Writes how a bundle gets smaller.
-fn write_smaller<W: Write>(f: &mut Formatter<W>) -> fmt::Result {
-    f.write_str("The sender sends some of the patches first:\n  darcs send -p NAME\n")
+fn write_smaller<W: Write>(f: &mut Formatter<W>, remedy: Remedy) -> fmt::Result {
+    f.write_str(
+        "The sender sends some of the patches first:\n  darcs send -p NAME\nA patch that is past the limit by itself is recorded anew in parts, and each part sent:\n  darcs unrecord -p NAME\n  darcs record PART\n  darcs send\n",
+    )?;
+    write_moving_on(f, remedy)
 }
 
 /// Writes how somebody gets a sound bundle.
@@ -230,7 +238,7 @@ fn write_step<W: Write>(
         FaultKind::Unsupported => write_supported(f, before, after, remedy),
         FaultKind::BadPath => write_limit(f, after),
         FaultKind::TooLarge | FaultKind::TooMany => {
-            write_smaller(f)?;
+            write_smaller(f, remedy)?;
             Ok(true)
         }
         FaultKind::NoMemory => Ok(true),

@@ -5,7 +5,8 @@ use crate::fates::Fates;
 use crate::head::Head;
 use crate::misfits::write_misfit;
 use crate::remedies::{
-    write_against, write_against_any, write_anew, write_settling, write_whole_context,
+    write_against, write_against_any, write_anew, write_new_repository, write_settling,
+    write_whole_context,
 };
 use crate::shown::Who;
 use crate::skips::{NamedSkip, Reason, Skips};
@@ -83,7 +84,8 @@ fn write_full<W: Write>(
         f,
         "The repository has {held} patches, and the bundle {more} more; {} can be held.",
         Limits::OWN.patches
-    )
+    )?;
+    write_new_repository(f)
 }
 
 /// What became of each new patch.

@@ -34,6 +34,13 @@ pub(crate) fn write_anew<W: Write>(f: &mut Formatter<W>) -> fmt::Result {
     )
 }
 
+/// Writes how a project goes on where a repository can't hold more patches.
+pub(crate) fn write_new_repository<W: Write>(f: &mut Formatter<W>) -> fmt::Result {
+    f.write_str(
+        "The project goes on in a new repository, which begins with the files as they are, and has a mirror of its own:\n  darcs clone REPOSITORY NEW\n  rm -r NEW/_darcs\n  darcs init NEW\n  darcs record --repodir NEW --look-for-adds\n  dm-from-darcs NEW NEW.dm\n",
+    )
+}
+
 /// Writes how a patch gets a path of fewer names.
 pub(crate) fn write_shallower<W: Write>(f: &mut Formatter<W>) -> fmt::Result {
     f.write_str(

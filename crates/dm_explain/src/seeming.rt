@@ -139,6 +139,11 @@ fn foreign_seeming(text: &[u8]) -> Option<Seeming> {
     None
 }
 
+/// Whether a line of a text begins with a dash as `gpg --clearsign` writes it. It is a guess: a hunk may have such a line.
+pub fn has_signed_dashes(text: &[u8]) -> bool {
+    text.find(b"\n- -").is_some()
+}
+
 /// What a text that is no bundle looks like, if that is known.
 pub(crate) fn seeming_of(text: &[u8]) -> Option<Seeming> {
     let begun = text.trim_start();

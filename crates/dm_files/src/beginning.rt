@@ -50,7 +50,7 @@ fn refuse_unfit_base<'a>(
     )? {
         say_unfit(rt, file.name, Answer::Hash(fault));
         if explains {
-            explain_hash_fault(rt, colour, fault);
+            explain_hash_fault(rt, colour, base.text, fault);
         }
         return Err(WordFault::Said);
     }

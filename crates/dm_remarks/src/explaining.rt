@@ -9,7 +9,7 @@ use bumpalo::Bump;
 use dm_bundle::{Bundle, read_bundle_within};
 use dm_commands::{Applied, Base, Unread, base_tag, repo_of};
 use dm_deliver::{HashFault, HashFaultKind, HashRule, hash_fault_within};
-use dm_explain::{Account, AccountWithSkips, Malformed, account_of, skips_of};
+use dm_explain::{Account, AccountWithSkips, Malformed, account_of, has_signed_dashes, skips_of};
 use dm_mail::{Body, Mail};
 use dm_mirror::Outcome;
 use dm_named::{FaultKind, ReadFault};
@@ -66,9 +66,21 @@ pub fn explain_theirs<R: Runtime + AllocGlobal>(
 }
 
 /// Says what is wrong with the hash of a bundle.
-pub fn explain_hash_fault<R: Runtime + AllocGlobal>(rt: &R, colour: Colour, fault: HashFault) {
+pub fn explain_hash_fault<R: Runtime + AllocGlobal>(
+    rt: &R,
+    colour: Colour,
+    text: &[u8],
+    fault: HashFault,
+) {
     let at = fault.at;
     match fault.kind {
+        HashFaultKind::WrongHash if has_signed_dashes(text) => say(
+            rt,
+            colour,
+            &format_args!(
+                "The hash at byte {at} isn't that of the patches. Lines begin with `- -`, as a signature leaves them: turn them with `sed 's/^- -/-/'`, or ask for the bundle once more.\n"
+            ),
+        ),
         HashFaultKind::WrongHash => say(
             rt,
             colour,
@@ -130,7 +142,7 @@ pub fn explain_hash<R: Runtime + AllocGlobal>(
         HashRule::NotWrong
     };
     if let Ok(Some(fault)) = hash_fault_within(rt.alloc(), text, reading.limits(), rule) {
-        explain_hash_fault(rt, colour, fault);
+        explain_hash_fault(rt, colour, text, fault);
     }
 }
 

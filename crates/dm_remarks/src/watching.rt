@@ -87,7 +87,7 @@ impl Observer for Watcher<'_, '_> {
                 );
                 explain_hash(&self.rt, self.colour, reading, text, false);
             }
-            Answer::Hash(fault) => explain_hash_fault(&self.rt, self.colour, fault),
+            Answer::Hash(fault) => explain_hash_fault(&self.rt, self.colour, text, fault),
             Answer::Date(at) => explain_date(&self.rt, self.colour, at),
             Answer::BeforeBase => { explain_before_base(&self.rt, self.colour, repo, self.base) },
         }
