@@ -1,39 +1,22 @@
-"""The parts of the suite that are written in Python; `run` starts them, with the library and the folder of dm.py in its surroundings.
-
-    cases.py numbers           the numbers of dm.h, dm.py and the crate for Rust beside the sources
-    cases.py python            the cases of tests/cli for check and apply, by dm.py
-    cases.py c PROGRAM         the same by the example in C
-"""
+"""The parts of the suite that compare the library with the sources, and with the cases of tests/cli."""
 import math
 import os
 import re
 import shutil
 import subprocess
-import sys
 import tempfile
 
-HERE = os.path.dirname(os.path.realpath(__file__))
-TOP = os.path.realpath(os.path.join(HERE, "..", ".."))
+from counting import holds
+from program import TOP
+from trees import read_if_there
+
 CASES = os.path.join(TOP, "tests", "cli")
 OPTIONS = {"--all-kinds", "--skip", "--bundle", "--quiet", "--explain"}
 FILES = {"--base", "--repository"}
 
-counts = {True: 0, False: 0}
-
-
-def holds(what, found, wanted):
-    """Counts whether the answer is the wanted one."""
-    counts[found == wanted] += 1
-    if found != wanted:
-        print(f"tests/library: {what}: {found!r}, and not {wanted!r}")
-
 
 def read(*path):
-    try:
-        with open(os.path.join(*path), "rb") as file:
-            return file.read()
-    except (FileNotFoundError, NotADirectoryError):
-        return b""
+    return (read_if_there(*path) if os.path.isfile(os.path.join(*path)) else None) or b""
 
 
 # Numbers.
@@ -213,12 +196,3 @@ def applies(dm, case, text, limits_of, said):
         if "--quiet" not in case.options:
             lines.append(repo.bundle() if "--bundle" in case.options else repo.listing())
         return status, b"".join(lines)
-
-
-if __name__ == "__main__":
-    if sys.argv[1] == "c":
-        by_c(sys.argv[2])
-    else:
-        {"numbers": numbers, "python": by_python}[sys.argv[1]]()
-    print(f"{counts[True]} passed, {counts[False]} failed")
-    sys.exit(1 if counts[False] else 0)

@@ -3,12 +3,13 @@ import os
 import random
 import re
 import shutil
-import signal
 import subprocess
 import sys
 import time
 
-from lib import DM, PATIENCE, RECIPE, Broker, Mirror, good, info, name_of, processes
+from counting import is_so
+from lib import PATIENCE, RECIPE, Broker, Mirror, good, info, name_of, processes
+from program import DM
 
 BUNDLES = int(os.environ.get("BUNDLES", "60"))
 SEED = int(os.environ.get("SEED", "1"))
@@ -252,20 +253,20 @@ def faulty_recipe(folder):
     return folder
 
 
-def check_recipe(counts, run, all_sent):
+def check_recipe(run, all_sent):
     """Counts what the run left."""
-    counts.holds("a poster has not sent all", all_sent)
-    counts.holds("the broker wasn't stopped and started", run.restarted)
-    counts.holds("no mirror was killed", run.kills > 0)
-    counts.holds("no bundle came twice to a mirror", all(count > len(run.bundles.texts) for count in run.sums()))
+    is_so("a poster has not sent all", all_sent)
+    is_so("the broker wasn't stopped and started", run.restarted)
+    is_so("no mirror was killed", run.kills > 0)
+    is_so("no bundle came twice to a mirror", all(count > len(run.bundles.texts) for count in run.sums()))
     for mirror in run.mirrors:
         faults = list(run.faults(mirror))
-        counts.holds("%s: %s" % (mirror.name, "; ".join(faults)), not faults)
+        is_so("%s: %s" % (mirror.name, "; ".join(faults)), not faults)
     for left, right in ((0, 1), (1, 2)):
         names = [run.mirrors[left].name, run.mirrors[right].name]
         done = subprocess.run([os.path.join(RECIPE, "compare"), *names], cwd=run.folder, env=run.environment,
                               capture_output=True, check=False)
-        counts.holds("%s and %s differ" % tuple(names), done.returncode == 0)
+        is_so("%s and %s differ" % tuple(names), done.returncode == 0)
 
 
 def loses(recipe, folder, broker, draw):
@@ -281,15 +282,15 @@ def told(run):
         os.path.basename(run.folder), len(run.bundles.texts), run.kills, run.sums(), sum(run.lost.values())), flush=True)
 
 
-def check(counts, work):
+def check(work):
     draw = random.Random(SEED)
     broker = Broker(work)
     broker.call("start")
     run = Run(RECIPE, os.path.join(work, "sent"), broker, draw, BUNDLES)
-    check_recipe(counts, run, run.go(restart=True))
+    check_recipe(run, run.go(restart=True))
     told(run)
     recipe = faulty_recipe(os.path.join(work, "recipe"))
     found = any(loses(recipe, os.path.join(work, "wrong%d" % number), broker, draw) for number in range(TRIES))
-    counts.holds("bundles that are acknowledged too early aren't missed", found)
+    is_so("bundles that are acknowledged too early aren't missed", found)
     broker.call("stop")
-    counts.holds("something goes on after the broker was stopped", not processes(work))
+    is_so("something goes on after the broker was stopped", not processes(work))

@@ -1,16 +1,16 @@
-"""What the parts share: brokers, mirrors that are started again, bundles, counts."""
+"""What the parts share: brokers, mirrors that are started again, bundles."""
 import hashlib
 import os
 import random
 import signal
 import socket
 import subprocess
-import sys
 import time
 
-HERE = os.path.dirname(os.path.realpath(__file__))
-RECIPE = os.path.realpath(os.environ.get("RECIPE", os.path.join(HERE, "..", "..", "examples", "queue")))
-DM = os.path.realpath(os.environ.get("DM", os.path.join(HERE, "..", "..", "crates", "dm_tool", "out", "dm_tool")))
+import bundles
+from program import DM, EXAMPLES
+
+RECIPE = os.path.realpath(os.environ.get("RECIPE", os.path.join(EXAMPLES, "queue")))
 # How many seconds may pass without an answer before it breaks off: on a machine with much else to do an answer takes some.
 PATIENCE = 300
 # Every process that a run starts, and each that these start, has its folder under this word in its environment.
@@ -19,14 +19,14 @@ SIGNALS = (signal.SIGTERM, signal.SIGINT, signal.SIGHUP)
 
 
 def info(poster, number):
-    return "[%s %03d\n%s@example.org**20240101000000] " % (poster, number, poster)
+    return bundles.info("%s %03d" % (poster, number), poster + "@example.org")
 
 
 def good(poster, number):
     """The poster's bundle of this number, which rests on those before it."""
-    prims = ("addfile ./%s\n" % poster if number == 0 else "") + "hunk ./%s 1\n+line %d\n" % (poster, number)
-    context = "".join(info(poster, before) + "\n" for before in reversed(range(number)))
-    return "New patches:\n\n%s{\n%s}\n\nContext:\n\n%s" % (info(poster, number), prims, context)
+    prims = (["addfile ./%s\n" % poster] if number == 0 else []) + [bundles.hunk("./" + poster, number + 1, (), ["line %d" % number])]
+    context = bundles.context_of(info(poster, before) for before in reversed(range(number)))
+    return bundles.HEADING + info(poster, number) + "{\n%s}\n" % "".join(prims) + bundles.CONTEXT + context
 
 
 def name_of(text):
@@ -110,18 +110,6 @@ def free_port():
             return port, guard
         except OSError:
             guard.close()
-
-
-class Counts:
-    def __init__(self):
-        self.passed = self.failed = 0
-
-    def holds(self, what, is_so):
-        if is_so:
-            self.passed += 1
-        else:
-            self.failed += 1
-            print("tests/queue: %s" % what, flush=True)
 
 
 def whole(text):

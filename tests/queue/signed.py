@@ -8,7 +8,9 @@ import sys
 import time
 import zlib
 
-from lib import DM, PATIENCE, RECIPE, Broker, Mirror, answers, good, name_of, whole
+from counting import is_so
+from lib import PATIENCE, RECIPE, Broker, Mirror, answers, good, name_of, whole
+from program import DM
 
 # What somebody tries with the account of a certificate: PATH WORD.., the broker in BROKERS. It prints what comes of it.
 TRIED = """
@@ -139,9 +141,9 @@ def bomb():
     return "-----BEGIN PGP SIGNATURE-----\n\n%s\n-----END PGP SIGNATURE-----\n" % base64.b64encode(packets).decode()
 
 
-def check(counts, work):
+def check(work):
     signed = Signed(work)
-    counts.holds("certificates aren't strict", signed.strict())
+    is_so("certificates aren't strict", signed.strict())
     signed.start()
     with open(signed.path("deny"), "w", encoding="ascii") as file:
         file.write("# an empty list is an error\n%040d\n" % 0)
@@ -156,11 +158,11 @@ def check(counts, work):
     wanted = []
 
     def sent(what, text, key, verdict, who="ann"):
-        counts.holds("%s isn't sent" % what, signed.post(who, text, key) == (0, ""))
+        is_so("%s isn't sent" % what, signed.post(who, text, key) == (0, ""))
         wanted.append(verdict)
 
     def slipped(what, text, signature, verdict, who="ann"):
-        counts.holds("%s isn't sent" % what, signed.tries("tls/" + who, "publish", text, signature) == "done")
+        is_so("%s isn't sent" % what, signed.tries("tls/" + who, "publish", text, signature) == "done")
         wanted.append(verdict)
 
     sent("what is signed", one, "ann", "taken 1")
@@ -176,27 +178,27 @@ def check(counts, work):
     sent("no hash", three, "ann", "malformed no-hash")
     slipped("a signature that costs much", b"x", bomb(), "refused message signature")
     sent("what is signed, behind it", one, "ann", "nothing new")
-    counts.holds("what is signed is answered otherwise: %s" % answers(mirror, len(wanted)),
+    is_so("what is signed is answered otherwise: %s" % answers(mirror, len(wanted)),
                  all(found.startswith(due) for found, due in zip(answers(mirror, len(wanted)), wanted)) and len(mirror.lines()) == len(wanted))
     # What whoever may only send can't do, and who doesn't get in.
     for what in (*WITH_QUEUE, *WITH_EXCHANGE, "get", "queue"):
         found = signed.tries("tls/ann", what)
-        counts.holds("ann can do this: %s: %s" % (what, found), found == "403")
+        is_so("ann can do this: %s: %s" % (what, found), found == "403")
     for who, what in ("tls/mallory", "publish"), ("others/ann", "publish"), ("forged/north", "get"), ("tls/ann", "password"), ("tls/ann", "plain"):
         found = signed.tries(who, what, one)
-        counts.holds("%s gets in, %s: %s" % (who, what, found), found != "done" and "403" not in found)
+        is_so("%s gets in, %s: %s" % (who, what, found), found != "done" and "403" not in found)
     mirror.kill(True)
     for more in {"KEYRING": ""}, {"KEYRING": signed.path("keyring"), "ALLOW": ""}, {"ALLOW": signed.path("allow")}:
         done = subprocess.run([os.path.join(RECIPE, "mirror"), "north"], cwd=signed.folder, env=dict(signed.environment, TLS=signed.path("tls/north"), **more),
                               capture_output=True, timeout=PATIENCE, check=False)
-        counts.holds("a mirror starts with %s" % more, b"name files" in done.stderr)
-    check_again(counts, signed, one, len(mirror.lines()))
-    check_mirrors(counts, signed, whole(good("zoe", 0)))
+        is_so("a mirror starts with %s" % more, b"name files" in done.stderr)
+    check_again(signed, one, len(mirror.lines()))
+    check_mirrors(signed, whole(good("zoe", 0)))
     signed.broker.call("stop")
     subprocess.run(["gpgconf", "--kill", "all"], env=signed.environment, check=False)
 
 
-def check_again(counts, signed, one, before):
+def check_again(signed, one, before):
     """A patch that was taken out comes back, where it isn't denied."""
     os.remove(signed.path("north.dm"))
     mirror = signed.mirror(DENY=signed.path("deny"))
@@ -211,24 +213,24 @@ def check_again(counts, signed, one, before):
     signed.post("ann", one, "ann")
     again += answers(mirror, before + 2)[before + 1:]
     mirror.kill(True)
-    counts.holds("what was taken out is answered otherwise: %s" % again, again == ["taken 1", "refused message denied"])
+    is_so("what was taken out is answered otherwise: %s" % again, again == ["taken 1", "refused message denied"])
 
 
-def check_mirrors(counts, signed, text):
+def check_mirrors(signed, text):
     """What a mirror's account can't do to others; they get what is posted all the same."""
     for what, queue in [(what, "south") for what in (*WITH_QUEUE, "get", "queue")] + [(what, "north") for what in (*WITH_QUEUE, *WITH_EXCHANGE, "publish", "queue")]:
         if (what, queue) == ("purge", "north"):  # it may read its own
             continue
         found = signed.tries("tls/north", what, text, queue=queue)
-        counts.holds("north can do this with %s: %s: %s" % (queue, what, found), found == "403")
+        is_so("north can do this with %s: %s: %s" % (queue, what, found), found == "403")
     mirror, name = signed.mirror("south"), name_of(text)
     sent = signed.post("ann", text, "bob")
-    counts.holds("ann's isn't sent: %s" % (sent,), sent == (0, ""))
+    is_so("ann's isn't sent: %s" % (sent,), sent == (0, ""))
     until = time.monotonic() + PATIENCE
     while name not in dict(mirror.lines()) and time.monotonic() < until:
         mirror.look()
         time.sleep(0.05)
-    counts.holds("south doesn't take it: %s" % mirror.lines()[-1:], dict(mirror.lines()).get(name) == "taken 1")
+    is_so("south doesn't take it: %s" % mirror.lines()[-1:], dict(mirror.lines()).get(name) == "taken 1")
     mirror.kill(True)
     large = signed.tries("tls/ann", "publish", bytes((4 << 20) + 1))
-    counts.holds("the broker keeps what is too large: %s" % large, large == "406")
+    is_so("the broker keeps what is too large: %s" % large, large == "406")

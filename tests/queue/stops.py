@@ -9,7 +9,9 @@ import time
 
 import pika
 
-from lib import DM, PATIENCE, RECIPE, Broker, Mirror, good, name_of
+from counting import is_so
+from lib import PATIENCE, RECIPE, Broker, Mirror, good, name_of
+from program import DM
 
 # So many seconds a sound bundle may wait; on a machine where processes wait for a processor, so many times as long.
 SOON = 10
@@ -116,8 +118,8 @@ def dear(name, patches, files):
 class Stops:
     """A broker that lets larger messages pass than ours does, and a mirror that has a second for a text."""
 
-    def __init__(self, counts, work):
-        self.counts, self.folder, self.number = counts, os.path.join(work, "stops"), 0
+    def __init__(self, work):
+        self.folder, self.number = os.path.join(work, "stops"), 0
         self.broker = Broker(work, "open")
         os.makedirs(self.broker.folder)
         os.mkdir(self.folder)
@@ -178,7 +180,7 @@ class Stops:
         name = self.sound()
         answered = self.waits(self.mirror, lambda: name in dict(self.mirror.lines()), SOON)
         found = dict(self.mirror.lines()).get(name)
-        self.counts.holds("%s: the next is answered by %s: %s" % (what, found, self.told()), found == "taken 1")
+        is_so("%s: the next is answered by %s: %s" % (what, found, self.told()), found == "taken 1")
         if answered:
             self.number += 1
             return
@@ -192,11 +194,11 @@ class Stops:
 
     def stops(self, what, text, verdict, encoded=b"\0\0"):
         """This message has this verdict, and the next one is answered."""
-        self.counts.holds("%s: the broker doesn't keep it" % what, self.publish(text, encoded))
+        is_so("%s: the broker doesn't keep it" % what, self.publish(text, encoded))
         name = name_of(text)
         self.waits(self.mirror, lambda: name in dict(self.mirror.lines()), 40)
         found = dict(self.mirror.lines()).get(name, "nothing")
-        self.counts.holds("%s: it is answered by %s" % (what, found), found.startswith(verdict))
+        is_so("%s: it is answered by %s" % (what, found), found.startswith(verdict))
         self.goes_on(what)
 
     def why(self, text, folder="north.refused"):
@@ -207,7 +209,7 @@ class Stops:
         for what, encoded in PASSED.items():
             self.stops(what, what.encode(), "malformed no-new-patches", encoded)
         for what, encoded in HELD.items():
-            self.counts.holds("%s: the broker keeps it" % what, not self.publish(what.encode(), encoded))
+            is_so("%s: the broker keeps it" % what, not self.publish(what.encode(), encoded))
         self.goes_on("what the broker refuses")
         # It goes without an answer, and with no letter to anybody.
         flags, death = struct.pack(">H", 1 << 13 | 1 << 8), header(b"A", long(b"F" + long(header(b"S", long(b"north"), b"queue"))), b"x-death")
@@ -217,19 +219,19 @@ class Stops:
     def check_texts(self):
         self.stops("an empty text", b"", "malformed no-new-patches")
         self.stops("a text that is too large", b"x" * (4 * MIB + 1), "refused message too-large")
-        self.counts.holds("a text that is too large is kept", not os.path.exists(self.path("north.refused/%s.bundle" % name_of(b"x" * (4 * MIB + 1)))))
+        is_so("a text that is too large is kept", not os.path.exists(self.path("north.refused/%s.bundle" % name_of(b"x" * (4 * MIB + 1)))))
         self.stops("a text of the most bytes", b"x" * 4 * MIB, "malformed no-new-patches")
         self.stops("a mirror's first bytes", b"dm journal 2\n" + bytes(100), ("malformed no-new-patches", "refused message no-answer"))
         with open(self.path("north.dm"), "rb") as file:
             self.stops("a mirror's file", file.read(), ("malformed no-new-patches", "refused message no-answer"))
         many = ("New patches:\n\n[a\nx**20240101000000] {\n}\n\nContext:\n\n" + infos(3_000)).encode()
         self.stops("a long context", many, "refused missing-context")
-        self.counts.holds("its reason is long", len(self.why(many)) <= 1 << 16)
+        is_so("its reason is long", len(self.why(many)) <= 1 << 16)
         self.stops("something to pass", dear("a", 1, 200), ("taken 1", "nothing new"))
         self.stops("a bundle that passes much", dear("b", 50, 1000), "refused message no-answer")
         for what in "spin", "sleep", "crash", "eat", "shout":
             self.stops(what, what.encode() + b"\n", "refused message no-answer")
-        self.counts.holds("no reason is told", b"no memory" in self.why(b"eat\n"))
+        is_so("no reason is told", b"no memory" in self.why(b"eat\n"))
 
     def check_again(self):
         """What had no answer isn't tried again; and is, where its reason was removed."""
@@ -237,8 +239,8 @@ class Stops:
         for _ in range(20):
             self.publish(b"sleep\n")
         self.waits(self.mirror, lambda: len(self.mirror.lines()) == before + 20, 100)
-        self.counts.holds("20 copies take %d s" % (time.monotonic() - since), time.monotonic() - since < 100)
-        self.counts.holds("a copy has another answer", {verdict for _, verdict in self.mirror.lines()[before:]} == {"refused message no-answer"})
+        is_so("20 copies take %d s" % (time.monotonic() - since), time.monotonic() - since < 100)
+        is_so("a copy has another answer", {verdict for _, verdict in self.mirror.lines()[before:]} == {"refused message no-answer"})
         self.goes_on("20 copies")
 
     def flag(self, name):
@@ -254,15 +256,15 @@ class Stops:
                 self.mirror.process.wait(PATIENCE)
             except subprocess.TimeoutExpired:
                 pass
-            self.counts.holds("%s: it goes on" % flag, self.mirror.process.poll() and name not in dict(self.mirror.lines()))
+            is_so("%s: it goes on" % flag, self.mirror.process.poll() and name not in dict(self.mirror.lines()))
             os.remove(self.path(flag))
             self.waits(self.mirror, lambda name=name: name in dict(self.mirror.lines()), PATIENCE)
-            self.counts.holds("%s: it isn't taken afterwards" % flag, dict(self.mirror.lines()).get(name) == "taken 1")
+            is_so("%s: it isn't taken afterwards" % flag, dict(self.mirror.lines()).get(name) == "taken 1")
             self.number += 1
         self.flag("slow")
         name = self.sound()
         self.waits(self.mirror, lambda: name in dict(self.mirror.lines()), PATIENCE)
-        self.counts.holds("a mirror that opens slowly takes nothing", dict(self.mirror.lines()).get(name) == "taken 1")
+        is_so("a mirror that opens slowly takes nothing", dict(self.mirror.lines()).get(name) == "taken 1")
         self.number += 1
         os.remove(self.path("slow"))
 
@@ -272,14 +274,14 @@ class Stops:
         self.publish(b"New\x1b[31m patches", PASSED["a time past all years"])
         for came_before in b"no", b"yes":
             done = subprocess.run([os.path.join(RECIPE, "first"), "north"], env=self.environment, capture_output=True, timeout=PATIENCE, check=False)
-            self.counts.holds("first prints %s %s" % (done.stdout, done.stderr), done.stdout.startswith(b"came before: %s\nbytes: 16\n" % came_before)
+            is_so("first prints %s %s" % (done.stdout, done.stderr), done.stdout.startswith(b"came before: %s\nbytes: 16\n" % came_before)
                               and b"hT^@^@^A" in done.stdout and b"New^[[31m patches" in done.stdout)
         self.mirror.start()
         self.goes_on("first")
         time.sleep(1)  # until it has acknowledged the last one
         self.mirror.kill(True)
         done = subprocess.run([os.path.join(RECIPE, "first"), "north"], env=self.environment, capture_output=True, timeout=PATIENCE, check=False)
-        self.counts.holds("first finds %s" % done.stdout, done.returncode == 1 and b"nothing comes" in done.stderr)
+        is_so("first finds %s" % done.stdout, done.returncode == 1 and b"nothing comes" in done.stderr)
 
     def check_space(self):
         """Refused bundles take no more space than they may."""
@@ -289,17 +291,17 @@ class Stops:
         for text in texts:
             self.stops("a refused text", text, "malformed no-new-patches")
         kept = [os.path.exists(self.path("north.refused/%s.bundle" % name_of(text))) for text in texts]
-        self.counts.holds("of three texts are kept: %s" % kept, kept == [True, True, False])
+        is_so("of three texts are kept: %s" % kept, kept == [True, True, False])
         self.mirror.kill(True)
 
 
-def check_reader(counts):
+def check_reader():
     """No bytes are a fault of the reader of headers."""
     sys.path.insert(0, RECIPE)
     try:
         import headers as reader
     except ImportError:
-        counts.holds("there is no reader of headers", False)
+        is_so("there is no reader of headers", False)
         return
     draw = random.Random(1)
     some = list(PASSED.values()) + list(HELD.values())
@@ -309,15 +311,15 @@ def check_reader(counts):
             encoded[draw.randrange(len(encoded) + 1):draw.randrange(len(encoded) + 1)] = draw.randbytes(draw.randrange(4))
         some_headers = pika.BasicProperties().decode(bytes(encoded)).headers
         if not set(some_headers) <= {"signature"}:
-            counts.holds("of %r it reads %s" % (encoded, some_headers), False)
+            is_so("of %r it reads %s" % (encoded, some_headers), False)
     read = {what: pika.BasicProperties().decode(encoded).headers.get("signature") for what, encoded in {**PASSED, **HELD}.items()}
-    counts.holds("it reads %s" % read, {what for what, found in read.items() if found == b"it"} == {"a time of ones", "a table past the end"}
+    is_so("it reads %s" % read, {what for what, found in read.items() if found == b"it"} == {"a time of ones", "a table past the end"}
                  and {found for found in read.values()} == {b"it", None})
-    counts.holds("it reads no other", reader.table_of(headers(SIGNED)) == SIGNED)
+    is_so("it reads no other", reader.table_of(headers(SIGNED)) == SIGNED)
 
 
-def check(counts, work):
-    stops = Stops(counts, work)
+def check(work):
+    stops = Stops(work)
     stops.check_properties()
     stops.check_texts()
     stops.check_again()
@@ -325,4 +327,4 @@ def check(counts, work):
     stops.check_first()
     stops.check_space()
     stops.broker.call("stop")
-    check_reader(counts)
+    check_reader()

@@ -1,6 +1,6 @@
 """Mails that were made to stop the next one, each with the verdict that is due.
 
-    DM=PROGRAM python3 tests/mailbox/stoppers.py RECIPE     which of them, without a signature, stop the recipe of this folder
+    DM=PROGRAM python3 tests/lib/stoppers.py RECIPE     which of them, without a signature, stop the recipe of this folder
 """
 import base64
 import bz2
@@ -256,26 +256,21 @@ def wrong(box, case, sound, plain=0.5, **env):
 
 def main(recipe):
     """Which of them stop this recipe. Not all verdicts are due there."""
-    import importlib.machinery
-    import importlib.util
+    import mails
 
-    here = os.path.dirname(os.path.realpath(__file__))
-    loader = importlib.machinery.SourceFileLoader("mailbox", os.path.join(here, "run"))
-    mailbox = importlib.util.module_from_spec(importlib.util.spec_from_loader("mailbox", loader))
-    loader.exec_module(mailbox)
-    mailbox.SECONDS = 25
-    with tempfile.TemporaryDirectory(dir="/dev/shm") as mailbox.WORK:
-        sound = mailbox.BUNDLES[0]
-        faulty = {"DM": faulty_program(mailbox.WORK), "REAL": mailbox.DM, "DM_SECONDS": "2"}
+    mails.Run.seconds = 25
+    with tempfile.TemporaryDirectory(dir="/dev/shm") as mails.Run.work:
+        sound = mails.BUNDLES[0]
+        faulty = {"DM": faulty_program(mails.Run.work), "REAL": mails.DM, "DM_SECONDS": "2"}
         cases = [(it, {}) for it in (*headers(sound), *structures(sound), *texts(sound, False))] + [(it, faulty) for it in faults()]
         count = 0
         for case, env in cases:
-            box = mailbox.Box(recipe)
+            box = mails.Box(recipe)
             start = time.time()
             try:
-                found = wrong(box, case, mailbox.MAILS[0], **env)
+                found = wrong(box, case, mails.MAILS[0], **env)
             except subprocess.TimeoutExpired:
-                found = "no answer in %d seconds" % mailbox.SECONDS
+                found = "no answer in %d seconds" % mails.Run.seconds
             is_stop = found is not None and "the verdict" not in found
             count += is_stop
             print("%s %5.1f %-60s %s" % ("STOP" if is_stop else "    ", time.time() - start, case[0], found or ""), flush=True)

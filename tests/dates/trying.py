@@ -1,9 +1,9 @@
 #!/usr/bin/env python3
 """Asks the real darcs which dates of patches it can read.
 
-    tests/dates/try DATE..       asks for these dates
-    tests/dates/try < DATES      asks for each line
-    TZ=ZONE tests/dates/try ..   with the clock of another zone; UTC where nothing is said
+    tests/dates/trying.py DATE..       asks for these dates
+    tests/dates/trying.py < DATES      asks for each line
+    TZ=ZONE tests/dates/trying.py ..   with the clock of another zone; UTC where nothing is said
 
 For each date a bundle with one patch is made. `darcs apply` takes it into an empty repository, and `darcs log` shows it, in each of
 darcs' two formats. A date is read where all of that works. Odd bytes are written as Python does, `\\xff`. A line is printed for each
