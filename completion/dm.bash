@@ -55,7 +55,7 @@ _dm_script()
   COMPREPLY=()
   case ${1##*/} in
     dm-from-darcs) options='--six-kinds --move-on --push --help' ;;
-    dm-to-darcs) options='--darcs-1 --darcs-2 --help' ;;
+    dm-to-darcs) options='--darcs-1 --darcs-2 --update --help' ;;
   esac
   if [[ $word = -* ]]; then
     mapfile -t COMPREPLY < <(compgen -W "$options" -- "$word")
