@@ -20,11 +20,13 @@ pub mod Making
 pub mod Firsts
 pub mod OrderLemmas
 pub mod TopLemmas
+pub mod NearTops
 pub mod UndoLemmas
 pub mod TrialLemmas
 pub mod PutLemmas
 pub mod Tries
 pub mod TakenBack
+pub mod AsideParts
 pub mod AskedRows
 pub mod SiftLemmas
 pub mod SkipLemmas
@@ -40,3 +42,12 @@ pub mod OneAnswer
 pub mod Turning
 pub mod BothOrders
 pub mod OrdersOnce
+pub mod NearSquares
+pub mod AsideSquares
+pub mod AsideSplits
+pub mod AsideMerges
+pub mod Nearness
+pub mod Telling
+pub mod NearTakenBack
+pub mod AsideMarks
+pub mod NearSides

@@ -197,7 +197,7 @@ pub some_new : (repo : List Patch) (b : Contents) {front rest new : List Placed}
 some_new repo b p e = p.repo_split.prerequisites.is_new (λ i h. all_held repo p.split e i (rw (ap infos_of (patches_placed 0 b.patches)) h))
 
 -- so some are merged, where not all of them are skipped
-pub some_merged : (repo : List Patch) (b : Contents) {rest new merged left : List Placed} → Fits repo b rest new → Sifts [] rest new merged left →
+pub some_merged : (repo : List Patch) (b : Contents) {full rest new merged left : List Placed} → Fits repo b full new → Sifts [] rest new merged left →
     ((merged ≡ []) × (left ≢ []) → ⊥) → merged ≢ []
 some_merged repo b fits g some e = some (e, λ h. some_new repo b fits.bundle_split (sym (all_skipped g e) ∙ h))
 

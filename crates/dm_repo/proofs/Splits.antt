@@ -1,6 +1,8 @@
 -- One more patch of a list that is split by marks.
 use Rattle.std.proofs.Common.{◌≡◌, ℕ, zero, suc, ◌+◌, ◌<◌, ◌≤◌, List, [], ◌∷◌, ◌++◌, length, take, drop, get_or, slice_get, Some, Bool, true, false, inl, inr, refl, sym, ap, ◌∙◌, arith, add-zero, append_assoc, append-nil}
 use Rattle.std.proofs.lemmas.List.{take-append-le, take-append-drop, take_all, take_more, drop_more, length-drop, length-take-le}
+use Rattle.std.specs.List.{Contains}
+use Rattle.std.proofs.lemmas.List.Elements.{Contains-append_right}
 use Rattle.std.proofs.lemmas.Bool.{cases_lt}
 use Rattle.dm_named.specs.Patches.{Patch}
 use Rattle.dm_repo.specs.Staircases.{Passes, Split, stays, PassStops, SplitStops}
@@ -8,6 +10,7 @@ use Rattle.dm_repo.specs.Squares.{Placed, placed, placed_from, PlacedCommutes}
 use Rattle.dm_repo.specs.Stops.{AreMarkedUpTo, AtPlaces, StopsAt, BlockedBy, blocked_at, IsMarked}
 use Rattle.dm_repo.specs.declared.stop.Stop.{Stop}
 use Rattle.dm_repo.specs.declared.stop.Stop.TheVariants.{At, NoMemory}
+use Rattle.dm_repo.proofs.Members.{here, one_of, none_of}
 use Rattle.dm_repo.proofs.RowSteps.{around}
 use Rattle.dm_repo.proofs.Staircases.{split_in, split_out}
 
@@ -62,41 +65,51 @@ placed_from_around first xs k x l e =
 pub placed_around : (xs : List Patch) (k : ℕ) (x : Patch) → k < length xs → x ≡ get_or xs k x → placed xs ≡ placed (take k xs) ++ placed_from k (x ∷ drop (k + 1) xs)
 placed_around xs k x l e = let z : 0 + k ≡ k = omega arith in rw z at (placed_from_around 0 xs k x l e)
 
-pub placed_from_more : (first : ℕ) (xs : List Patch) (k : ℕ) (x : Patch) → k < length xs → x ≡ get_or xs k x → placed_from first (take (k + 1) xs) ≡ placed_from first (take k xs) ++ (first + k, x) ∷ []
-placed_from_more first xs k x l e =
-    let n : first + length (take k xs) ≡ first + k = omega (arith, length-take-le k xs (omega (arith, l))) in
-    ap (placed_from first) (take_more xs k x l ∙ ap (λ y. take k xs ++ y ∷ []) (sym e)) ∙ placed_from-append first (take k xs) (x ∷ []) ∙ ap (λ n. placed_from first (take k xs) ++ placed_from n (x ∷ [])) n
+-- x is the next of them
+pub placed_more : (xs : List Patch) (k : ℕ) (x : Patch) (left : List Patch) → drop k xs ≡ x ∷ left → placed (take (k + 1) xs) ≡ placed (take k xs) ++ (k, x) ∷ []
+placed_more xs k x left next =
+    let l = is_left xs k x left next in
+    let n : 0 + length (take k xs) ≡ k = omega (arith, length-take-le k xs (omega (arith, l))) in
+    ap placed (take_more xs k x l ∙ ap (λ y. take k xs ++ y ∷ []) (sym (left_is xs k x left next).0)) ∙ placed_from-append 0 (take k xs) (x ∷ []) ∙ ap (λ n. placed (take k xs) ++ placed_from n (x ∷ [])) n
 
--- of the patches xs, which stand from a place on, those before k were taken, and x is the next
-module _ (first : ℕ) (xs : List Patch) (k : ℕ) (x : Patch) (left : List Patch) (next : drop k xs ≡ x ∷ left) (marks : List Bool) {front rest : List Placed} (m : length marks ≡ first + length xs)
-    (so_far : Split PlacedCommutes (IsMarked marks) (placed_from first (take k xs)) front rest) (d : Bool) where
-  is_within : first + k < length marks
-  is_within = omega (arith, m, is_left xs k x left next)
+-- of the patches all, those that are done were split, and x is the next
+module _ (all done : List Placed) (x : Placed) (left : List Placed) (whole : all ≡ done ++ x ∷ left) (marks : List Bool) {front rest : List Placed} (places : (y : Placed) → Contains all y → y.0 < length marks)
+    (so_far : Split PlacedCommutes (IsMarked marks) done front rest) (d : Bool) where
+  pub is_within : x.0 < length marks
+  is_within = places x (rw whole (Contains-append_right done (x ∷ left) x (here x left)))
 
-  taken_more : placed_from first (take (k + 1) xs) ≡ placed_from first (take k xs) ++ (first + k, x) ∷ []
-  taken_more = placed_from_more first xs k x (is_left xs k x left next) (left_is xs k x left next).0
+  pub split_more_in : {h : Placed} {front' rest' : List Placed} → get_or marks x.0 d ≡ true → Passes PlacedCommutes rest x h rest' → front' ≡ front ++ h ∷ [] →
+      Split PlacedCommutes (IsMarked marks) (done ++ x ∷ []) front' rest'
+  split_more_in marked p f = rw f (split_in Placed PlacedCommutes (IsMarked marks) so_far (mark_at marks x.0 true d is_within marked) p)
 
-  pub split_more_in : {h : Placed} {front' rest' : List Placed} → get_or marks (first + k) d ≡ true → Passes PlacedCommutes rest (first + k, x) h rest' → front' ≡ front ++ h ∷ [] →
-      Split PlacedCommutes (IsMarked marks) (placed_from first (take (k + 1) xs)) front' rest'
-  split_more_in marked p f = rw (f, taken_more) (split_in Placed PlacedCommutes (IsMarked marks) so_far (mark_at marks (first + k) true d is_within marked) p)
-
-  pub split_more_out : {rest' : List Placed} → get_or marks (first + k) d ≡ false → rest' ≡ rest ++ (first + k, x) ∷ [] → Split PlacedCommutes (IsMarked marks) (placed_from first (take (k + 1) xs)) front rest'
-  split_more_out marked r = rw (r, taken_more) (split_out Placed PlacedCommutes (IsMarked marks) so_far (λ h. not_both (mark_at marks (first + k) false d is_within marked) h))
+  pub split_more_out : {rest' : List Placed} → get_or marks x.0 d ≡ false → rest' ≡ rest ++ x ∷ [] → Split PlacedCommutes (IsMarked marks) (done ++ x ∷ []) front rest'
+  split_more_out marked r = rw r (split_out Placed PlacedCommutes (IsMarked marks) so_far (λ h. not_both (mark_at marks x.0 false d is_within marked) h))
     where
-      not_both : slice_get marks (first + k) ≡ Some false → slice_get marks (first + k) ≡ Some true → ⊥
+      not_both : slice_get marks x.0 ≡ Some false → slice_get marks x.0 ≡ Some true → ⊥
       not_both f t = let b : false ≡ true = cc in absurd (cc)
 
-  pub split_stop : {r : Placed} → get_or marks (first + k) d ≡ true → PassStops PlacedCommutes rest (first + k, x) r → SplitStops PlacedCommutes (IsMarked marks) (placed_from first xs) (first + k, x) r
+  pub split_stop : {r : Placed} → get_or marks x.0 d ≡ true → PassStops PlacedCommutes rest x r → SplitStops PlacedCommutes (IsMarked marks) all x r
   split_stop marked s = record {
-    before = placed_from first (take k xs);
-    after = placed_from (first + k + 1) (drop (k + 1) xs);
+    before = done;
+    after = left;
     front = front;
     rest = rest;
-    at = placed_from_around first xs k x (is_left xs k x left next) (left_is xs k x left next).0;
+    at = whole;
     so_far = so_far;
-    in_set = mark_at marks (first + k) true d is_within marked;
+    in_set = mark_at marks x.0 true d is_within marked;
     stops = s;
   }
+
+-- no place is past the marks
+pub places_within : (n : ℕ) (xs : List Patch) (x : Placed) → Contains (placed_from n xs) x → x.0 < n + length xs
+places_within n [] x c = absurd (none_of c)
+places_within n (y ∷ ys) x c = elim (one_of (n, y) (placed_from (n + 1) ys) c) [
+  | inl e ↦ rw (← e) (omega arith)
+  | inr d ↦ let l = places_within (n + 1) ys x d in omega (arith, l)
+]
+
+pub placed_within : (xs : List Patch) (n : ℕ) → n ≡ length xs → (x : Placed) → Contains (placed xs) x → x.0 < n
+placed_within xs n e x c = let l = places_within 0 xs x c in omega (arith, e, l)
 
 -- the first patches stay where all of them are marked
 before_split : (marks : List Bool) (n : ℕ) (xs : List Patch) {ys front rest : List Placed} → ((k : ℕ) → k < length xs → slice_get marks (n + k) ≡ Some true) → Split PlacedCommutes (IsMarked marks) ys front rest →

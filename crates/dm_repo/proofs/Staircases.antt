@@ -27,7 +27,7 @@ module _ (P : Type 0) (Square : P → P → P → P → Type 0) where
 
   -- at most one answer
   module _ (square_one : (p q q1 p1 q2 p2 : P) → Square p q q1 p1 → Square p q q2 p2 → (q1 ≡ q2) × (p1 ≡ p2)) where
-    strip_one : {x x1 z z1 : P} {ys zs ys1 zs1 : List P} → x ≡ z → ys ≡ zs → CellRow Square x ys ys1 x1 → CellRow Square z zs zs1 z1 → (ys1 ≡ zs1) × (x1 ≡ z1)
+    pub strip_one : {x x1 z z1 : P} {ys zs ys1 zs1 : List P} → x ≡ z → ys ≡ zs → CellRow Square x ys ys1 x1 → CellRow Square z zs zs1 z1 → (ys1 ≡ zs1) × (x1 ≡ z1)
     strip_one e f none none = (refl, e)
     strip_one e f none (next c s) = absurd (cc)
     strip_one e f (next c s) none = absurd (cc)

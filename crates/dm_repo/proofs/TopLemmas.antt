@@ -79,7 +79,7 @@ abbrev pub Rise : List Path → Type 0
 Rise [] = Unit {0}
 Rise (x ∷ xs) = AreFrom x xs × Rise xs
 
-from_at : (k : Path) (xs : List Path) → AreFrom k xs → (f : Path) → Contains xs f → UpTo k f
+pub from_at : (k : Path) (xs : List Path) → AreFrom k xs → (f : Path) → Contains xs f → UpTo k f
 from_at k [] a f c = absurd (none_in f c)
 from_at k (x ∷ xs) a f c = elim (in_cons x xs f c) [ inl e ↦ subst (UpTo k) e a.0 | inr d ↦ from_at k xs a.1 f d ]
 
@@ -87,7 +87,7 @@ from_each : (k : Path) (xs : List Path) → ((j : ℕ) (d : Path) → j < length
 from_each k [] h = tt
 from_each k (x ∷ xs) h = (h 0 x (omega arith), from_each k xs (λ j d lt. h (suc j) d (omega (arith, lt))))
 
-rise_each : (xs : List Path) → ((i j : ℕ) (d : Path) → i ≤ j → j < length xs → UpTo (get_or xs i d) (get_or xs j d)) → Rise xs
+pub rise_each : (xs : List Path) → ((i j : ℕ) (d : Path) → i ≤ j → j < length xs → UpTo (get_or xs i d) (get_or xs j d)) → Rise xs
 rise_each [] h = tt
 rise_each (x ∷ xs) h = (from_each x xs (λ j d lt. h 0 (suc j) d (omega arith) (omega (arith, lt))), rise_each xs (λ i j d le lt. h (suc i) (suc j) d (omega (arith, le)) (omega (arith, lt))))
 
@@ -107,7 +107,7 @@ told_under p a b to from = go b refl (under_dec p a)
     go true e (inr h) = absurd (h (to e))
     go false e (inr h) = e
 
-kept_among : (k : Path) (xs : List Path) (f : Path) → Contains (dedup_from is_under k xs) f → Contains (k ∷ xs) f
+pub kept_among : (k : Path) (xs : List Path) (f : Path) → Contains (dedup_from is_under k xs) f → Contains (k ∷ xs) f
 kept_among k xs f c = Contains-from_dedup is_under (k ∷ xs) f c
 
 later : (k : Path) (xs : List Path) (f : Path) → Contains xs f → Contains (k ∷ xs) f

@@ -19,4 +19,6 @@ pub mod Overflows
 pub mod Splitting
 pub mod Orders
 pub mod Words
+pub mod Aside
+pub mod Nearby
 pub mod Laws

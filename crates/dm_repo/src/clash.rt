@@ -91,7 +91,7 @@ fn meet<A: Allocator + Copy>(
         (PlacedMerges (undone next.old) patch.old patch.new (undone next.new))
         (λ at. PrimsClash (undone next.old).1 patch.old.1 at.0 at.1)) }
 {
-    if merge_unchanged(alloc, next, patch)? {
+    if merge_unchanged(alloc, next, alloc, patch)? {
         return Ok(None);
     }
     if let Some(at) = stopped_at(alloc, next.1.named(), patch.1.named())? {

@@ -3,7 +3,8 @@
 //! A repository is a list of patches, and keeps an index of their names and the tree that they make ([`Repo`]). [`weigh`]
 //! looks up what a bundle rests on, splits the repository into that and the rest as [`split`] does, applies the new patches
 //! after the first part and merges them with the second; [`weigh_owned`] does so with a bundle that is given up. All of that is
-//! tried on the part of the tree that the patches reach. What they answer is appended by [`Repo::append`], or copied by
+//! tried on the part of the tree that the patches reach, and the patches of the repository that have nothing to do with the bundle
+//! are neither copied nor undone, where they can be told from the others. What they answer is appended by [`Repo::append`], or copied by
 //! [`Repo::prepare`], which makes all room, and appended by [`Repo::commit`], which can't fail.
 //! For people [`find_misfit`] tells where a new patch doesn't fit, and why; [`find_overflow`] where a path gets too many names;
 //! [`find_clash`] which primitives of a new patch and of a held one can't pass each other; [`find_skips`] which patches are
@@ -26,6 +27,8 @@ mod marks;
 mod merge;
 mod misfit;
 mod names;
+mod near;
+mod nearby;
 mod orders;
 mod overflow;
 mod parted;

@@ -9,6 +9,7 @@ ghost use Rattle.dm_repo.specs.declared.policy.Policy.{Policy};
 ghost use Rattle.dm_repo.specs.declared.policy.Policy.TheVariants.{Refuse, Skip};
 ghost use Rattle.dm_repo.specs.declared.refusal.Refusal.TheVariants.{Full};
 ghost use Rattle.dm_repo.specs.Squares.{Placed, PlacedMerges, patches, undone};
+ghost use Rattle.dm_repo.specs.Aside.{IsRestOf};
 ghost use Rattle.dm_repo.specs.Weighing.{Fits, IsBundleSplit, IsMergeOf, RefusesBundle, most_patches};
 ghost use Rattle.dm_repo.specs.Trials.{MakesPart};
 ghost use Rattle.dm_repo.specs.Stops.{AtPlaces, BlockedBy};
@@ -117,14 +118,15 @@ fn append<A: Allocator, B: Allocator + Copy>(
     })
 }
 
-/// Merges the patches that fit with the rest of the repository: all of them, or none.
+/// Merges the patches that fit with the rest of the repository: all of them, or none. Of the rest, patches that stand aside
+/// may be left out.
 fn merge_whole<A: Allocator + Copy>(
     alloc: A,
     rest: Vec<(usize, Passing<A>), A>,
     new: Vec<(usize, Passing<A>), A>,
 ) -> Result<Merging<A>, Refusal>
-    ensures { (repo : List Patch) (b : Contents) → Fits repo b rest.items new.items → MatchResult result
-        (λ m. MergesUnder Refuse rest.items new.items m.merged.items m.skipped)
+    ensures { (repo : List Patch) (b : Contents) (full : List Placed) → IsRestOf full rest.items new.items → Fits repo b full new.items → MatchResult result
+        (λ m. MergesUnder Refuse full new.items m.merged.items m.skipped)
         (λ why. (why ≢ Full) × RefusesBundle repo b Refuse why) }
 {
     let mut rest = rest;
@@ -137,18 +139,19 @@ fn merge_whole<A: Allocator + Copy>(
 }
 
 /// Merges those of the patches that fit with the rest of the repository that can be, and skips the others.
-fn merge_some<A: Allocator + Copy>(
-    alloc: A,
-    rest: Vec<(usize, Passing<A>), A>,
-    new: Vec<(usize, Passing<A>), A>,
-) -> Result<Merging<A>, Refusal>
-    ensures { (repo : List Patch) (b : Contents) → Fits repo b rest.items new.items → MatchResult result
-        (λ m. MergesUnder Skip rest.items new.items m.merged.items m.skipped)
+fn merge_some<A: Allocator + Copy, B: Allocator + Copy>(
+    own: A,
+    alloc: B,
+    rest: Vec<(usize, Passing<B>), B>,
+    new: Vec<(usize, Passing<B>), B>,
+) -> Result<Merging<B>, Refusal>
+    ensures { (repo : List Patch) (b : Contents) (full : List Placed) → IsRestOf full rest.items new.items → Fits repo b full new.items → MatchResult result
+        (λ m. MergesUnder Skip full new.items m.merged.items m.skipped)
         (λ why. (why ≢ Full) × RefusesBundle repo b Skip why) }
 {
     let mut rest = rest;
     undo_all(alloc, rest.as_mut_slice());
-    let mut sifted = sift(alloc, rest, new)?;
+    let mut sifted = sift(own, alloc, rest, new)?;
     if is_all_skipped(&sifted) {
         let blocked = first_conflict(
             alloc,
@@ -164,36 +167,37 @@ fn merge_some<A: Allocator + Copy>(
     })
 }
 
-/// Merges the patches that fit with the rest of the repository, as the policy says.
-pub(crate) fn merge_with<A: Allocator + Copy>(
-    alloc: A,
-    rest: Vec<(usize, Passing<A>), A>,
-    new: Vec<(usize, Passing<A>), A>,
+/// Merges the patches that fit with the rest of the repository, as the policy says. What is only tried lies in its own memory.
+pub(crate) fn merge_with<A: Allocator + Copy, B: Allocator + Copy>(
+    own: A,
+    alloc: B,
+    rest: Vec<(usize, Passing<B>), B>,
+    new: Vec<(usize, Passing<B>), B>,
     policy: Policy,
-) -> Result<Merging<A>, Refusal>
-    ensures { (repo : List Patch) (b : Contents) → Fits repo b rest.items new.items → MatchResult result
-        (λ m. MergesUnder policy rest.items new.items m.merged.items m.skipped)
+) -> Result<Merging<B>, Refusal>
+    ensures { (repo : List Patch) (b : Contents) (full : List Placed) → IsRestOf full rest.items new.items → Fits repo b full new.items → MatchResult result
+        (λ m. MergesUnder policy full new.items m.merged.items m.skipped)
         (λ why. (why ≢ Full) × RefusesBundle repo b policy why) }
 {
     match policy {
         Policy::Refuse => merge_whole(alloc, rest, new),
-        Policy::Skip => merge_some(alloc, rest, new),
+        Policy::Skip => merge_some(own, alloc, rest, new),
     }
 }
 
 /// Merges the patches that fit with the rest of the repository, and applies what comes of them to a part of its tree.
-pub(crate) fn merge<A: Allocator, B: Allocator + Copy>(
+pub(crate) fn merge<A: Allocator + Copy, B: Allocator + Copy>(
     alloc: B,
     repo: &Repo<A>,
     rest: Vec<(usize, Passing<B>), B>,
     new: Vec<(usize, Passing<B>), B>,
     policy: Policy,
 ) -> Result<Merged<B>, Refusal>
-    ensures { (b : Contents) → Fits repo.now.patches b rest.items new.items → MatchResult result
+    ensures { (b : Contents) (full : List Placed) → IsRestOf full rest.items new.items → Fits repo.now.patches b full new.items → MatchResult result
         (λ m. IsMergeOf repo.now.patches b policy m.patches.items m.skipped × MakesPart repo.now.patches m.patches.items m.paths.items (finmap.get m.part))
         (λ why. RefusesBundle repo.now.patches b policy why) }
 {
-    let merging = merge_with(alloc, rest, new, policy)?;
+    let merging = merge_with(repo.alloc(), alloc, rest, new, policy)?;
     append(alloc, repo, merging.merged, merging.skipped)
 }
 

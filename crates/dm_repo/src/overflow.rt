@@ -75,7 +75,7 @@ fn front_overflow<A: Allocator + Copy, B: Allocator + Copy>(
 }
 
 /// The first new patch that makes a path of more than 32 names, where the merged ones are applied to the repository's tree.
-fn merged_overflow<A: Allocator, B: Allocator + Copy>(
+fn merged_overflow<A: Allocator + Copy, B: Allocator + Copy>(
     alloc: B,
     repo: &Repo<A>,
     basis: Basis<B>,
@@ -87,7 +87,7 @@ fn merged_overflow<A: Allocator, B: Allocator + Copy>(
         (MergedOverflows repo.now.patches b policy))
         (λ why. (why ≢ Full) × RefusesBundle repo.now.patches b policy why) }
 {
-    let merging = merge_with(alloc, basis.rest, basis.new, policy)?;
+    let merging = merge_with(repo.alloc(), alloc, basis.rest, basis.new, policy)?;
     if is_too_many(repo.len(), merging.merged.len()) {
         return Ok(None);
     }

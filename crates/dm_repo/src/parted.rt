@@ -1,11 +1,14 @@
 //! Splitting a list of patches: the marked ones go to the front, past the others.
-ghost use Rattle.std.specs.Prelude.{◌≡◌, ◌↔◌, ◌≤◌, ◌+◌, ◌++◌, List, length, take, IfOk, IfErr, MatchResult};
+ghost use Rattle.std.specs.Prelude.{◌≡◌, ◌↔◌, ◌≤◌, ◌<◌, ◌++◌, List, length, take, All, Contains, IfOk, IfErr, MatchResult};
+ghost use Rattle.dm_tree.specs.Paths.{Path};
 ghost use Rattle.dm_prim.specs.Primitives.{LawfulMap};
 ghost use Rattle.dm_named.specs.Patches.{Patch};
 ghost use Rattle.dm_bundle.specs.Bundles.{Contents};
 ghost use Rattle.dm_repo.specs.declared.policy.Policy.{Policy};
 ghost use Rattle.dm_repo.specs.Staircases.{Split, SplitStops};
-ghost use Rattle.dm_repo.specs.Squares.{Placed, patches, placed, placed_from, PlacedCommutes};
+ghost use Rattle.dm_repo.specs.Squares.{Placed, patches, placed, PlacedCommutes};
+ghost use Rattle.dm_repo.specs.Aside.{LeavesAside, StandsNear};
+ghost use Rattle.dm_repo.specs.Nearby.{IsNearby, behind, marked};
 ghost use Rattle.dm_repo.specs.Folds.{Fold};
 ghost use Rattle.dm_repo.specs.Marking.{AreMarked};
 ghost use Rattle.dm_repo.specs.Refusals.{IsBeforeFront};
@@ -17,7 +20,7 @@ ghost use Rattle.dm_repo.specs.Stops.{AreMarkedUpTo, AtPlaces, BlockedBy, IsMark
 use crate::marks::{Marks, common_marks};
 use crate::passing::pass;
 use crate::refusal::Refusal;
-use crate::repo::{Repo, copy_patches};
+use crate::repo::Repo;
 use crate::stop::Blocked;
 use dm_bundle::Bundle;
 use dm_named::{Named, Passing};
@@ -53,22 +56,20 @@ fn at_rest<A: Allocator + Copy>(
     Ok(patches)
 }
 
-/// Splits patches: the marked ones in front. They stand in their list from the place `first` on.
+/// Splits patches: the marked ones in front.
 fn split_by<A: Allocator + Copy>(
     alloc: A,
-    patches: Vec<Named<A>, A>,
+    patches: Vec<(usize, Named<A>), A>,
     marks: &[bool],
-    first: usize,
 ) -> Result<Halves<A>, Blocked>
-    requires { length marks.now ≡ first + length patches.items }
+    requires { (x : Placed) → Contains patches.items x → x.0 < length marks.now }
     ensures { MatchResult result
-        (λ parted. Split PlacedCommutes (IsMarked marks.now) (placed_from first patches.items) parted.front.items parted.rest.items)
-        (λ blocked. BlockedBy blocked (AtPlaces (SplitStops PlacedCommutes (IsMarked marks.now) (placed_from first patches.items)))) }
+        (λ parted. Split PlacedCommutes (IsMarked marks.now) patches.items parted.front.items parted.rest.items)
+        (λ blocked. BlockedBy blocked (AtPlaces (SplitStops PlacedCommutes (IsMarked marks.now) patches.items))) }
 {
     let mut front = Vec::new(alloc);
     let mut rest = Vec::new(alloc);
-    for (k, patch) in patches.into_iter().enumerate() {
-        let place = first + k;
+    for (place, patch) in patches {
         let passing = Passing::new(patch);
         let mut placed = (place, passing);
         if !marks[place] {
@@ -97,6 +98,57 @@ pub(crate) fn kept_in_place(marks: &[bool]) -> usize
     marks.len()
 }
 
+/// Copies of the patches of a list from a place on, each with its place.
+fn copy_behind<A: Allocator, B: Allocator + Copy>(
+    alloc: B,
+    patches: &[Named<A>],
+    kept: usize,
+) -> Result<Vec<(usize, Named<B>), B>, AllocError>
+    ensures { IfOk result (λ copies. copies.items ≡ behind kept patches.now) }
+{
+    let mut copies = Vec::new(alloc);
+    for k in kept..patches.len() {
+        let patch = patches[k].copy_into(alloc)?;
+        copies.push((k, patch))?;
+    }
+    Ok(copies)
+}
+
+/// Copies of those from a place on that are marked, each with its place.
+fn copy_marked<A: Allocator, B: Allocator + Copy>(
+    alloc: B,
+    patches: &[Named<A>],
+    kept: usize,
+    near: &[bool],
+) -> Result<Vec<(usize, Named<B>), B>, AllocError>
+    requires { length near.now ≡ length patches.now }
+    ensures { IfOk result (λ copies. copies.items ≡ marked near.now (behind kept patches.now)) }
+{
+    let mut copies = Vec::new(alloc);
+    for k in kept..patches.len() {
+        if !near[k] {
+            continue;
+        }
+        let patch = patches[k].copy_into(alloc)?;
+        copies.push((k, patch))?;
+    }
+    Ok(copies)
+}
+
+/// The patches of a list with their places in it.
+fn with_places<A: Allocator + Copy>(
+    alloc: A,
+    patches: Vec<Named<A>, A>,
+) -> Result<Vec<(usize, Named<A>), A>, AllocError>
+    ensures { IfOk result (λ list. list.items ≡ placed patches.items) }
+{
+    let mut list = Vec::new(alloc);
+    for (k, patch) in patches.into_iter().enumerate() {
+        list.push((k, patch))?;
+    }
+    Ok(list)
+}
+
 /// Splits the repository: the common patches in front. Of them the first `kept` stay where they are; the other patches of
 /// the repository are copied.
 pub(crate) fn split_repo<A: Allocator, B: Allocator + Copy>(
@@ -112,8 +164,33 @@ pub(crate) fn split_repo<A: Allocator, B: Allocator + Copy>(
         (λ p. Split PlacedCommutes (IsCommon repo.now.patches b) (placed repo.now.patches) (placed (take kept repo.now.patches) ++ p.front.items) p.rest.items)
         (λ why. RefusesToSplit repo.now.patches b why) }
 {
-    let copied = copy_patches(alloc, &repo.patches()[kept..])?;
-    match split_by(alloc, copied, &marks.common, kept) {
+    let copied = copy_behind(alloc, repo.patches(), kept)?;
+    match split_by(alloc, copied, &marks.common) {
+        Ok(parted) => Ok(parted),
+        Err(blocked) => Err(blocked.context_depends()),
+    }
+}
+
+/// The same, where of the patches behind the first those alone are copied that are marked: the others stand aside.
+pub(crate) fn split_near<A: Allocator, B: Allocator + Copy>(
+    alloc: B,
+    repo: &Repo<A>,
+    marks: &Marks<B>,
+    kept: usize,
+    near: &[bool],
+) -> Result<Halves<B>, Refusal>
+    requires marks { length marks.now.common.items ≡ length repo.now.patches }
+    requires near { length near.now ≡ length repo.now.patches }
+    requires within { kept ≤ length marks.now.common.items }
+    requires marked { AreMarkedUpTo marks.now.common.items kept }
+    ensures { (b : Contents) (new : List Patch) (ps : List Path) → AreMarked repo.now.patches b marks.now.common.items marks.now.held.items →
+        IsNearby repo.now.patches kept marks.now.common.items new ps near.now → MatchResult result
+        (λ p. (full : List Placed) × Split PlacedCommutes (IsCommon repo.now.patches b) (placed repo.now.patches) (placed (take kept repo.now.patches) ++ p.front.items) full ×
+        LeavesAside ps full p.rest.items × All (λ x. StandsNear ps x.1) p.front.items)
+        (λ why. RefusesToSplit repo.now.patches b why) }
+{
+    let copied = copy_marked(alloc, repo.patches(), kept, near)?;
+    match split_by(alloc, copied, &marks.common) {
         Ok(parted) => Ok(parted),
         Err(blocked) => Err(blocked.context_depends()),
     }
@@ -131,7 +208,8 @@ pub(crate) fn split_held<A: Allocator + Copy>(
         (λ chosen. IsBundleSplit repo b front rest chosen.items)
         (λ why. IsBeforeFront why × RefusesBundle repo b policy why) }
 {
-    match split_by(alloc, new, &marks.held, 0) {
+    let placed = with_places(alloc, new)?;
+    match split_by(alloc, placed, &marks.held) {
         Ok(parted) => Ok(parted.rest),
         Err(blocked) => Err(blocked.held_depends()),
     }

@@ -183,6 +183,11 @@ impl<A: Allocator + Copy> Repo<A> {
         }
     }
 
+    /// The allocator of its patches.
+    pub(crate) fn alloc(&self) -> A {
+        *self.patches.allocator()
+    }
+
     /// The place of the patch of this name, if it is held, where the name lies under another allocator.
     pub(crate) fn find<B: Allocator>(&self, info: &Info<B>) -> Result<Option<usize>, AllocError>
         ensures { IfOk result (λ found. MatchOption found

@@ -1,5 +1,8 @@
 //! Merging patches one after the other, where those that can't be merged are skipped.
-ghost use Rattle.std.specs.Prelude.{◌≡◌, ◌≢◌, ◌↔◌, List, [], map, IfOk, IsTrue, MatchBool, MatchOption, MatchResult};
+//!
+//! The patches lie in the memory of the bundle, `alloc`, which may be given back as a whole alone. What is only tried is a copy in
+//! the memory of the repository, `own`, where each copy is given back as soon as it was tried.
+ghost use Rattle.std.specs.Prelude.{◌≡◌, ◌≢◌, ◌↔◌, List, [], map, IfOk, IsTrue, MatchBool, MatchOption};
 ghost use Rattle.dm_repo.specs.declared.policy.Policy.TheVariants as policies;
 ghost use Rattle.dm_repo.specs.Merging.{MergesPast, MergePastStops};
 ghost use Rattle.dm_repo.specs.Sifting.{ConflictsUnder, MergesOver, Sifts};
@@ -24,11 +27,11 @@ pub(crate) struct Sifted<A: Allocator> {
     pub(crate) rest: Vec<(usize, Passing<A>), A>,
 }
 
-/// A copy of a patch.
-fn copy_of<A: Allocator + Copy>(
-    alloc: A,
+/// A copy of a patch, under another allocator.
+fn copy_of<A: Allocator, B: Allocator + Copy>(
+    alloc: B,
     patch: &(usize, Passing<A>),
-) -> Result<(usize, Passing<A>), AllocError>
+) -> Result<(usize, Passing<B>), AllocError>
     ensures { IfOk result (λ copy. copy ≡ patch.now) }
 {
     let copy = patch.1.named().copy_into(alloc)?;
@@ -36,10 +39,11 @@ fn copy_of<A: Allocator + Copy>(
 }
 
 /// Whether `patch` passes `next`, and neither is changed by it: neither names the other, and they touch nothing in common.
-fn pass_unchanged<A: Allocator + Copy>(
+fn pass_unchanged<A: Allocator + Copy, B: Allocator + Copy>(
     alloc: A,
     next: &mut (usize, Passing<A>),
-    patch: &mut (usize, Passing<A>),
+    other: B,
+    patch: &mut (usize, Passing<B>),
 ) -> Result<bool, AllocError>
     ensures next { next.new ≡ next.old }
     ensures patch { patch.new ≡ patch.old }
@@ -51,7 +55,7 @@ fn pass_unchanged<A: Allocator + Copy>(
     if next.1.named().depends_on(patch.1.named().info()) {
         return Ok(false);
     }
-    let unchanged = are_apart(alloc, &mut next.1, alloc, &mut patch.1)?;
+    let unchanged = are_apart(alloc, &mut next.1, other, &mut patch.1)?;
     Ok(unchanged)
 }
 
@@ -67,7 +71,7 @@ fn passes_unchanged<A: Allocator + Copy>(
 {
     for k in (0..skipped.len()).rev() {
         let nearest = &mut skipped[k];
-        if !pass_unchanged(alloc, nearest, patch)? {
+        if !pass_unchanged(alloc, nearest, alloc, patch)? {
             return Ok(false);
         }
     }
@@ -75,16 +79,17 @@ fn passes_unchanged<A: Allocator + Copy>(
 }
 
 /// Whether `patch` is merged with `next`, which is undone, and neither is changed by it: they touch nothing in common.
-pub(crate) fn merge_unchanged<A: Allocator + Copy>(
+pub(crate) fn merge_unchanged<A: Allocator + Copy, B: Allocator + Copy>(
     alloc: A,
     next: &mut (usize, Passing<A>),
-    patch: &mut (usize, Passing<A>),
+    other: B,
+    patch: &mut (usize, Passing<B>),
 ) -> Result<bool, AllocError>
     ensures next { next.new ≡ next.old }
     ensures patch { patch.new ≡ patch.old }
     ensures square { IfOk result (λ unchanged. IsTrue unchanged → PlacedMerges (undone next.old) patch.old patch.old (undone next.old)) }
 {
-    let unchanged = are_apart(alloc, &mut next.1, alloc, &mut patch.1)?;
+    let unchanged = are_apart(alloc, &mut next.1, other, &mut patch.1)?;
     Ok(unchanged)
 }
 
@@ -101,7 +106,7 @@ fn merges_unchanged<A: Allocator + Copy>(
 {
     for k in 0..rest.len() {
         let next = &mut rest[k];
-        if !merge_unchanged(alloc, next, patch)? {
+        if !merge_unchanged(alloc, next, alloc, patch)? {
             return Ok(false);
         }
     }
@@ -109,9 +114,10 @@ fn merges_unchanged<A: Allocator + Copy>(
 }
 
 /// Whether `patch` passes `next`, which stays as it is.
-fn would_pass<A: Allocator + Copy>(
-    alloc: A,
-    next: &mut (usize, Passing<A>),
+fn would_pass<A: Allocator + Copy, B: Allocator + Copy>(
+    own: A,
+    alloc: B,
+    next: &mut (usize, Passing<B>),
     patch: &mut (usize, Passing<A>),
 ) -> Result<bool, AllocError>
     ensures same { next.new ≡ next.old }
@@ -119,19 +125,20 @@ fn would_pass<A: Allocator + Copy>(
         ((left : Placed) × PlacedCommutes next.old patch.old patch.new left)
         ((over : Placed) (left : Placed) → PlacedCommutes next.old patch.old over left → ⊥)) }
 {
-    if pass_unchanged(alloc, next, patch)? {
+    if pass_unchanged(alloc, next, own, patch)? {
         return Ok(true);
     }
-    let mut tried = copy_of(alloc, next)?;
-    let passes = commute_named_in_place(alloc, &mut tried.1, &mut patch.1)?;
+    let mut tried = copy_of(own, next)?;
+    let passes = commute_named_in_place(own, &mut tried.1, &mut patch.1)?;
     Ok(passes)
 }
 
 /// Passes `patch` over all of `rest`, the nearest first, which is the last, and answers the place of the one that stops it;
 /// `rest` stays as it is.
-fn would_pass_all<A: Allocator + Copy>(
-    alloc: A,
-    rest: &mut [(usize, Passing<A>)],
+fn would_pass_all<A: Allocator + Copy, B: Allocator + Copy>(
+    own: A,
+    alloc: B,
+    rest: &mut [(usize, Passing<B>)],
     patch: &mut (usize, Passing<A>),
 ) -> Result<Option<usize>, AllocError>
     ensures same { rest.new ≡ rest.old }
@@ -141,7 +148,7 @@ fn would_pass_all<A: Allocator + Copy>(
 {
     for k in (0..rest.len()).rev() {
         let nearest = &mut rest[k];
-        if !would_pass(alloc, nearest, patch)? {
+        if !would_pass(own, alloc, nearest, patch)? {
             return Ok(Some(nearest.0));
         }
     }
@@ -149,9 +156,10 @@ fn would_pass_all<A: Allocator + Copy>(
 }
 
 /// Whether `patch` is merged with `next`, which is undone and stays as it is.
-fn would_merge<A: Allocator + Copy>(
-    alloc: A,
-    next: &mut (usize, Passing<A>),
+fn would_merge<A: Allocator + Copy, B: Allocator + Copy>(
+    own: A,
+    alloc: B,
+    next: &mut (usize, Passing<B>),
     patch: &mut (usize, Passing<A>),
 ) -> Result<bool, AllocError>
     ensures same { next.new ≡ next.old }
@@ -159,19 +167,20 @@ fn would_merge<A: Allocator + Copy>(
         ((left : Placed) × PlacedMerges (undone next.old) patch.old patch.new left)
         ((over : Placed) (left : Placed) → PlacedMerges (undone next.old) patch.old over left → ⊥)) }
 {
-    if merge_unchanged(alloc, next, patch)? {
+    if merge_unchanged(alloc, next, own, patch)? {
         return Ok(true);
     }
-    let mut tried = copy_of(alloc, next)?;
-    let merges = commute_prims_in_place(alloc, &mut tried.1, &mut patch.1)?;
+    let mut tried = copy_of(own, next)?;
+    let merges = commute_prims_in_place(own, &mut tried.1, &mut patch.1)?;
     Ok(merges)
 }
 
 /// Merges `patch` with all of `rest`, the first of them first, and answers the place of the one that stops it; each of `rest` is
 /// undone, and stays as it is.
-fn would_merge_all<A: Allocator + Copy>(
-    alloc: A,
-    rest: &mut [(usize, Passing<A>)],
+fn would_merge_all<A: Allocator + Copy, B: Allocator + Copy>(
+    own: A,
+    alloc: B,
+    rest: &mut [(usize, Passing<B>)],
     patch: &mut (usize, Passing<A>),
 ) -> Result<Option<usize>, AllocError>
     ensures same { rest.new ≡ rest.old }
@@ -181,74 +190,78 @@ fn would_merge_all<A: Allocator + Copy>(
 {
     for k in 0..rest.len() {
         let next = &mut rest[k];
-        if !would_merge(alloc, next, patch)? {
+        if !would_merge(own, alloc, next, patch)? {
             return Ok(Some(next.0));
         }
     }
     Ok(None)
 }
 
-/// The same as `merge_over`, of a patch that may change others or be changed by them. It is asked first, since a patch that
-/// can't pass another leaves nothing of it; what shares nothing with the patch isn't copied for that.
-fn merge_meeting<A: Allocator + Copy>(
-    alloc: A,
-    skipped: &mut [(usize, Passing<A>)],
-    rest: &mut [(usize, Passing<A>)],
-    patch: &(usize, Passing<A>),
-) -> Result<Result<(usize, Passing<A>), Stopper>, AllocError>
-    ensures { IfOk result (λ answer. MatchResult answer
-        (λ n. MergesOver skipped.old (map undone rest.old) patch.now n skipped.new (map undone rest.new))
-        (λ by. (skipped.new ≡ skipped.old) × (rest.new ≡ rest.old) × IsStoppedBy skipped.old (map undone rest.old) patch.now by)) }
+/// The same as `merge_over`, of a patch that may change others or be changed by them. A copy of it is asked first, since a patch
+/// that can't pass another leaves nothing of it; what shares nothing with the patch isn't copied for that.
+fn merge_meeting<A: Allocator + Copy, B: Allocator + Copy>(
+    own: A,
+    alloc: B,
+    skipped: &mut [(usize, Passing<B>)],
+    rest: &mut [(usize, Passing<B>)],
+    patch: &mut (usize, Passing<B>),
+) -> Result<Option<Stopper>, AllocError>
+    ensures { IfOk result (λ stopper. MatchOption stopper
+        (MergesOver skipped.old (map undone rest.old) patch.old patch.new skipped.new (map undone rest.new))
+        (λ by. (skipped.new ≡ skipped.old) × (rest.new ≡ rest.old) × (patch.new ≡ patch.old) ×
+        IsStoppedBy skipped.old (map undone rest.old) patch.old by)) }
 {
-    let mut asked = copy_of(alloc, patch)?;
-    if let Some(place) = would_pass_all(alloc, skipped, &mut asked)? {
-        return Ok(Err(Stopper::Skipped(place)));
+    let mut asked = copy_of(own, patch)?;
+    if let Some(place) = would_pass_all(own, alloc, skipped, &mut asked)? {
+        return Ok(Some(Stopper::Skipped(place)));
     }
-    if let Some(place) = would_merge_all(alloc, rest, &mut asked)? {
-        return Ok(Err(Stopper::Held(place)));
+    if let Some(place) = would_merge_all(own, alloc, rest, &mut asked)? {
+        return Ok(Some(Stopper::Held(place)));
     }
-    let mut over = copy_of(alloc, patch)?;
-    match pass(alloc, skipped, &mut over) {
+    match pass(alloc, skipped, patch) {
         Ok(()) => {}
         Err(Stop::At(_)) => unreachable!(),
         Err(stop) => return Err(stop.refused()),
     }
-    match merge_past(alloc, rest, &mut over) {
+    match merge_past(alloc, rest, patch) {
         Ok(()) => {}
         Err(Stop::At(_)) => unreachable!(),
         Err(stop) => return Err(stop.refused()),
     }
-    Ok(Ok(over))
+    Ok(None)
 }
 
-/// The patch as it is once it has passed the skipped ones and is merged with the rest, or what stops it: then neither is changed.
-fn merge_over<A: Allocator + Copy>(
-    alloc: A,
-    skipped: &mut [(usize, Passing<A>)],
-    rest: &mut [(usize, Passing<A>)],
-    patch: &(usize, Passing<A>),
-) -> Result<Result<(usize, Passing<A>), Stopper>, AllocError>
-    ensures { IfOk result (λ answer. MatchResult answer
-        (λ n. MergesOver skipped.old (map undone rest.old) patch.now n skipped.new (map undone rest.new))
-        (λ by. (skipped.new ≡ skipped.old) × (rest.new ≡ rest.old) × IsStoppedBy skipped.old (map undone rest.old) patch.now by)) }
+/// Passes `patch` over the skipped ones and merges it with the rest, and answers what stops it, if anything does: then nothing is
+/// changed.
+fn merge_over<A: Allocator + Copy, B: Allocator + Copy>(
+    own: A,
+    alloc: B,
+    skipped: &mut [(usize, Passing<B>)],
+    rest: &mut [(usize, Passing<B>)],
+    patch: &mut (usize, Passing<B>),
+) -> Result<Option<Stopper>, AllocError>
+    ensures { IfOk result (λ stopper. MatchOption stopper
+        (MergesOver skipped.old (map undone rest.old) patch.old patch.new skipped.new (map undone rest.new))
+        (λ by. (skipped.new ≡ skipped.old) × (rest.new ≡ rest.old) × (patch.new ≡ patch.old) ×
+        IsStoppedBy skipped.old (map undone rest.old) patch.old by)) }
 {
-    let mut copy = copy_of(alloc, patch)?;
-    if !passes_unchanged(alloc, skipped, &mut copy)? {
-        return merge_meeting(alloc, skipped, rest, patch);
+    if !passes_unchanged(alloc, skipped, patch)? {
+        return merge_meeting(own, alloc, skipped, rest, patch);
     }
-    if !merges_unchanged(alloc, rest, &mut copy)? {
-        return merge_meeting(alloc, skipped, rest, patch);
+    if !merges_unchanged(alloc, rest, patch)? {
+        return merge_meeting(own, alloc, skipped, rest, patch);
     }
-    Ok(Ok(copy))
+    Ok(None)
 }
 
 /// Each of `new`, from left to right, passes those that were skipped and is merged with all of `rest`, each of which is
 /// undone; what can't is skipped, and what stops it is kept.
-pub(crate) fn sift<A: Allocator + Copy>(
-    alloc: A,
-    rest: Vec<(usize, Passing<A>), A>,
-    new: Vec<(usize, Passing<A>), A>,
-) -> Result<Sifted<A>, AllocError>
+pub(crate) fn sift<A: Allocator + Copy, B: Allocator + Copy>(
+    own: A,
+    alloc: B,
+    rest: Vec<(usize, Passing<B>), B>,
+    new: Vec<(usize, Passing<B>), B>,
+) -> Result<Sifted<B>, AllocError>
     ensures sifts { IfOk result (λ s. SiftsFor [] (map undone rest.items) new.items s.merged.items s.skipped.items s.skips.items) }
     ensures same_rest { IfOk result (λ s. s.merged.items ≡ [] → s.rest.items ≡ rest.items) }
 {
@@ -257,9 +270,16 @@ pub(crate) fn sift<A: Allocator + Copy>(
     let mut skipped = Vec::new(alloc);
     let mut skips = Vec::new(alloc);
     for patch in new {
-        match merge_over(alloc, skipped.as_mut_slice(), rest.as_mut_slice(), &patch)? {
-            Ok(over) => merged.push(over)?,
-            Err(by) => {
+        let mut patch = patch;
+        match merge_over(
+            own,
+            alloc,
+            skipped.as_mut_slice(),
+            rest.as_mut_slice(),
+            &mut patch,
+        )? {
+            None => merged.push(patch)?,
+            Some(by) => {
                 let place = patch.0;
                 skips.push(Skip { place, by })?;
                 skipped.push(patch)?;

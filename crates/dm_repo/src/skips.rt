@@ -35,6 +35,6 @@ pub fn find_skips<A: Allocator + Copy, B: Allocator + Copy>(
     };
     let mut rest = basis.rest;
     undo_all(alloc, rest.as_mut_slice());
-    let sifted = sift(alloc, rest, basis.new)?;
+    let sifted = sift(repo.alloc(), alloc, rest, basis.new)?;
     Ok(sifted.skips)
 }

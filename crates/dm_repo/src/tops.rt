@@ -1,7 +1,10 @@
 //! Those of some paths that are at or under no other one.
-ghost use Rattle.std.specs.Prelude.{◌≡◌};
+ghost use Rattle.std.specs.Prelude.{◌≡◌, ◌≤◌, true, false, length};
+ghost use Rattle.std.specs.Ordering.{is_lt};
+ghost use Rattle.std.specs.List.Sorted.{IsPartitionPoint};
 ghost use Rattle.dm_tree.specs.Reach.{AreBelowRoot, AreTopsOf};
 ghost use Rattle.dm_tree.specs.Trees.{path_cmp};
+ghost use Rattle.dm_repo.specs.Nearby.{AreSortedTops};
 
 use dm_tree::Path;
 use std::alloc::Allocator;
@@ -28,6 +31,7 @@ fn compare<A: Allocator, B: Allocator>(left: &Path<A>, right: &Path<B>) -> Order
 pub(crate) fn thin<A: Allocator>(paths: Vec<Path<A>, A>) -> Vec<Path<A>, A>
     ensures tops { AreTopsOf paths.items result.items }
     ensures below { AreBelowRoot result.items }
+    ensures sorted { AreSortedTops result.items }
 {
     let mut tops = paths;
     tops.sort_unstable_by(compare);
@@ -38,10 +42,19 @@ pub(crate) fn thin<A: Allocator>(paths: Vec<Path<A>, A>) -> Vec<Path<A>, A>
 }
 
 /// No path is the root: each has a name.
-fn prove_names<A: Allocator>(paths: &[Path<A>])
+pub(crate) fn prove_names<A: Allocator>(paths: &[Path<A>])
     ensures { AreBelowRoot paths.now }
 {
     for path in paths {
         prove!(path.len() != 0);
     }
+}
+
+/// Where a path would stand among sorted tops: behind those that come after it in the order of names.
+pub(crate) fn place_among<A: Allocator, B: Allocator>(path: &Path<A>, tops: &[Path<B>]) -> usize
+    requires { AreSortedTops tops.now }
+    ensures within { result ≤ length tops.now }
+    ensures parts { IsPartitionPoint (λ top. is_lt (path_cmp path.now top) ≡ true) (λ top. is_lt (path_cmp path.now top) ≡ false) tops.now result }
+{
+    tops.partition_point(|top| compare(path, top).is_lt())
 }

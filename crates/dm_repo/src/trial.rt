@@ -1,15 +1,19 @@
 //! Trying patches on a part of a tree: on what their paths reach.
-ghost use Rattle.std.specs.Prelude.{◌≡◌, ◌≤◌, ◌∷◌, [], take, drop, length, IfOk, OnOk, MatchResult};
+ghost use Rattle.std.specs.Prelude.{◌≡◌, ◌≤◌, ◌∷◌, [], All, List, take, drop, length, IfOk, OnOk, MatchResult};
 ghost use Rattle.std.specs.FinMap as map;
 ghost use Rattle.dm_prim.specs.Primitives.{LawfulMap};
 ghost use Rattle.dm_repo.specs.Folds.{IsStopped};
-ghost use Rattle.dm_repo.specs.Squares.{patches};
+ghost use Rattle.dm_repo.specs.Squares.{Placed, patches};
 ghost use Rattle.dm_repo.specs.Repositories.{IsMapOf};
 ghost use Rattle.dm_repo.specs.Weighing.{FitStops};
 ghost use Rattle.dm_repo.specs.Stops.{StopsAt};
-ghost use Rattle.dm_repo.specs.Trials.{AddsPaths, IsPartFor, MakesPartOf, PatchNamesAmong, ReachesPart, undo_all};
+ghost use Rattle.dm_tree.specs.Reach.{AreBelowRoot};
+ghost use Rattle.dm_repo.specs.Aside.{LeavesAside};
+ghost use Rattle.dm_repo.specs.Nearby.{behind, marked};
+ghost use Rattle.dm_repo.specs.Trials.{AddsPaths, IsPartFor, MakesPartOf, PatchNamesAmong, PatchNamesUnder, ReachesPart, undo_all};
 
 use crate::fit::fit;
+use crate::nearby::Nearby;
 use crate::repo::Repo;
 use crate::stop::Stop;
 use crate::tops::thin;
@@ -38,7 +42,7 @@ fn names_of<A: Allocator, B: Allocator + Copy>(
 }
 
 /// Adds the paths that a patch names.
-fn add_names<A: Allocator, B: Allocator + Copy>(
+pub(crate) fn add_names<A: Allocator, B: Allocator + Copy>(
     paths: &mut Vec<Path<B>, B>,
     alloc: B,
     patch: &Named<A>,
@@ -51,7 +55,7 @@ fn add_names<A: Allocator, B: Allocator + Copy>(
 }
 
 /// Adds the paths that patches name.
-fn add_names_of_all<A: Allocator, B: Allocator + Copy>(
+pub(crate) fn add_names_of_all<A: Allocator, B: Allocator + Copy>(
     paths: &mut Vec<Path<B>, B>,
     alloc: B,
     list: &[Named<A>],
@@ -125,6 +129,54 @@ fn undone<A: Allocator, B: Allocator + Copy>(
         copies.push((place, copy))?;
     }
     Ok(copies)
+}
+
+/// Copies of the marked patches behind the first `kept`, each undone, the last one first.
+fn undone_marked<A: Allocator, B: Allocator + Copy>(
+    alloc: B,
+    list: &[Named<A>],
+    kept: usize,
+    marks: &[bool],
+) -> Result<Vec<(usize, Passing<B>), B>, AllocError>
+    requires kept { kept ≤ length list.now }
+    requires marks { length marks.now ≡ length list.now }
+    ensures { IfOk result (λ copies. patches copies.items ≡ undo_all (patches (marked marks.now (behind kept list.now)))) }
+{
+    let mut copies = Vec::new(alloc);
+    for k in 0..list.len() - kept {
+        let place = list.len() - 1 - k;
+        if !marks[place] {
+            continue;
+        }
+        let mut copy = Passing::new(list[place].copy_into(alloc)?);
+        copy.undo(alloc);
+        copies.push((place, copy))?;
+    }
+    Ok(copies)
+}
+
+/// The part of the tree that the first `kept` patches of a repository make, which some paths reach. It is taken from the kept
+/// tree, in which the marked ones of the other patches are undone.
+pub(crate) fn part_nearby<A: Allocator, B: Allocator + Copy>(
+    alloc: B,
+    repo: &Repo<A>,
+    kept: usize,
+    nearby: &Nearby<B>,
+) -> Result<Tree<B>, AllocError>
+    requires within { kept ≤ length repo.now.patches }
+    requires marks { length nearby.now.marks.items ≡ length repo.now.patches }
+    requires below { AreBelowRoot nearby.now.paths.items }
+    requires leaves { LeavesAside nearby.now.paths.items (behind kept repo.now.patches) (marked nearby.now.marks.items (behind kept repo.now.patches)) }
+    ensures { IfOk result (λ part. (front new : List Placed) → All (PatchNamesUnder nearby.now.paths.items) (patches front) → All (PatchNamesUnder nearby.now.paths.items) (patches new) →
+        IsPartFor (take kept repo.now.patches) front new part) }
+{
+    repo.lawful();
+    let mut part = repo.tree().part(alloc, &nearby.paths)?;
+    let undone = undone_marked(alloc, repo.patches(), kept, &nearby.marks)?;
+    match fit(&undone, &mut part) {
+        Ok(()) => Ok(part),
+        Err(stop) => Err(stop.refused()),
+    }
 }
 
 /// The part of the tree that the first `kept` patches of a repository make, which reaches what the other ones name, and two

@@ -1,16 +1,20 @@
 //! Weighing a bundle against a repository: what taking it would append, or why it isn't taken.
-ghost use Rattle.std.specs.Prelude.{◌≡◌, length, IfErr, IfOk, MatchResult};
+ghost use Rattle.std.specs.Prelude.{◌≡◌, ◌≤◌, length, IfErr, IfOk, MatchResult};
 ghost use Rattle.std.specs.FinMap as map;
 ghost use Rattle.dm_bundle.specs.Bundles.{Contents};
 ghost use Rattle.dm_bundle.specs.Patches.{infos_of, Distinct};
+ghost use Rattle.dm_repo.specs.Nearby.{IsNearby};
+ghost use Rattle.dm_repo.specs.Stops.{AreMarkedUpTo};
 ghost use Rattle.dm_repo.specs.Trials.{MakesPart};
 ghost use Rattle.dm_repo.specs.Weighing.{IsMergeOf, RefusesBundle};
 ghost use Rattle.dm_repo.specs.Weighed.{IsLookedUp, LeavesRepo, Weighs};
 
-use crate::basis::{fit_both, split_both};
+use crate::basis::{fit_both, fit_nearby, split_both, split_nearby};
 use crate::lookup::look_up;
 use crate::marks::Marks;
 use crate::merge::{append_to_whole, merge};
+use crate::nearby::{Nearby, find_nearby};
+use crate::parted::kept_in_place;
 use crate::policy::Policy;
 use crate::refusal::Refusal;
 use crate::repo::{Repo, copy_patches};
@@ -41,8 +45,8 @@ pub struct Merged<A: Allocator> {
     pub skipped: usize,
 }
 
-/// Merges new patches whose names were looked up.
-fn weigh_new<A: Allocator, B: Allocator + Copy>(
+/// Merges new patches whose names were looked up, with all that the repository has beside what is common.
+fn weigh_whole<A: Allocator + Copy, B: Allocator + Copy>(
     alloc: B,
     repo: &Repo<A>,
     new: Vec<Named<B>, B>,
@@ -64,8 +68,59 @@ fn weigh_new<A: Allocator, B: Allocator + Copy>(
     merge(alloc, repo, sides.rest, sides.new, policy)
 }
 
+/// The same, where patches that stand aside are neither copied nor undone.
+fn weigh_nearby<A: Allocator + Copy, B: Allocator + Copy>(
+    alloc: B,
+    repo: &Repo<A>,
+    new: Vec<Named<B>, B>,
+    marks: &Marks<B>,
+    kept: usize,
+    nearby: &Nearby<B>,
+    policy: Policy,
+) -> Result<Merged<B>, Refusal>
+    requires common { length marks.now.common.items ≡ length repo.now.patches }
+    requires held { length marks.now.held.items ≡ length new.items }
+    requires within { kept ≤ length marks.now.common.items }
+    requires marked { AreMarkedUpTo marks.now.common.items kept }
+    requires marks { length nearby.now.marks.items ≡ length repo.now.patches }
+    requires nearby { IsNearby repo.now.patches kept marks.now.common.items new.items nearby.now.paths.items nearby.now.marks.items }
+    ensures { (b : Contents) → b.patches ≡ new.items → IsLookedUp repo.now.patches b marks.now.common.items marks.now.held.items →
+        MatchResult result
+        (λ m. IsMergeOf repo.now.patches b policy m.patches.items m.skipped × MakesPart repo.now.patches m.patches.items m.paths.items (map.get m.part))
+        (λ why. RefusesBundle repo.now.patches b policy why) }
+{
+    repo.lawful();
+    let sides = split_nearby(alloc, repo, new, marks, kept, nearby)?;
+    fit_nearby(alloc, repo, &sides, nearby)?;
+    merge(alloc, repo, sides.rest, sides.new, policy)
+}
+
+/// Merges new patches whose names were looked up.
+fn weigh_new<A: Allocator + Copy, B: Allocator + Copy>(
+    alloc: B,
+    repo: &Repo<A>,
+    new: Vec<Named<B>, B>,
+    marks: &Marks<B>,
+    policy: Policy,
+) -> Result<Merged<B>, Refusal>
+    requires common { length marks.now.common.items ≡ length repo.now.patches }
+    requires held { length marks.now.held.items ≡ length new.items }
+    ensures { (b : Contents) → b.patches ≡ new.items → IsLookedUp repo.now.patches b marks.now.common.items marks.now.held.items →
+        MatchResult result
+        (λ m. IsMergeOf repo.now.patches b policy m.patches.items m.skipped × MakesPart repo.now.patches m.patches.items m.paths.items (map.get m.part))
+        (λ why. RefusesBundle repo.now.patches b policy why) }
+{
+    let kept = kept_in_place(&marks.common);
+    if kept < repo.len() {
+        if let Some(nearby) = find_nearby(alloc, repo, kept, &marks.common, &new)? {
+            return weigh_nearby(alloc, repo, new, marks, kept, &nearby, policy);
+        }
+    }
+    weigh_whole(alloc, repo, new, marks, policy)
+}
+
 /// The same, told of the repository that it leaves.
-fn weigh_looked_up<A: Allocator, B: Allocator + Copy>(
+fn weigh_looked_up<A: Allocator + Copy, B: Allocator + Copy>(
     alloc: B,
     repo: &Repo<A>,
     new: Vec<Named<B>, B>,

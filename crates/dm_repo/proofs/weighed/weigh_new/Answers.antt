@@ -1,22 +1,22 @@
-use Rattle.std.proofs.lemmas.Result.{err_from_is_err_and}
-use Rattle.dm_repo.proofs.Following.{nothing_left}
 use Rattle.dm_repo.proofs.weighed.weigh_new.Goals as goal
 
-pub returns-in_err-sides : goal.returns-in_err-sides
-returns-in_err-sides g c = λ b e found. let p = err_from_is_err_and c.from_residual.result c.from_residual.ensures.1 in rw (p.1, p.2) ((c.in_err-sides.ensures.split b e found).1 c.args.policy)
+pub find_nearby-requires : goal.find_nearby-requires
+find_nearby-requires g c = rw c.deref-then-kept-len.ensures.value c.requires.common
 
-pub returns-then-is_empty : goal.returns-then-is_empty
-returns-then-is_empty g c = λ b e found.
-    let rest = c.in_ok-sides.sides.rest in
-    c.append_to_whole.ensures b c.args.policy _ (rw (nothing_left rest.items rest.len rest.ok.0 c.if-is_empty.ensures) at (c.in_ok-sides.ensures.split b e found))
+pub weigh_nearby-requires-clause-within : goal.weigh_nearby-requires-clause-within
+weigh_nearby-requires-clause-within g c = rw c.deref.ensures.value at c.kept_in_place-kept.ensures.within
 
-pub fit_both-requires : goal.fit_both-requires
-fit_both-requires g c = c.in_ok-sides.ensures.within
+pub weigh_nearby-requires-clause-marked : goal.weigh_nearby-requires-clause-marked
+weigh_nearby-requires-clause-marked g c = rw c.deref.ensures.value at c.kept_in_place-kept.ensures.marked
 
-pub returns-in_err-fit_both : goal.returns-in_err-fit_both
-returns-in_err-fit_both g c = λ b e found.
-    let p = err_from_is_err_and c.from_residual-in_err-fit_both.result c.from_residual-in_err-fit_both.ensures.1 in
-    rw (p.1, p.2) (c.in_err-fit_both.ensures b (c.in_ok-sides.ensures.split b e found) c.args.policy)
+pub weigh_nearby-requires-clause-marks : goal.weigh_nearby-requires-clause-marks
+weigh_nearby-requires-clause-marks g c = let n = rw c.in-Some.is at c.in_ok-nearby.ensures in n.0
+
+pub weigh_nearby-requires-clause-nearby : goal.weigh_nearby-requires-clause-nearby
+weigh_nearby-requires-clause-nearby g c = let n = rw c.in-Some.is at c.in_ok-nearby.ensures in rw (c.deref-then-kept-len.ensures.value, c.deref-then-kept-len-2.ensures.value) at n.1
+
+pub returns-in-Some : goal.returns-in-Some
+returns-in-Some g c = c.weigh_nearby.ensures
 
 pub returns : goal.returns
-returns g c = λ b e found. c.merge.ensures b (c.in_ok-fit_both.ensures b (c.in_ok-sides.ensures.split b e found))
+returns g c = c.weigh_whole.ensures

@@ -1,0 +1,23 @@
+use Rattle.std.proofs.Common.{◌∙◌, ◌++◌, refl, sym, ap, append-nil}
+use Rattle.dm_repo.specs.Nearby.{behind, marked}
+use Rattle.dm_repo.proofs.AsideMarks.{marked_in, marked_out, none_behind}
+use Rattle.dm_repo.proofs.parted.copy_marked.Goals as goal
+
+pub loop-k-init : goal.loop-k-init
+loop-k-init g c = rw c.new-copies.ensures.items refl
+
+pub loop-k-preserved-then-not-near-k : goal.loop-k-preserved-then-not-near-k
+loop-k-preserved-then-not-near-k g c =
+    let xs = c.args.patches.now in
+    marked_out xs c.loop-k.k c.args.near.now c.loop-k.copies.items (marked c.args.near.now (behind c.args.kept xs)) c.loop-k-test.true c.loop-k.invariant c.if-not-near-k.true
+
+pub loop-k-preserved : goal.loop-k-preserved
+loop-k-preserved g c =
+    let xs = c.args.patches.now in
+    marked_in xs c.loop-k.k c.index-patches-k.result c.loop-k-test.true c.index-patches-k.is c.args.near.now c.loop-k.copies.items (marked c.args.near.now (behind c.args.kept xs)) c.in_ok-patch.patch c.loop-k.invariant
+    c.if-not-near-k.false c.in_ok-patch.ensures c.in_ok-push.ensures.items
+
+pub returns : goal.returns
+returns g c =
+    let copies = c.loop-k.copies.items in
+    sym (append-nil copies) ∙ ap (λ z. copies ++ marked c.args.near.now z) (sym (none_behind c.args.patches.now c.loop-k.k c.loop-k-test.false)) ∙ c.loop-k.invariant
