@@ -15,7 +15,7 @@ _dm()
     check) options='--paths --hash --all-kinds --explain' ;;
     checkout) options='--mirror --no-wait --all-names' ;;
     init) options='--mirror --base --repository --all-kinds --six-kinds --names --skip-special --no-wait --explain' ;;
-    log) options='-n -v --mirror --base --repository --last --reverse --verbose --places --count --context --kinds --all-kinds --no-wait' ;;
+    log) options='-n -v --mirror --base --repository --last --reverse --verbose --places --json --count --context --kinds --all-kinds --no-wait' ;;
     obliterate) options='-o --mirror --output --with-dependents --dry-run --no-wait --explain' ;;
     rollback) options='--mirror --author --date --name --log --no-wait' ;;
     run) options='--mirrors --bound --base --repository --explain --skip' ;;

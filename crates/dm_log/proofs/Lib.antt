@@ -5,3 +5,5 @@ pub mod PlainLemmas
 pub mod KeysLemmas
 pub mod TouchedLemmas
 pub mod FindingLemmas
+pub mod JsonLemmas
+pub mod JsonShapes

@@ -89,7 +89,7 @@ at_place test xs k e lt = true_from_ne_false (test (get_or xs k 0)) (λ f. false
 plain_digit : (n : ℕ) → n < 16 → is_plain_byte (slice_index (codes "0123456789abcdef") n) ≡ true
 plain_digit n lt = at_place is_plain_byte (codes "0123456789abcdef") n refl lt
 
-plain_digits : (b : ℕ) → IsPlain (digits b)
+pub plain_digits : (b : ℕ) → IsPlain (digits b)
 plain_digits b =
     let high : is_plain_byte (slice_index (codes "0123456789abcdef") (b / 16 % 16)) ≡ true = plain_digit (b / 16 % 16) (omega arith) in
     let low : is_plain_byte (slice_index (codes "0123456789abcdef") (b % 16)) ≡ true = plain_digit (b % 16) (omega arith) in
@@ -111,7 +111,7 @@ printed_plain b e =
     let small : b < 127 = grind (arith, nat_tests) in
     implies (is_printed b) (is_plain_byte b) (agree_below_at (λ n. not (is_printed n) || is_plain_byte n) (λ n. true) 127 b refl small) e
 
-plain_shown_byte : (b : ℕ) → IsPlain (shown_byte b)
+pub plain_shown_byte : (b : ℕ) → IsPlain (shown_byte b)
 plain_shown_byte b = plain_if (is_printed b) (b ∷ []) (escape b) (λ e. plain_byte b (printed_plain b e)) (λ e. plain_escape b)
 
 not_true : (b : Bool) → b ≡ false → not b ≡ true

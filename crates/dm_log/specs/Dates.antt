@@ -51,3 +51,15 @@ moment_text d = day_text d ++ time_text d
 -- a date and a time in UTC, or what stands in place of one
 abbrev pub date_text : List ℕ → List ℕ
 date_text d = if is_moment d then moment_text d else shown d
+
+-- year, month and day, as ISO 8601 has them
+abbrev pub iso_day : List ℕ → List ℕ
+iso_day d = part d 0 4 ++ codes "-" ++ part d 4 6 ++ codes "-" ++ part d 6 8 ++ codes "T"
+
+-- hour, minute and second, in UTC
+abbrev pub iso_time : List ℕ → List ℕ
+iso_time d = part d 8 10 ++ codes ":" ++ part d 10 12 ++ codes ":" ++ part d 12 14 ++ codes "Z"
+
+-- a date and a time in UTC as ISO 8601 has them, or what stands in place of one
+abbrev pub iso_date : List ℕ → List ℕ
+iso_date d = if is_moment d then iso_day d ++ iso_time d else d

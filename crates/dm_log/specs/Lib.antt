@@ -8,3 +8,5 @@ pub mod Contexts
 pub mod Plain
 pub mod Touched
 pub mod Collecting
+pub mod Json
+pub mod JsonObjects

@@ -2,7 +2,7 @@
 ghost use Rattle.std.specs.Prelude.{◌≡◌, ◌↔◌, ◌+◌, ◌<◌, [], ◌∷◌, ◌++◌, length, IsTrue, OnOk, slice_index};
 ghost use Rattle.std.specs.List.{All, list_all};
 ghost use Rattle.std.specs.Char.{IsAsciiDigit, is_ascii_digit};
-ghost use Rattle.dm_log.specs.Dates.{date_text, day_text, days_of, is_day, is_leap, is_moment, is_time, moment_text, time_text, two_digits};
+ghost use Rattle.dm_log.specs.Dates.{date_text, day_text, days_of, is_day, is_leap, is_moment, is_time, iso_date, iso_day, iso_time, moment_text, time_text, two_digits};
 
 use crate::shown::push_shown;
 use std::alloc::{AllocError, Allocator};
@@ -120,4 +120,45 @@ pub(crate) fn push_date<A: Allocator>(date: &[u8], out: &mut Vec<u8, A>) -> Resu
         return push_moment(date, out);
     }
     push_shown(date, out)
+}
+
+fn push_iso_day<A: Allocator>(date: &[u8], out: &mut Vec<u8, A>) -> Result<(), AllocError>
+    requires { length date.now ≡ 14 }
+    ensures { OnOk result (out.new.items ≡ out.old.items ++ iso_day date.now) }
+{
+    push_part(&date[..4], b'-', out)?;
+    push_part(&date[4..6], b'-', out)?;
+    push_part(&date[6..8], b'T', out)
+}
+
+fn push_iso_time<A: Allocator>(date: &[u8], out: &mut Vec<u8, A>) -> Result<(), AllocError>
+    requires { length date.now ≡ 14 }
+    ensures { OnOk result (out.new.items ≡ out.old.items ++ iso_time date.now) }
+{
+    push_part(&date[8..10], b':', out)?;
+    push_part(&date[10..12], b':', out)?;
+    push_part(&date[12..14], b'Z', out)
+}
+
+fn push_iso_moment<A: Allocator>(date: &[u8], out: &mut Vec<u8, A>) -> Result<(), AllocError>
+    requires { length date.now ≡ 14 }
+    ensures { OnOk result (out.new.items ≡ out.old.items ++ (iso_day date.now ++ iso_time date.now)) }
+{
+    push_iso_day(date, out)?;
+    push_iso_time(date, out)?;
+    Ok(())
+}
+
+/// Appends a date as ISO 8601 has it, if it is one.
+pub(crate) fn push_iso_date<A: Allocator>(
+    date: &[u8],
+    out: &mut Vec<u8, A>,
+) -> Result<(), AllocError>
+    ensures { OnOk result (out.new.items ≡ out.old.items ++ iso_date date.now) }
+{
+    if is_moment(date) {
+        return push_iso_moment(date, out);
+    }
+    out.extend_from_slice(date)?;
+    Ok(())
 }

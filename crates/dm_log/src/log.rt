@@ -13,7 +13,7 @@ use dm_repo::Repo;
 use std::alloc::{AllocError, Allocator};
 
 /// How many entries are shown.
-fn count_of(last: Option<usize>, all: usize) -> usize
+pub(crate) fn count_of(last: Option<usize>, all: usize) -> usize
     ensures value { result ≡ count_of last all }
     ensures few { result ≤ all }
 {
@@ -24,7 +24,7 @@ fn count_of(last: Option<usize>, all: usize) -> usize
 }
 
 /// Where the entry that is shown at a place stands among all.
-fn place_of(reverse: bool, all: usize, count: usize, k: usize) -> usize
+pub(crate) fn place_of(reverse: bool, all: usize, count: usize, k: usize) -> usize
     requires within { k < count }
     requires few { count ≤ all }
     ensures value { result ≡ place_of reverse all count k }

@@ -74,7 +74,7 @@ fn push_byte<A: Allocator>(byte: u8, out: &mut Vec<u8, A>) -> Result<(), AllocEr
     }
 }
 
-fn push_bytes<A: Allocator>(bytes: &[u8], out: &mut Vec<u8, A>) -> Result<(), AllocError>
+pub(crate) fn push_bytes<A: Allocator>(bytes: &[u8], out: &mut Vec<u8, A>) -> Result<(), AllocError>
     ensures { OnOk result (out.new.items ≡ out.old.items ++ flat_map shown_byte bytes.now) }
 {
     for byte in bytes {

@@ -5,7 +5,7 @@ use dm_commands::{ToolFault, context_of, repo_of};
 use dm_files::{
     WordFault, base_of, kinds_of, read_base, read_file, read_repo, refuse_kinds, say_base,
 };
-use dm_log::{LogOptions, Patches, write_context, write_entries};
+use dm_log::{LogOptions, Patches, write_context, write_entries, write_json};
 use dm_remarks::Reading;
 use dm_repo::Repo;
 use dm_scratch::Verdict;
@@ -49,6 +49,9 @@ fn text_of<P: Patches>(
         verbose: words.get_flag("verbose"),
         places: words.get_flag("places"),
     };
+    if words.get_flag("json") {
+        return Ok(write_json(rt.alloc(), patches, options)?);
+    }
     Ok(write_entries(rt.alloc(), patches, options)?)
 }
 

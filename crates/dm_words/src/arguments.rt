@@ -141,6 +141,16 @@ pub fn places<'a>(alloc: Global) -> Result<Arg<'a>, AllocError> {
         .conflicts_with("context")
 }
 
+/// The word that asks for JSON.
+pub fn json<'a>(alloc: Global) -> Result<Arg<'a>, AllocError> {
+    flag(alloc, "json", help::JSON)
+        .conflicts_with("verbose")?
+        .conflicts_with("places")?
+        .conflicts_with("count")?
+        .conflicts_with("context")?
+        .conflicts_with("kinds")
+}
+
 /// The word that has patches counted.
 pub fn count<'a>(alloc: Global) -> Result<Arg<'a>, AllocError> {
     flag(alloc, "count", help::COUNT)

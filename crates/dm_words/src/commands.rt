@@ -1,7 +1,7 @@
 //! The commands.
 use crate::arguments::{
     all_kinds, bundle, bundles, context, count, dry_run, dry_run_at_mirror, explain, file, first,
-    flag, folder, hash, last, minimal, mirror, names, no_wait, no_wait_at_mirror, number,
+    flag, folder, hash, json, last, minimal, mirror, names, no_wait, no_wait_at_mirror, number,
     one_bundle, output, patches, place, places, posters, quiet, repository, six_kinds,
     six_kinds_at_mirror, skip, skip_special, stream, text, told_kinds, verbose,
 };
@@ -83,6 +83,7 @@ fn log_words<'a>(alloc: Global) -> Result<Command<'a>, AllocError> {
         .arg(flag(alloc, "reverse", help::REVERSE))
         .arg(verbose(alloc))
         .try_arg(places(alloc))
+        .try_arg(json(alloc))
         .try_arg(count(alloc))
         .try_arg(context(alloc))
         .try_arg(told_kinds(alloc))

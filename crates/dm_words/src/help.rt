@@ -55,6 +55,9 @@ pub const VERBOSE: &str = "Print the text of each patch, too";
 /// Of `--places`.
 pub const PLACES: &str = "Print the place of each patch, counted from the oldest";
 
+/// Of `--json`.
+pub const JSON: &str = "Print a line of JSON for each patch, for programs";
+
 /// Of `--count`.
 pub const COUNT: &str = "Print how many patches there are, and nothing else";
 
