@@ -13,5 +13,6 @@ pub mod Applying
 pub mod Touch
 pub mod Turning
 pub mod Sketches
+pub mod Glances
 pub mod Parts
 pub mod PartLaws

@@ -1,5 +1,4 @@
--- Sketches of paths: bits that are drawn by a hash of a path's names (a Bloom filter with one hash). Clauses of private functions
--- alone cite this file.
+-- Sketches of paths: bits that are drawn by a hash of a path's names (a Bloom filter with one hash).
 use Rattle.std.specs.Prelude.{◌≡◌, ◌≢◌, ℕ, ◌%◌, List, [], Contains}
 use Rattle.std.specs.List.{fold}
 use Rattle.std.specs.Int.{bit_at}

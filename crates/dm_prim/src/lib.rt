@@ -12,6 +12,7 @@
 
 mod binary;
 mod effect;
+mod glance;
 mod hunk;
 mod inverse;
 pub mod laws;
@@ -27,6 +28,7 @@ mod turning;
 
 pub use binary::{Binary, NoContent};
 pub use effect::{apply, apply_all};
+pub use glance::Glance;
 pub use hunk::{Hunk, HunkFault};
 pub use inverse::{invert, invert_all};
 pub use list::{commute_lists, commute_lists_owned};
@@ -34,5 +36,6 @@ pub use pair::commute;
 pub use preference::{BadPreference, Preference};
 pub use primitive::Primitive as Prim;
 pub use replace::Replace;
+pub use sketch::Sketch;
 pub use touched::{Touched, apart, touch};
 pub use turning::MOST_TURNED;

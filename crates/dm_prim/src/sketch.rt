@@ -13,7 +13,7 @@ use std::hash::{DefaultHasher, Hasher};
 /// common are apart. Others may be apart too, since two paths may draw the same one of the 128 bits: then the paths
 /// themselves tell.
 #[derive(Clone, Copy)]
-pub(crate) struct Sketch {
+pub struct Sketch {
     /// The bit of each path.
     whole: u128,
     /// The bits of each path and of the directories above it.
@@ -38,6 +38,17 @@ impl Sketch {
         let (bit, leading) = with_leading(self.leading, path);
         self.whole = with_bit(self.whole, bit);
         self.leading = leading;
+    }
+
+    /// The sketch of these paths.
+    pub fn of<A: Allocator>(paths: &[Path<A>]) -> Sketch
+        ensures { Covers paths.now result }
+    {
+        let mut sketch = Sketch::new();
+        for path in paths {
+            sketch.add(path);
+        }
+        sketch
     }
 
     /// Whether the bits of neither's paths are among those of the other's leading paths.

@@ -1,12 +1,15 @@
 //! The paths that a list of primitives touches.
-ghost use Rattle.std.specs.Prelude.{◌≡◌, ◌↔◌, ◌++◌, ◌∷◌, [], All, Contains, IfOk, OnOk, IsTrue};
+ghost use Rattle.std.specs.Prelude.{◌≡◌, ◌↔◌, ◌++◌, ◌∷◌, [], All, Contains, IfOk, List, OnOk, IsTrue};
 ghost use Rattle.dm_tree.specs.Paths.{Path as TreePath};
+ghost use Rattle.dm_prim.specs.Glances.{IsGlanceOf};
+ghost use Rattle.dm_prim.specs.Primitives.{Prim};
 ghost use Rattle.dm_prim.specs.Table.{MovesOutside};
 ghost use Rattle.dm_prim.specs.Commuting.{IsValidPrim};
 ghost use Rattle.dm_prim.specs.Prims.{MovesNothing, prim_of, prims_of};
 ghost use Rattle.dm_prim.specs.Sketches.{Covers};
 ghost use Rattle.dm_prim.specs.Touch.{AreApart, IsApartFrom, IsNamedAmong, IsTouched, MoveNothing, NamesAmong, PassUnchanged, StayTouched, Touches, TouchesMore};
 
+use crate::glance::Glance;
 use crate::pair::{are_apart, moves_outside};
 use crate::primitive::Primitive;
 use crate::sketch::Sketch;
@@ -62,6 +65,16 @@ impl<A: Allocator> Touched<A> {
         ensures { result.items ≡ self.paths }
     {
         self.paths
+    }
+
+    /// What is kept of it without its paths.
+    pub fn glance(&self) -> Glance
+        ensures { (ps : List Prim) → Touches ps self.now → IsGlanceOf ps result }
+    {
+        Glance {
+            sketch: self.sketch,
+            moves_nothing: self.moves_nothing,
+        }
     }
 
     /// Whether this is what a list of primitives touches: so it is after a commute that changed no path. Takes no memory.
