@@ -1,4 +1,5 @@
 pub mod EntryLemmas
+pub mod GrowthLemmas
 pub mod KindLemmas
 pub mod FoldLemmas
 pub mod StoredLemmas

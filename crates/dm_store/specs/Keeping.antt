@@ -18,6 +18,7 @@ use Rattle.dm_journal.specs.Journal.{StandsIn}
 use Rattle.dm_journal.specs.Ready.{HasTexts}
 use Rattle.dm_journal.specs.declared.format.Format.{Format}
 use Rattle.dm_store.specs.Entries.{entry_of, whole_entry, counted_entry, all_of}
+use Rattle.dm_store.specs.Growth.{IsGrowthOf}
 use Rattle.dm_store.specs.Kinds.{kinds_of, kinds_in}
 use Rattle.dm_store.specs.declared.store.Store.{Store}
 
@@ -117,11 +118,12 @@ IsOrKeeps kinds old kept file = (file ≡ old) ⊎ KeepsRepo kinds file kept
 abbrev pub CrashesKeep : {D : Type 0} → Kinds → (D → List ℕ → Type 0) → D → Kept → Type 0
 CrashesKeep kinds may_leave device kept = (c : List ℕ) → may_leave device c → KeepsRepo kinds c kept
 
--- the store's journal has entries, all of them on the disk, that fold to what the store has
+-- the store's journal has entries, all of them on the disk, that fold to what the store has, and the store knows how much longer they have become
 pub record IsStored {D : Type 0} (seen : D → List ℕ) (may_leave file_may_leave : D → List ℕ → Type 0) (store : Store D) : Type 0 where
   pub entries : List (List ℕ)
   pub has : HasTexts seen may_leave file_may_leave store.journal entries
   pub folds : FoldTo (kinds_in store) entries (kept_in store)
+  pub grown : IsGrowthOf entries store.growth
 
 -- the repository has patches, and they can be read again from one text: they are few enough, and so are its bytes
 pub record FitsOneEntry (repo : List Patch) : Type 0 where

@@ -1,5 +1,6 @@
 pub mod Entries
 pub mod Kinds
+pub mod Growth
 pub mod Keeping
 pub mod LettingGo
 pub mod Opening

@@ -1,5 +1,6 @@
 //! How much longer a journal has become since its last checkpoint.
-ghost use Rattle.std.specs.Prelude.{◌↔◌, ◌⊎◌, ◌<◌, ◌^◌, IsTrue};
+ghost use Rattle.std.specs.Prelude.{◌≡◌, ◌+◌, ◌↔◌, ◌⊎◌, ◌<◌, ◌^◌, IsTrue};
+ghost use Rattle.dm_store.specs.Growth.{IsGrowthOf, IsWhole, capped};
 
 use crate::entries::{strip_counted, strip_whole};
 use dm_journal::Texts;
@@ -20,7 +21,13 @@ pub struct Growth {
 
 impl Growth {
     // That of a journal with one entry, of a whole repository.
-    pub fn of_whole(bytes: usize) -> Growth {
+    pub fn of_whole(bytes: usize) -> Growth
+        requires { bytes < 2 ^ 63 }
+        ensures whole { result.whole ≡ bytes }
+        ensures few { result.whole < 2 ^ 63 }
+        ensures since { result.since ≡ 0 }
+        ensures entries { result.entries ≡ 0 }
+    {
         Growth {
             whole: bytes,
             since: 0,
@@ -29,7 +36,11 @@ impl Growth {
     }
 
     // One entry more.
-    pub fn add(&mut self, bytes: usize) {
+    pub fn add(&mut self, bytes: usize)
+        ensures whole { self.new.whole ≡ self.old.whole }
+        ensures since { self.new.since ≡ capped (self.old.since + bytes) }
+        ensures entries { self.new.entries ≡ capped (self.old.entries + 1) }
+    {
         self.since = self.since.saturating_add(bytes);
         self.entries = self.entries.saturating_add(1);
     }
@@ -45,13 +56,22 @@ impl Growth {
     }
 }
 
+// Whether an entry is that of a whole repository.
+fn is_whole(entry: &[u8]) -> bool
+    ensures { IsTrue result ↔ IsWhole entry.now }
+{
+    strip_whole(entry).is_some() || strip_counted(entry).is_some()
+}
+
 // That of a journal with these entries.
-pub fn growth_of(entries: &Texts) -> Growth {
+pub fn growth_of(entries: &Texts) -> Growth
+    ensures { IsGrowthOf entries.now result }
+{
     let mut growth = Growth::of_whole(0);
     for i in 0..entries.len() {
         let entry = entries.text(i);
-        if strip_whole(entry).is_some() || strip_counted(entry).is_some() {
-            growth.whole = entry.len();
+        if i == 0 && is_whole(entry) {
+            growth = Growth::of_whole(entry.len());
         } else {
             growth.add(entry.len());
         }

@@ -5,6 +5,7 @@ ghost use Rattle.dm_journal.specs.Device.{IsDurable, LeavesOnly};
 ghost use Rattle.dm_journal.specs.Ready.{HasTexts, IsBeside, IsFailure};
 ghost use Rattle.dm_bundle.specs.Patches.{AreAllOf};
 ghost use Rattle.dm_begin.specs.Bases.{MayHaveBase};
+ghost use Rattle.dm_store.specs.Growth.{IsGrowthOf};
 ghost use Rattle.dm_store.specs.Kinds.{kinds_of, format_of};
 ghost use Rattle.dm_store.specs.Keeping.{KeepsRepo, KeepsEither, Kept, IsOrKeeps, FoldTo, FitsOneEntry, entries_of_all, kept_as};
 
@@ -25,7 +26,8 @@ pub fn begin<D: Device>(
     repo: &Repo<Global>,
 ) -> Result<(Journal<D>, Growth), (WriteError, D)>
     requires { IsDurable D.seen D.may_leave D.file_may_leave device }
-    ensures stored { IfOk result (λ r. (entries : List (List ℕ)) × HasTexts D.seen D.may_leave D.file_may_leave r.0 entries × FoldTo kinds entries (kept_as base repo.now.patches)) }
+    ensures stored { IfOk result (λ r. (entries : List (List ℕ)) × HasTexts D.seen D.may_leave D.file_may_leave r.0 entries × FoldTo kinds entries (kept_as base repo.now.patches)
+        × IsGrowthOf entries r.1) }
     ensures format { IfOk result (λ r. r.0.end.format ≡ format_of kinds) }
     ensures any_moment { IfOk result (λ r. LeavesOnly D.moment D.left_since device r.0.device (IsOrKeeps kinds (D.seen device) (kept_as base repo.now.patches))) }
     ensures any_moment_err { IfErr result (λ e. LeavesOnly D.moment D.left_since device e.1 (IsOrKeeps kinds (D.seen device) (kept_as base repo.now.patches))) }
@@ -62,6 +64,7 @@ pub fn put_repo<D: Device>(
     requires { IsDurable D.seen D.may_leave D.file_may_leave journal.old.device }
     ensures entries { IfOk result (λ put. IfSome put (λ _. HasTexts D.seen D.may_leave D.file_may_leave journal.new (entries_of_all (kept_as base repo.now.patches)))) }
     ensures folds { IfOk result (λ put. IfSome put (λ _. FoldTo (kinds_of journal.old.end.format) (entries_of_all (kept_as base repo.now.patches)) (kept_as base repo.now.patches))) }
+    ensures grown { IfOk result (λ put. IfSome put (IsGrowthOf (entries_of_all (kept_as base repo.now.patches)))) }
     ensures of_kinds { IfOk result (λ put. IfSome put (λ _. AreAllOf (kinds_of journal.old.end.format) repo.now.patches)) }
     ensures fits { IfOk result (λ put. IfSome put (λ _. (repo.now.patches ≡ []) ⊎ FitsOneEntry repo.now.patches)) }
     ensures may { IfOk result (λ put. IfSome put (λ _. MayHaveBase repo.now.patches base)) }

@@ -13,6 +13,7 @@ ghost use Rattle.dm_journal.specs.Ready.{HasTexts, IsUntouched, IsBeside, IsFail
 ghost use Rattle.dm_scratch.specs.Taking.{TakesIn};
 ghost use Rattle.dm_store.specs.declared.fault.StoreError.TheVariants.{Journal as OpeningJournal, BadEntry};
 ghost use Rattle.dm_store.specs.Keeping.{HasTaken, KeepsRepo, KeepsWithOrWithout, KeepsEither, IsOrKeeps, CrashesKeep, IsStored, FitsOneEntry, entry_of_all, entries_of_all, kept_as, kept_in};
+ghost use Rattle.dm_store.specs.Growth.{AreMany};
 ghost use Rattle.dm_store.specs.Kinds.{kinds_of, kinds_in, format_of};
 ghost use Rattle.dm_store.specs.Opening.{HasBadEntry};
 
@@ -130,6 +131,7 @@ impl<D: Device> Store<D> {
         ensures journal { result.journal ≡ journal }
         ensures repo { result.repo ≡ repo }
         ensures base { result.base ≡ base }
+        ensures growth { result.growth ≡ growth }
     {
         Store {
             journal,
@@ -248,7 +250,8 @@ impl<D: Device> Store<D> {
     /// repository had then, and than 1 MiB. All of them are taken again at each opening, and each takes time that grows with
     /// the repository.
     pub fn wants_checkpoint(&self) -> bool
-        ensures { IsTrue result ↔ ((2 ^ 4 < self.now.growth.entries)
+        ensures many { (stored : IsStored D.seen D.may_leave D.file_may_leave self.now) → IsTrue result ↔ AreMany stored.entries }
+        ensures grown { IsTrue result ↔ ((2 ^ 4 < self.now.growth.entries)
             ⊎ ((self.now.growth.whole < self.now.growth.since) × (2 ^ 20 < self.now.growth.since))) }
     {
         self.growth.is_large()

@@ -1,7 +1,9 @@
-use Rattle.std.proofs.Common.{List, ℕ, [], refl, sym, subst}
+use Rattle.std.proofs.Common.{◌∙◌, List, ℕ, [], ◌∷◌, length, ap, refl, sym, subst}
+use Rattle.dm_store.specs.Growth.{IsWhole}
 use Rattle.dm_store.specs.Keeping.{TakesEntry, empty, kept_as}
 use Rattle.dm_store.proofs.StoredLemmas.{weakened}
-use Rattle.dm_store.proofs.WholeLemmas.{nothing_kept, old_or_whole, old_or_none}
+use Rattle.dm_store.proofs.GrowthLemmas.{counted_whole, whole_grown}
+use Rattle.dm_store.proofs.WholeLemmas.{fold_whole, nothing_kept, old_or_whole, old_or_none}
 use Rattle.dm_store.proofs.keeping.begin.Goals as goal
 use Rattle.dm_store.proofs.keeping.begin.Goals.{in-Ok, in-Err}
 
@@ -14,6 +16,19 @@ returns-then-base-eq0-clause-any_moment g c =
       | in-Ok w ↦ rw w.result-is (weakened d.moment d.left_since _ _ _ _ (old_or_none c.args.kinds (d.seen c.args.device) kept none) (rw c.format_of-format.ensures at w.in-Ok.ensures.any_moment))
       | in-Err w ↦ rw w.result-is tt
     ]
+
+pub returns-in-Ok-create-clause-stored : goal.returns-in-Ok-create-clause-stored
+returns-in-Ok-create-clause-stored g c =
+    let kept = kept_as c.args.base c.args.repo.now.patches in
+    let entry = c.as_slice.result.now in
+    let takes = subst (λ (e : List ℕ). TakesEntry c.args.kinds empty e kept) (sym c.as_slice.ensures.value) (rw c.in-Ok-Some.field-0-is at c.in-Ok-Some.ensures.takes) in
+    let is = c.as_slice.ensures.value ∙ (rw c.in-Ok-Some.field-0-is at c.in-Ok-Some.ensures.entry) in
+    let made = c.of_whole-in-Ok-create.ensures in (
+      entry ∷ [],
+      c.in-Ok-create.ensures.ok,
+      fold_whole c.args.kinds entry kept takes,
+      whole_grown entry c.of_whole-in-Ok-create.result (subst IsWhole (sym is) (counted_whole c.args.base _ c.ranges.base.fits)) (made.whole ∙ c.len.ensures ∙ c.in-Ok-Some.entry.ok.0 ∙ ap length (sym c.as_slice.ensures.value)) made.few made.since made.entries,
+    )
 
 pub returns-in-Ok-create-clause-any_moment : goal.returns-in-Ok-create-clause-any_moment
 returns-in-Ok-create-clause-any_moment g c =

@@ -4,6 +4,8 @@ use Rattle.dm_tree.proofs.Fronts.{refuted}
 use Rattle.dm_journal.specs.Ready.{HasTexts}
 use Rattle.dm_store.specs.Kinds.{kinds_of}
 use Rattle.dm_store.specs.Keeping.{FoldTo, kept_as}
+use Rattle.dm_store.specs.Growth.{IsGrowthOf, IsWhole}
+use Rattle.dm_store.proofs.GrowthLemmas.{counted_whole, none_grown, whole_grown}
 use Rattle.dm_store.proofs.StoredLemmas.{weakened}
 use Rattle.dm_store.proofs.WholeLemmas.{fold_whole, nothing_kept, one_of_all, either_keeps, same_kinds}
 use Rattle.dm_store.proofs.keeping.put_repo.Goals as goal
@@ -31,6 +33,10 @@ pub returns-then-base-eq0-clause-kinds : goal.returns-then-base-eq0-clause-kinds
 returns-then-base-eq0-clause-kinds g c =
     ap kinds_of c.in_ok-replace.ensures.format ∙ same_kinds c.args.journal.now.end.format
 
+pub returns-then-base-eq0-clause-grown : goal.returns-then-base-eq0-clause-grown
+returns-then-base-eq0-clause-grown g c =
+    rw (c.if-is_empty.ensures.0 refl) (none_grown c.of_whole.result c.of_whole.ensures.whole c.of_whole.ensures.since c.of_whole.ensures.entries)
+
 pub returns-in_err-replace-2-clause-any_moment : goal.returns-in_err-replace-2-clause-any_moment
 returns-in_err-replace-2-clause-any_moment g c =
     let d = g.D.Device in
@@ -52,6 +58,14 @@ returns-clause-entries g c =
     subst (λ (l : List (List ℕ)). HasTexts d.seen d.may_leave d.file_may_leave c.replace-2.new.self l)
     (ap (λ (e : List ℕ). e ∷ []) is ∙ sym (one_of_all c.args.base c.args.repo.now.patches (rw c.in-Some.is at c.in_ok-entry.ensures.fits).some))
     c.in_ok-replace-2.ensures.acknowledged
+
+pub returns-clause-grown : goal.returns-clause-grown
+returns-clause-grown g c =
+    let is = rw c.in-Some.is at c.in_ok-entry.ensures.entry in
+    let made = c.of_whole-2.ensures in
+    subst (λ (l : List (List ℕ)). IsGrowthOf l c.of_whole-2.result)
+    (ap (λ (e : List ℕ). e ∷ []) is ∙ sym (one_of_all c.args.base c.args.repo.now.patches (rw c.in-Some.is at c.in_ok-entry.ensures.fits).some))
+    (whole_grown c.in-Some.entry.items c.of_whole-2.result (subst IsWhole (sym is) (counted_whole c.args.base _ c.ranges.base.fits)) (made.whole ∙ c.len.ensures ∙ c.in-Some.entry.ok.0) made.few made.since made.entries)
 
 pub returns-clause-folds : goal.returns-clause-folds
 returns-clause-folds g c =

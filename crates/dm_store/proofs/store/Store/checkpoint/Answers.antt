@@ -1,8 +1,10 @@
-use Rattle.std.proofs.Common.{ℕ, List, subst}
+use Rattle.std.proofs.Common.{ℕ, List, sym, subst}
+use Rattle.std.proofs.lemmas.Result.{err_from_is_err_and}
+use Rattle.dm_named.specs.declared.limits.Kinds.{Kinds}
 use Rattle.dm_tree.proofs.Fronts.{refuted}
 use Rattle.dm_journal.specs.Ready.{HasTexts}
 use Rattle.dm_store.specs.Kinds.{kinds_in}
-use Rattle.dm_store.specs.Keeping.{kept_in}
+use Rattle.dm_store.specs.Keeping.{FoldTo, kept_in}
 use Rattle.dm_store.proofs.KeptBase.{fold_base}
 use Rattle.dm_store.proofs.KeptKinds.{fold_kinds}
 use Rattle.dm_store.proofs.StoredLemmas.{keeps, weakened}
@@ -15,6 +17,21 @@ returns-in_err-growth-clause-any_moment g c =
     let kept = kept_in c.args.self.now in
     let keeping = keeps d.seen d.may_leave d.file_may_leave c.args.self.now.journal c.requires.entries kept c.requires.has c.requires.folds in
     weakened d.moment d.left_since _ _ _ _ (same_keeps (kinds_in c.args.self.now) kept) (c.put_repo.ensures.any_moment kept keeping)
+
+pub returns-in_err-growth-clause-stored_beside : goal.returns-in_err-growth-clause-stored_beside
+returns-in_err-growth-clause-stored_beside g c =
+    let q = err_from_is_err_and c.from_residual.result c.from_residual.ensures.1 in
+    rw (q.1, q.2) (λ beside. record {
+      entries = c.requires.entries;
+      has = c.in_err-growth.ensures.untouched beside c.requires.entries c.requires.has;
+      folds = subst (λ (k : Kinds). FoldTo k c.requires.entries (kept_in c.args.self.now)) (sym c.put_repo.ensures.kinds) c.requires.folds;
+      grown = c.requires.grown;
+    })
+
+pub returns-in_err-growth-clause-failed : goal.returns-in_err-growth-clause-failed
+returns-in_err-growth-clause-failed g c =
+    let q = err_from_is_err_and c.from_residual.result c.from_residual.ensures.1 in
+    rw (q.1, q.2) c.in_err-growth.ensures.failed
 
 pub returns-in_default-clause-fits : goal.returns-in_default-clause-fits
 returns-in_default-clause-fits g c =

@@ -1,7 +1,9 @@
-use Rattle.std.proofs.Common.{◌∙◌, ◌++◌, [], ◌∷◌, refl, sym, ap, subst}
+use Rattle.std.proofs.Common.{◌∙◌, ◌+◌, ◌++◌, ℕ, [], ◌∷◌, length, refl, sym, ap, subst}
 use Rattle.dm_named.specs.declared.limits.Kinds.{Kinds}
+use Rattle.dm_store.specs.Growth.{capped}
 use Rattle.dm_store.specs.Kinds.{kinds_of, kinds_in}
 use Rattle.dm_store.specs.Keeping.{FoldTo, kept_as, kept_in}
+use Rattle.dm_store.proofs.GrowthLemmas.{more_grown, text_not_whole}
 use Rattle.dm_store.proofs.StoredLemmas.{entry_taken, fold_push, leaves, crashes_keep, weakened}
 use Rattle.dm_store.proofs.store.Store.take.Goals as goal
 
@@ -31,6 +33,8 @@ returns-clause-stored g c =
       entries = c.requires.entries ++ c.deref.result.now ∷ [];
       has = c.in_ok-append.ensures.acknowledged c.requires.entries c.requires.has;
       folds = subst (λ (k : Kinds). FoldTo k (c.requires.entries ++ c.deref.result.now ∷ []) after) (ap kinds_of (sym c.append.ensures.format)) (fold_push (kinds_in c.args.self.now) c.requires.entries c.deref.result.now before after c.requires.folds t);
+      grown = more_grown c.requires.entries c.deref.result.now c.args.self.now.growth c.add.new.self (λ none. text_not_whole c.args.policy c.args.text.now c.deref.result.now is) c.requires.grown
+          c.add.ensures.whole (c.add.ensures.since ∙ ap (λ (n : ℕ). capped (c.args.self.now.growth.since + n)) (c.len.ensures ∙ c.in_ok-entry.entry.ok.0 ∙ ap length (sym c.deref.ensures.value))) c.add.ensures.entries;
     }
 
 pub returns-clause-kept : goal.returns-clause-kept
