@@ -150,9 +150,22 @@ pub fn answer<D: Device, W: Write>(
     Ok(reply)
 }
 
-// Makes a checkpoint where one is worth its while, if it may. Returns whether the next one may be tried: not where the repository fits
+// Whether a checkpoint is due before the next text. What was there when the first one came is taken again at each opening.
+fn is_due<D: Device>(store: &Store<D>, first: bool) -> bool {
+    if first {
+        return store.wants_checkpoint();
+    }
+    store.needs_checkpoint()
+}
+
+// Makes a checkpoint where one is due, if it may. Returns whether the next one may be tried: not where the repository fits
 // none, or its new file could not be made. Then the store goes on without.
-fn settle<D: Device>(alloc: Global, store: &mut Store<D>, may: bool) -> Result<bool, WriteError>
+fn settle<D: Device>(
+    alloc: Global,
+    store: &mut Store<D>,
+    may: bool,
+    due: bool,
+) -> Result<bool, WriteError>
     requires { IsStored D.seen D.may_leave D.file_may_leave store.old }
     ensures same { store.new.repo ≡ store.old.repo }
     ensures kinds { kinds_in store.new ≡ kinds_in store.old }
@@ -162,7 +175,7 @@ fn settle<D: Device>(alloc: Global, store: &mut Store<D>, may: bool) -> Result<b
     ensures failed { IfErr result (λ e. IsFailure e → D.faults store.old.journal.device < D.faults store.new.journal.device) }
     ensures kind { IfErr result (λ e. (¬ IsBeside e) × ((e ≢ TooLong) × (e ≢ Full))) }
 {
-    if !may || !store.wants_checkpoint() {
+    if !may || !due {
         return Ok(may);
     }
     match store.checkpoint(alloc) {
@@ -175,8 +188,8 @@ fn settle<D: Device>(alloc: Global, store: &mut Store<D>, may: bool) -> Result<b
 /// Takes the texts of a source into a store, in turn, and answers each by its line once it stands on the disk. A bundle that is
 /// refused is answered, and the next is taken all the same. An observer looks on. Returns whether all were accepted.
 ///
-/// Where a checkpoint is worth its while, it makes one before the next text is taken. Where its new file can't be made, it goes on
-/// without.
+/// Where a checkpoint is due, it makes one before a text is taken: by [`Store::wants_checkpoint`] before the first, by
+/// [`Store::needs_checkpoint`] before the others. Where its new file can't be made, it goes on without.
 ///
 /// It stops at the first error. What was answered until then stands; after [`AnswerError::Store`] and
 /// [`DeliverError::Checkpoint`] open the file again.
@@ -214,10 +227,13 @@ pub fn deliver<D: Device, S: Source, O: Observer, W: Write>(
 {
     let mut all_accepted = true;
     let mut may_settle = true;
+    let mut is_first = true;
     loop {
         match source.next_text() {
             Ok(Some(text)) => {
-                may_settle = settle(alloc, store, may_settle)?;
+                let due = is_due(store, is_first);
+                may_settle = settle(alloc, store, may_settle, due)?;
+                is_first = false;
                 let bytes = text.as_slice();
                 observer.before(store.repo(), bytes, policy);
                 let reply = answer(alloc, store, bytes, policy, rule, writer)?;

@@ -61,27 +61,27 @@ behind_one (entry ∷ entries) m n xs ys (inr a) (inr b) = (a.1 ∙ sym b.1, a.2
 behind_one (entry ∷ entries) m n xs ys (inl a) (inr b) = absurd (b.0 a.0)
 behind_one (entry ∷ entries) m n xs ys (inr a) (inl b) = absurd (a.0 b.0)
 
-many_more : (g : Growth) (whole : ℕ) (since : List (List ℕ)) → g.whole ≡ whole → g.whole < 2 ^ 63 → g.since ≡ capped (bytes_of since) → g.entries ≡ capped (length since) →
-    (2 ^ 4 < g.entries) ⊎ ((g.whole < g.since) × (2 ^ 20 < g.since)) → (2 ^ 4 < length since) ⊎ ((whole < bytes_of since) × (2 ^ 20 < bytes_of since))
-many_more g whole since is few bytes number (inl more) = inl (omega (arith, number, more))
-many_more g whole since is few bytes number (inr more) = inr (omega (arith, is, bytes, more.0), omega (arith, bytes, more.1))
+many_more : (most : ℕ) (g : Growth) (whole : ℕ) (since : List (List ℕ)) → g.whole ≡ whole → g.whole < 2 ^ 63 → g.since ≡ capped (bytes_of since) → g.entries ≡ capped (length since) →
+    (most < g.entries) ⊎ ((g.whole < g.since) × (2 ^ 20 < g.since)) → (most < length since) ⊎ ((whole < bytes_of since) × (2 ^ 20 < bytes_of since))
+many_more most g whole since is few bytes number (inl more) = inl (omega (arith, number, more))
+many_more most g whole since is few bytes number (inr more) = inr (omega (arith, is, bytes, more.0), omega (arith, bytes, more.1))
 
-many_fewer : (g : Growth) (whole : ℕ) (since : List (List ℕ)) → g.whole ≡ whole → g.whole < 2 ^ 63 → g.since ≡ capped (bytes_of since) → g.entries ≡ capped (length since) →
-    (2 ^ 4 < length since) ⊎ ((whole < bytes_of since) × (2 ^ 20 < bytes_of since)) → (2 ^ 4 < g.entries) ⊎ ((g.whole < g.since) × (2 ^ 20 < g.since))
-many_fewer g whole since is few bytes number (inl more) = inl (omega (arith, number, more))
-many_fewer g whole since is few bytes number (inr more) = inr (omega (arith, is, few, bytes, more.0), omega (arith, bytes, more.1))
+many_fewer : (most : ℕ) → most < 2 ^ 63 → (g : Growth) (whole : ℕ) (since : List (List ℕ)) → g.whole ≡ whole → g.whole < 2 ^ 63 → g.since ≡ capped (bytes_of since) → g.entries ≡ capped (length since) →
+    (most < length since) ⊎ ((whole < bytes_of since) × (2 ^ 20 < bytes_of since)) → (most < g.entries) ⊎ ((g.whole < g.since) × (2 ^ 20 < g.since))
+many_fewer most small g whole since is few bytes number (inl more) = inl (omega (arith, small, number, more))
+many_fewer most small g whole since is few bytes number (inr more) = inr (omega (arith, is, few, bytes, more.0), omega (arith, bytes, more.1))
 
-pub large_if_many : (entries : List (List ℕ)) (g : Growth) → IsGrowthOf entries g → ((2 ^ 4 < g.entries) ⊎ ((g.whole < g.since) × (2 ^ 20 < g.since))) ↔ AreMany entries
-large_if_many entries g grown = (
+pub large_if_many : (most : ℕ) → most < 2 ^ 63 → (entries : List (List ℕ)) (g : Growth) → IsGrowthOf entries g → ((most < g.entries) ⊎ ((g.whole < g.since) × (2 ^ 20 < g.since))) ↔ AreMany most entries
+large_if_many most small entries g grown = (
   λ large. record {
     whole = g.whole;
     since = grown.since;
     behind = grown.behind;
-    many = many_more g g.whole grown.since refl grown.few grown.bytes grown.number large;
+    many = many_more most g g.whole grown.since refl grown.few grown.bytes grown.number large;
   },
   λ many.
       let one = behind_one entries g.whole many.whole grown.since many.since grown.behind many.behind in
-      many_fewer g many.whole many.since one.0 grown.few (grown.bytes ∙ ap (λ (l : List (List ℕ)). capped (bytes_of l)) one.1) (grown.number ∙ ap (λ (l : List (List ℕ)). capped (length l)) one.1) many.many,
+      many_fewer most small g many.whole many.since one.0 grown.few (grown.bytes ∙ ap (λ (l : List (List ℕ)). capped (bytes_of l)) one.1) (grown.number ∙ ap (λ (l : List (List ℕ)). capped (length l)) one.1) many.many,
 )
 
 -- the first entries

@@ -30,9 +30,9 @@ pub record IsGrowthOf (entries : List (List ℕ)) (growth : Growth) : Type 0 whe
   pub bytes : growth.since ≡ capped (bytes_of since)
   pub number : growth.entries ≡ capped (length since)
 
--- behind the entry of a whole repository that they begin with, if they do, are more than 16 entries, or more bytes than it has, and than 1 MiB
-pub record AreMany (entries : List (List ℕ)) : Type 0 where
+-- behind the entry of a whole repository that they begin with, if they do, are more entries than so many, or more bytes than it has, and than 1 MiB
+pub record AreMany (most : ℕ) (entries : List (List ℕ)) : Type 0 where
   pub whole : ℕ
   pub since : List (List ℕ)
   pub behind : StandBehind entries whole since
-  pub many : (2 ^ 4 < length since) ⊎ ((whole < bytes_of since) × (2 ^ 20 < bytes_of since))
+  pub many : (most < length since) ⊎ ((whole < bytes_of since) × (2 ^ 20 < bytes_of since))

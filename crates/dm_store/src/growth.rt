@@ -5,10 +5,14 @@ ghost use Rattle.dm_store.specs.Growth.{IsGrowthOf, IsWhole, capped};
 use crate::entries::{strip_counted, strip_whole};
 use dm_journal::Texts;
 
-// For fewer bytes than these no checkpoint is worth its while, unless they are of more entries than those.
+// For fewer bytes than these no checkpoint is worth its while, unless they are of too many entries.
 const LEAST: usize = 1 << 20;
 
-const MOST_ENTRIES: usize = 16;
+// Behind more entries than these a file takes too long to open.
+pub const MOST_ENTRIES: usize = 16;
+
+// A file that is open may have so many, since it isn't opened in between. Only a crash leaves it with them.
+pub const MOST_WHILE_OPEN: usize = 1 << 8;
 
 // The bytes of the entry of a whole repository that a journal begins with, or 0, and the bytes and the number of the entries
 // behind it.
@@ -45,11 +49,11 @@ impl Growth {
         self.entries = self.entries.saturating_add(1);
     }
 
-    // Whether there are so many entries behind the first, or they have so many bytes, that a checkpoint is worth its while.
-    pub fn is_large(&self) -> bool
-        ensures { IsTrue result ↔ ((2 ^ 4 < self.now.entries) ⊎ ((self.now.whole < self.now.since) × (2 ^ 20 < self.now.since))) }
+    // Whether there are more entries behind the first than these, or they have so many bytes that a checkpoint is worth its while.
+    pub fn is_large(&self, most: usize) -> bool
+        ensures { IsTrue result ↔ ((most < self.now.entries) ⊎ ((self.now.whole < self.now.since) × (2 ^ 20 < self.now.since))) }
     {
-        if self.entries > MOST_ENTRIES {
+        if self.entries > most {
             return true;
         }
         self.since > self.whole && self.since > LEAST

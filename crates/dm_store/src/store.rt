@@ -19,7 +19,7 @@ ghost use Rattle.dm_store.specs.Opening.{HasBadEntry};
 
 use crate::entries::make_entry;
 use crate::fault::StoreError;
-use crate::growth::{Growth, growth_of};
+use crate::growth::{Growth, MOST_ENTRIES, MOST_WHILE_OPEN, growth_of};
 use crate::keeping::{begin, put_repo};
 use crate::kinds::kinds_of;
 use crate::opening::{TakenAgain, has_taken, take_again};
@@ -250,11 +250,21 @@ impl<D: Device> Store<D> {
     /// repository had then, and than 1 MiB. All of them are taken again at each opening, and each takes time that grows with
     /// the repository.
     pub fn wants_checkpoint(&self) -> bool
-        ensures many { (stored : IsStored D.seen D.may_leave D.file_may_leave self.now) → IsTrue result ↔ AreMany stored.entries }
+        ensures many { (stored : IsStored D.seen D.may_leave D.file_may_leave self.now) → IsTrue result ↔ AreMany (2 ^ 4) stored.entries }
         ensures grown { IsTrue result ↔ ((2 ^ 4 < self.now.growth.entries)
             ⊎ ((self.now.growth.whole < self.now.growth.since) × (2 ^ 20 < self.now.growth.since))) }
     {
-        self.growth.is_large()
+        self.growth.is_large(MOST_ENTRIES)
+    }
+
+    /// Whether a checkpoint is due though the store stays open: as [`Store::wants_checkpoint`], but only past 256 texts, since none
+    /// is taken again before the file is opened again.
+    pub fn needs_checkpoint(&self) -> bool
+        ensures many { (stored : IsStored D.seen D.may_leave D.file_may_leave self.now) → IsTrue result ↔ AreMany (2 ^ 8) stored.entries }
+        ensures grown { IsTrue result ↔ ((2 ^ 8 < self.now.growth.entries)
+            ⊎ ((self.now.growth.whole < self.now.growth.since) × (2 ^ 20 < self.now.growth.since))) }
+    {
+        self.growth.is_large(MOST_WHILE_OPEN)
     }
 
     /// Puts one entry in the place of all that the journal has: the bundle of all patches, with an empty context. The
