@@ -1,8 +1,10 @@
 #!/usr/bin/env python3
-"""Finds the bundle of a mail, or what is signed in it.
+"""Finds the bundle of a mail, or what is signed in it, or answers it.
 
-    mail.py bundle MAIL           prints the bundle, as it was before it was mailed
-    mail.py signed MAIL FOLDER    writes into FOLDER what the signature is held against, and prints which way the mail is signed
+    mail.py bundle MAIL                   prints the bundle, as it was before it was mailed
+    mail.py signed MAIL FOLDER            writes into FOLDER what the signature is held against, and prints which way the mail is signed
+    mail.py reply MAIL ADDRESS VERDICT    prints a mail to ADDRESS with the text of VERDICT, if one is due: the mail is from this address, and not
+                                          from a list or a machine
 
 Status 1: it prints why there is none that could be taken; 2: the machine is at fault; 3: memory ran out. Python's `email` reads the
 headers. The parts are where the boundaries stand in the mail's own bytes, since a signature is of these.
@@ -12,7 +14,9 @@ import os
 import quopri
 import re
 import sys
+from email.message import EmailMessage
 from email.parser import HeaderParser
+from email.utils import formatdate, getaddresses
 
 # A bundle has 4 MiB at most, and a mail may have it twice, of which quoted-printable makes three bytes a byte.
 MOST_BYTES = 32 << 20
@@ -26,6 +30,10 @@ BUNDLE = re.compile(rb"^New patches:(\r?)$", re.M)
 HASH = re.compile(rb"^Patch bundle hash:\n([^\n]*)", re.M)
 SIGNATURE = re.compile(rb"^-----BEGIN PGP SIGNATURE-----[ \t\r]*$", re.M)
 SIGNED = re.compile(rb"^-----BEGIN PGP SIGNED MESSAGE-----[ \t\r]*$", re.M)
+# What only lists and machines write into a header, and the most that is told of a verdict.
+MACHINES = re.compile(r"auto-submitted|precedence|list-.*|(?:x-)?mailing-list|x-loop|x-autoreply|x-autorespond|x-auto-response-suppress|resent-.*", re.I)
+MESSAGE_ID = re.compile(r"<[A-Za-z0-9!#$%&'*+/=?^_`{|}~.@-]{1,200}>")
+MOST_TOLD = 1 << 16
 SIGNED_END = re.compile(rb"^-----END PGP SIGNATURE-----[ \t\r]*(?:\n|\Z)", re.M)
 
 
@@ -188,9 +196,35 @@ def write_signed(path, folder):
     raise Refused("signature", "signature of another part")
 
 
+def print_reply(path, address, verdict):
+    """The answer to a mail. Whoever gets it has signed, and is the one that the mail says it is from."""
+    with open(path, "rb") as file:
+        text = file.read(MOST_BYTES)
+    headers = Part(text, 0, len(text), False).headers
+    names = [name for name in headers.keys() if MACHINES.fullmatch(name)]
+    if names and not (names[0].lower() == "auto-submitted" and len(names) == 1 and str(headers[names[0]]).strip().lower() == "no"):
+        raise Refused("no-reply", "it has the header %.60s" % ascii(names[0]))
+    if headers.get_content_type() == "multipart/report" or str(headers.get("return-path", "<a>")).strip() == "<>":
+        raise Refused("no-reply", "it is a bounce")
+    senders = [[it.lower() for _, it in getaddresses([str(it) for it in headers.get_all(name, [])])] for name in ("from", "sender")]
+    if len(headers.get_all("from", [])) != 1 or senders[0] != [address.lower()] or senders[1] not in ([], senders[0]):
+        raise Refused("no-reply", "it isn't from %s" % address)
+    with open(verdict, "rb") as file:
+        told = file.read(MOST_TOLD).decode("utf-8", "replace")
+    reply = EmailMessage()
+    reply["To"], reply["Date"] = address, formatdate()
+    reply["Subject"] = "dm: " + "".join(it for it in told.partition("\n")[0] if " " <= it <= "~")[:100]
+    number = str(headers.get("message-id", "")).strip()
+    if MESSAGE_ID.fullmatch(number):
+        reply["In-Reply-To"] = reply["References"] = number
+    reply["Auto-Submitted"], reply["Precedence"] = "auto-replied", "bulk"
+    reply.set_content(told, cte="quoted-printable")
+    return reply.as_bytes()
+
+
 def main(words):
     try:
-        status, printed = 0, {"bundle": print_bundle, "signed": write_signed}[words[0]](*words[1:])
+        status, printed = 0, {"bundle": print_bundle, "signed": write_signed, "reply": print_reply}[words[0]](*words[1:])
     except Refused as refused:
         status, printed = 1, refused.said.encode()
     except OSError as fault:
