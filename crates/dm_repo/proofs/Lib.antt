@@ -11,6 +11,7 @@ pub mod FrontLemmas
 pub mod Keeps
 pub mod ClosedLemmas
 pub mod MarksLemmas
+pub mod GlanceLemmas
 pub mod NameLemmas
 pub mod Alike
 pub mod Steps

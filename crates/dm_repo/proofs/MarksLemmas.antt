@@ -27,19 +27,19 @@ one_place (i ∷ is) (suc j) zero {x} d e f = let g : i ≡ x = cc in absurd (d.
 one_place (i ∷ is) (suc j) (suc k) d e f = ap suc (one_place is j k d.1 e f)
 
 -- marks after one is set
-set_here : (marks : List Bool) (k : ℕ) → k < length marks → slice_get (set marks k true) k ≡ Some true
+pub set_here : (marks : List Bool) (k : ℕ) → k < length marks → slice_get (set marks k true) k ≡ Some true
 set_here [] k l = absurd (omega arith)
 set_here (m ∷ marks) zero l = refl
 set_here (m ∷ marks) (suc k) l = set_here marks k (omega arith)
 
-set_there : (marks : List Bool) (j k : ℕ) → (j ≡ k → ⊥) → slice_get (set marks k true) j ≡ slice_get marks j
+pub set_there : (marks : List Bool) (j k : ℕ) → (j ≡ k → ⊥) → slice_get (set marks k true) j ≡ slice_get marks j
 set_there [] j k n = refl
 set_there (m ∷ marks) zero zero n = absurd (n refl)
 set_there (m ∷ marks) zero (suc k) n = refl
 set_there (m ∷ marks) (suc j) zero n = refl
 set_there (m ∷ marks) (suc j) (suc k) n = set_there marks j k (λ e. n (ap suc e))
 
-length_set : (marks : List Bool) (k : ℕ) → length (set marks k true) ≡ length marks
+pub length_set : (marks : List Bool) (k : ℕ) → length (set marks k true) ≡ length marks
 length_set [] k = refl
 length_set (m ∷ marks) zero = refl
 length_set (m ∷ marks) (suc k) = ap suc (length_set marks k)

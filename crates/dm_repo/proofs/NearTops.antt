@@ -13,7 +13,8 @@ use Rattle.dm_tree.specs.Trees.{path_cmp}
 use Rattle.dm_tree.specs.Reach.{AreTopsOf}
 use Rattle.dm_tree.proofs.Paths.{under_dec, under_refl}
 use Rattle.dm_prim.specs.Touch.{IsApartFrom}
-use Rattle.dm_repo.specs.Nearby.{IsNotBefore, AreSortedTops, IsNotUnderAt, ContainsNotBefore}
+use Rattle.dm_repo.specs.Nearby.{IsNotBefore, AreSortedTops}
+use Rattle.dm_repo.specs.Neighbours.{IsNotUnderAt, ContainsNotBefore}
 use Rattle.dm_repo.proofs.TopLemmas.{UpTo, AreFrom, Rise, by_names, between, under_later, from_at, rise_each, is_under, says, kept_among}
 
 -- each that is kept comes after those before it, or is the same

@@ -1,16 +1,17 @@
 -- Patches that stand near or aside, by their primitives.
-use Rattle.std.proofs.Common.{◌≡◌, List, [], ◌∷◌, refl, sym, subst}
+use Rattle.std.proofs.Common.{◌≡◌, List, [], ◌∷◌, refl, sym, subst, Contains}
 use Rattle.std.specs.List.{All}
-use Rattle.std.proofs.lemmas.List.Elements.{All-nil, All-cons}
+use Rattle.std.proofs.lemmas.List.Elements.{All-nil, All-cons, Contains-push}
 use Rattle.dm_tree.specs.Paths.{Path}
 use Rattle.dm_tree.specs.Reach.{IsUnder}
 use Rattle.dm_prim.specs.Primitives.{Prim, Work, At, Move, ChangePref}
 use Rattle.dm_prim.specs.Commuting.{IsValidPrim}
 use Rattle.dm_prim.specs.Table.{MovesOutside}
-use Rattle.dm_prim.specs.Touch.{IsApartFrom}
+use Rattle.dm_prim.specs.Glances.{AreAsideFrom}
+use Rattle.dm_prim.specs.Touch.{IsApartFrom, paths_of}
 use Rattle.dm_prim.specs.Prims.{IsWork, MovesNothing}
 use Rattle.dm_prim.specs.Parts.{NamesUnder}
-use Rattle.dm_prim.proofs.TouchLemmas.{holds_of, holds_of_all}
+use Rattle.dm_prim.proofs.TouchLemmas.{holds_of, holds_of_all, touched_in}
 use Rattle.dm_named.specs.Patches.{Patch}
 use Rattle.dm_repo.specs.Aside.{IsAside, StandsAside, StandsNear}
 
@@ -54,3 +55,15 @@ pub other_aside : (ps : List Path) (p : Prim) → (IsWork p → ⊥) → ((a b :
 other_aside ps (At f w) h k = absurd (h tt)
 other_aside ps (Move a b) h k = absurd (k a b refl)
 other_aside ps (ChangePref name old new) h k = tt
+
+-- told at a glance
+aside_prim : (ps : List Path) (p : Prim) → MovesNothing p → ((f : Path) → Contains (paths_of p) f → IsApartFrom ps f) → IsAside ps p
+aside_prim ps (At f w) m h = h f (Contains-push [] f)
+aside_prim ps (Move a b) m h = m
+aside_prim ps (ChangePref name old new) m h = tt
+
+pub aside_at_a_glance : (ps : List Path) (x : Patch) → AreAsideFrom ps x.prims → StandsAside ps x
+aside_at_a_glance ps x h = record {
+  valid = h.valid;
+  each = holds_of_all (IsAside ps) x.prims (λ p c. aside_prim ps p (holds_of MovesNothing x.prims h.moves c) (λ f d. h.apart f (touched_in x.prims p f c d)));
+}

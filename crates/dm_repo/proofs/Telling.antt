@@ -1,5 +1,5 @@
 -- Going over a repository to tell its patches apart.
-use Rattle.std.proofs.Common.{◌≡◌, ◌≤◌, ◌+◌, ◌<◌, ℕ, zero, suc, Bool, true, false, IsTrue, List, [], ◌∷◌, length, get_or, slice_get, Some, ◌⊎◌, inl, inr, refl, sym, ap, ◌∙◌, subst, arith}
+use Rattle.std.proofs.Common.{◌≡◌, ◌≤◌, ◌+◌, ◌<◌, ℕ, zero, suc, Bool, true, false, IsTrue, List, [], ◌∷◌, length, get_or, slice_get, set, Some, ◌⊎◌, inl, inr, refl, sym, ap, ◌∙◌, subst, arith}
 use Rattle.std.specs.List.{All}
 use Rattle.dm_info.specs.PatchInfo.{PatchInfo}
 use Rattle.dm_tree.specs.Paths.{Path}
@@ -9,7 +9,7 @@ use Rattle.dm_bundle.specs.Patches.{infos_of, Distinct}
 use Rattle.dm_repo.specs.Aside.{StandsAside, StandsNear}
 use Rattle.dm_repo.specs.Repositories.{Holds}
 use Rattle.dm_repo.specs.Nearby.{IsSet, StandsAt, IsToldApart, AreToldApart, IsNamedMarked, AreNamedMarked, AreNeededMarked}
-use Rattle.dm_repo.proofs.MarksLemmas.{at_place, one_place, some_same, within}
+use Rattle.dm_repo.proofs.MarksLemmas.{at_place, one_place, some_same, within, set_here, set_there}
 use Rattle.dm_repo.proofs.Members.{from_at, in_infos}
 use Rattle.dm_repo.proofs.Splits.{mark_at}
 
@@ -44,15 +44,6 @@ module _ (repo : List Patch) (kept : ℕ) (common near : List Bool) where
 
     pub told_all : (n : ℕ) → length repo ≤ n → ToldUpTo repo kept common near ps n → AreToldApart repo kept common near ps
     told_all n l h = record { each = λ k x s. let m = within repo k s.at in h.each k x (omega (arith, l, m)) s }
-
-    -- the marks that were read tell it
-    pub tell : (k : ℕ) (x : Patch) (b m d e : Bool) → k < length common → k < length near → get_or common k d ≡ b → get_or near k e ≡ m →
-        (IsTrue m → StandsNear ps x) → ((IsTrue m → ⊥) → StandsAside ps x) → ((IsTrue m → ⊥) → IsTrue b → ⊥) → IsToldApart common near ps k x
-    tell k x b m d e lc ln c n f g h = record {
-      stays = λ s. f (some_same (sym (mark_at near k m e ln n) ∙ s));
-      aside = λ u. g (λ t. u (mark_at near k m e ln n ∙ ap Some t));
-      uncommon = λ u i. h (λ t. u (mark_at near k m e ln n ∙ ap Some t)) (some_same (sym (mark_at common k b d lc c) ∙ i));
-    }
 
   pub needed_none : NeededUpTo repo kept common near kept
   needed_none = record { each = λ k x l s. let b = s.behind in absurd (omega (arith, l, b)) }
@@ -90,3 +81,33 @@ module _ (repo : List Patch) (near : List Bool) (i : PatchInfo) where
 
 pub named_all : (repo : List Patch) (near : List Bool) (infos : List PatchInfo) → All (IsNamedMarked repo near) infos → AreNamedMarked repo near infos
 named_all repo near infos h = record { each = λ j y e c. (holds_of (IsNamedMarked repo near) infos h c).each j y e refl }
+
+-- a mark is set behind those that were gone over
+pub told_marked : (repo : List Patch) (kept : ℕ) (common near : List Bool) (ps : List Path) (n : ℕ) → ToldUpTo repo kept common near ps n → ToldUpTo repo kept common (set near n true) ps n
+told_marked repo kept common near ps n h = record {
+  each = λ k x l s.
+      let t = h.each k x l s in
+      let e = set_there near k n (λ f. omega (arith, l, f)) in
+      record {
+        stays = λ m. t.stays (sym e ∙ m);
+        aside = λ u. t.aside (λ m. u (e ∙ m));
+        uncommon = λ u i. t.uncommon (λ m. u (e ∙ m)) i;
+      };
+}
+
+-- one that stands near and is marked
+pub tell_near : (common near : List Bool) (ps : List Path) (n : ℕ) (x : Patch) → n < length near → StandsNear ps x → IsToldApart common (set near n true) ps n x
+tell_near common near ps n x l h = record {
+  stays = λ m. h;
+  aside = λ u. absurd (u (set_here near n l));
+  uncommon = λ u i. u (set_here near n l);
+}
+
+-- one that stands aside, and is neither marked nor common
+pub tell_aside : (common near : List Bool) (ps : List Path) (k : ℕ) (x : Patch) (d e : Bool) → k < length common → k < length near → get_or common k d ≡ false → get_or near k e ≡ false →
+    StandsAside ps x → IsToldApart common near ps k x
+tell_aside common near ps k x d e lc ln c n h = record {
+  stays = λ s. let b : false ≡ true = some_same (sym (mark_at near k false e ln n) ∙ s) in absurd (cc);
+  aside = λ u. h;
+  uncommon = λ u i. let b : false ≡ true = some_same (sym (mark_at common k false d lc c) ∙ i) in absurd (cc);
+}

@@ -6,6 +6,7 @@ pub mod Stops
 pub mod MarkLists
 pub mod Folds
 pub mod Repositories
+pub mod Glances
 pub mod CommonSets
 pub mod Marking
 pub mod Weighing
@@ -20,5 +21,6 @@ pub mod Splitting
 pub mod Orders
 pub mod Words
 pub mod Aside
+pub mod Neighbours
 pub mod Nearby
 pub mod Laws

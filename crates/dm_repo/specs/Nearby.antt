@@ -1,8 +1,8 @@
 -- Which patches of a repository have to do with a bundle.
-use Rattle.std.specs.Prelude.{◌≡◌, ◌≤◌, ◌<◌, ◌+◌, ◌++◌, ℕ, Bool, true, false, List, take, drop, filter, length, get_or, slice_get, Some}
+use Rattle.std.specs.Prelude.{◌≡◌, ◌≤◌, ◌++◌, ℕ, Bool, true, false, List, take, drop, filter, length, get_or, slice_get, Some}
 use Rattle.std.specs.Ordering.{is_lt}
 use Rattle.std.specs.List.{All, AllPairs, Contains}
-use Rattle.dm_tree.specs.Paths.{Path, Under}
+use Rattle.dm_tree.specs.Paths.{Path}
 use Rattle.dm_tree.specs.Trees.{path_cmp}
 use Rattle.dm_tree.specs.Reach.{AreBelowRoot, AreTops}
 use Rattle.dm_info.specs.PatchInfo.{PatchInfo}
@@ -20,14 +20,6 @@ IsNotBefore p q = is_lt (path_cmp p q) ≡ false
 pub record AreSortedTops (ps : List Path) : Type 0 where
   pub tops : AreTops ps
   pub falls : AllPairs IsNotBefore ps
-
--- the path is neither the one at this place nor under that
-abbrev pub IsNotUnderAt : List Path → ℕ → Path → Type 0
-IsNotUnderAt ps at p = (d : Path) → at < length ps → Under p (get_or ps at d) → ⊥
-
--- the path is neither the one before this place nor contains that
-abbrev pub ContainsNotBefore : List Path → ℕ → Path → Type 0
-ContainsNotBefore ps at p = (d : Path) (k : ℕ) → at ≡ k + 1 → k < length ps → Under (get_or ps k d) p → ⊥
 
 -- the mark at this place is set
 abbrev pub IsSet : List Bool → ℕ → Type 0

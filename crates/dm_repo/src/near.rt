@@ -4,15 +4,18 @@ ghost use Rattle.dm_tree.specs.Paths.{Apart};
 ghost use Rattle.dm_tree.specs.Reach.{IsUnder};
 ghost use Rattle.dm_prim.specs.Primitives as primitives;
 ghost use Rattle.dm_prim.specs.Prims.{IsWork, prim_of};
+ghost use Rattle.dm_prim.specs.Glances.{IsGlanceOf};
+ghost use Rattle.dm_prim.specs.Sketches.{Covers};
 ghost use Rattle.dm_prim.specs.Touch.{IsApartFrom};
 ghost use Rattle.dm_prim.specs.Table.{MovesOutside};
 ghost use Rattle.dm_prim.specs.Parts.{NamesUnder};
 ghost use Rattle.dm_repo.specs.Aside.{IsAside, StandsAside, StandsNear};
-ghost use Rattle.dm_repo.specs.Nearby.{AreSortedTops, ContainsNotBefore, IsNotUnderAt};
+ghost use Rattle.dm_repo.specs.Nearby.{AreSortedTops};
+ghost use Rattle.dm_repo.specs.Neighbours.{ContainsNotBefore, IsNotUnderAt};
 
 use crate::tops::place_among;
 use dm_named::Named;
-use dm_prim::Prim;
+use dm_prim::{Glance, Prim, Sketch};
 use dm_tree::Path;
 use std::alloc::Allocator;
 
@@ -46,8 +49,7 @@ fn is_under_one<A: Allocator, B: Allocator>(path: &Path<A>, tops: &[Path<B>]) ->
     is_under_at(path, tops, place_among(path, tops))
 }
 
-/// Whether a path neither is, nor is inside, nor contains one of these. Only its neighbours in their order may be, or contain it or be
-/// inside.
+/// Whether a path neither is, nor is inside, nor contains one of these. In their order only its two neighbours can be such.
 fn is_apart_from<A: Allocator, B: Allocator>(path: &Path<A>, tops: &[Path<B>]) -> bool
     requires { AreSortedTops tops.now }
     ensures { IsTrue result → IsApartFrom tops.now path.now }
@@ -154,6 +156,24 @@ pub(crate) fn stands_aside<A: Allocator, B: Allocator>(patch: &Named<A>, tops: &
         }
     }
     true
+}
+
+/// The same, told by the glance where that tells it.
+pub(crate) fn stands_aside_at_a_glance<A: Allocator, B: Allocator>(
+    patch: &Named<A>,
+    glance: Glance,
+    tops: &[Path<B>],
+    sketch: &Sketch,
+) -> bool
+    requires glance { IsGlanceOf patch.now.prims glance }
+    requires sketch { Covers tops.now sketch.now }
+    requires sorted { AreSortedTops tops.now }
+    ensures { IsTrue result → StandsAside tops.now patch.now }
+{
+    if glance.is_aside(sketch) {
+        return true;
+    }
+    stands_aside(patch, tops)
 }
 
 /// Whether all these patches stand near.

@@ -1,15 +1,19 @@
 //! Which patches of a repository have to do with a bundle: the others are neither copied nor undone.
-ghost use Rattle.std.specs.Prelude.{◌≡◌, ◌≤◌, length, IfOk, OnOk, IsTrue, MatchOption};
+ghost use Rattle.std.specs.Prelude.{◌≡◌, ◌≤◌, false, length, IfNone, IfOk, OnOk, IsTrue, MatchOption};
+ghost use Rattle.dm_repo.specs.declared.nearby.Standing.TheVariants.{Aside, Near};
+ghost use Rattle.dm_prim.specs.Glances.{IsGlanceOf};
+ghost use Rattle.dm_prim.specs.Sketches.{Covers};
 ghost use Rattle.dm_bundle.specs.Patches.{infos_of, Distinct};
 ghost use Rattle.dm_repo.specs.Aside.{StandsAside, StandsNear};
 ghost use Rattle.dm_repo.specs.Nearby.{AreNamedMarked, AreNeededMarked, AreSortedTops, AreToldApart, IsNamedMarked, IsNearby};
 
-use crate::near::{stand_near, stands_aside, stands_near};
+use crate::near::{stand_near, stands_aside_at_a_glance, stands_near};
 use crate::repo::Repo;
 use crate::tops::{prove_names, thin};
 use crate::trial::{add_names, add_names_of_all};
 use dm_info::Info;
 use dm_named::Named;
+use dm_prim::{Glance, Sketch};
 use dm_tree::Path;
 use std::alloc::{AllocError, Allocator};
 
@@ -93,57 +97,6 @@ fn nearest<A: Allocator, B: Allocator + Copy>(
     })
 }
 
-/// Marks the patches that don't stand aside, and returns the paths that those name which weren't marked before.
-fn mark_more<A: Allocator, B: Allocator + Copy>(
-    alloc: B,
-    repo: &Repo<A>,
-    kept: usize,
-    paths: &[Path<B>],
-    marks: &mut [bool],
-) -> Result<Vec<Path<B>, B>, AllocError>
-    requires marks { length marks.old ≡ length repo.now.patches }
-    requires sorted { AreSortedTops paths.now }
-    ensures { length marks.new ≡ length marks.old }
-{
-    let mut names = Vec::new(alloc);
-    for k in kept..repo.len() {
-        if marks[k] {
-            continue;
-        }
-        let patch = repo.patch(k);
-        if !stands_aside(patch, paths) {
-            marks[k] = true;
-            add_names(&mut names, alloc, patch)?;
-        }
-    }
-    Ok(names)
-}
-
-/// Goes over the patches once for more.
-fn widen<A: Allocator, B: Allocator + Copy>(
-    alloc: B,
-    repo: &Repo<A>,
-    kept: usize,
-    nearby: Nearby<B>,
-) -> Result<Nearby<B>, AllocError>
-    requires marks { length nearby.marks.items ≡ length repo.now.patches }
-    requires sorted { AreSortedTops nearby.paths.items }
-    ensures marks { IfOk result (λ wider. length wider.marks.items ≡ length repo.now.patches) }
-    ensures sorted { IfOk result (λ wider. AreSortedTops wider.paths.items) }
-{
-    let Nearby { paths, mut marks } = nearby;
-    let mut names = mark_more(alloc, repo, kept, &paths, marks.as_mut_slice())?;
-    if names.is_empty() {
-        return Ok(Nearby { paths, marks });
-    }
-    let mut all = paths;
-    all.append(&mut names)?;
-    Ok(Nearby {
-        paths: thin(all),
-        marks,
-    })
-}
-
 /// Whether the patch of this name is marked, where it is held.
 fn is_named_marked<A: Allocator>(repo: &Repo<A>, info: &Info<A>, marks: &[bool]) -> bool
     requires { length marks.now ≡ length repo.now.patches }
@@ -192,52 +145,78 @@ fn are_needed_marked<A: Allocator>(
     true
 }
 
-/// Whether each patch but the first ones stands near where it is marked, and else stands aside and isn't common.
-fn are_told_apart<A: Allocator, B: Allocator>(
-    repo: &Repo<A>,
-    kept: usize,
-    common: &[bool],
-    marks: &[bool],
-    paths: &[Path<B>],
-) -> bool
-    requires common { length common.now ≡ length repo.now.patches }
-    requires marks { length marks.now ≡ length repo.now.patches }
-    requires sorted { AreSortedTops paths.now }
-    ensures { IsTrue result → AreToldApart repo.now.patches kept common.now marks.now paths.now }
-{
-    let patches = repo.patches();
-    for k in kept..patches.len() {
-        let is_common = common[k];
-        let is_marked = marks[k];
-        if !is_told_apart(&patches[k], is_common, is_marked, paths) {
-            return false;
-        }
-    }
-    true
+/// How a patch stands to some paths.
+enum Standing {
+    Aside,
+    Near,
+    Neither,
 }
 
-/// Whether a patch stands near, where it is marked; else whether it stands aside and isn't common.
-fn is_told_apart<A: Allocator, B: Allocator>(
+/// How a patch stands to these paths. One that is common or marked has to stand near.
+fn standing_of<A: Allocator, B: Allocator>(
     patch: &Named<A>,
+    glance: Glance,
     common: bool,
     marked: bool,
     paths: &[Path<B>],
-) -> bool
-    requires { AreSortedTops paths.now }
-    ensures stays { IsTrue result → IsTrue marked → StandsNear paths.now patch.now }
-    ensures aside { IsTrue result → (IsTrue marked → ⊥) → StandsAside paths.now patch.now }
-    ensures uncommon { IsTrue result → (IsTrue marked → ⊥) → IsTrue common → ⊥ }
+    sketch: &Sketch,
+) -> Standing
+    requires glance { IsGlanceOf patch.now.prims glance }
+    requires sketch { Covers paths.now sketch.now }
+    requires sorted { AreSortedTops paths.now }
+    ensures aside { result ≡ Aside → StandsAside paths.now patch.now × (common ≡ false) × (marked ≡ false) }
+    ensures near { result ≡ Near → StandsNear paths.now patch.now }
 {
-    if marked {
-        return stands_near(patch, paths);
+    if !marked && !common && stands_aside_at_a_glance(patch, glance, paths, sketch) {
+        return Standing::Aside;
     }
-    if common {
-        return false;
+    if stands_near(patch, paths) {
+        return Standing::Near;
     }
-    stands_aside(patch, paths)
+    Standing::Neither
 }
 
-/// Whether the marks tell the patches of the repository apart, and all new patches stand near.
+/// Goes over the patches behind the first ones, and marks each that doesn't stand aside. Returns the paths that such patches name
+/// beside these; none where each patch is told apart.
+fn tell_apart<A: Allocator, B: Allocator + Copy>(
+    alloc: B,
+    repo: &Repo<A>,
+    kept: usize,
+    common: &[bool],
+    paths: &[Path<B>],
+    marks: &mut [bool],
+) -> Result<Option<Vec<Path<B>, B>>, AllocError>
+    requires common { length common.now ≡ length repo.now.patches }
+    requires marks { length marks.old ≡ length repo.now.patches }
+    requires sorted { AreSortedTops paths.now }
+    ensures marks { length marks.new ≡ length marks.old }
+    ensures told { IfOk result (λ more. IfNone more (AreToldApart repo.now.patches kept common.now marks.new paths.now)) }
+{
+    let patches = repo.patches();
+    let sketch = Sketch::of(paths);
+    let mut names = Vec::new(alloc);
+    let mut all_told = true;
+    for k in kept..patches.len() {
+        let glance = repo.glance(k);
+        let is_common = common[k];
+        let is_marked = marks[k];
+        match standing_of(&patches[k], glance, is_common, is_marked, paths, &sketch) {
+            Standing::Aside => {}
+            Standing::Near => marks[k] = true,
+            Standing::Neither => {
+                marks[k] = true;
+                all_told = false;
+                add_names(&mut names, alloc, &patches[k])?;
+            }
+        }
+    }
+    if all_told {
+        return Ok(None);
+    }
+    Ok(Some(names))
+}
+
+/// Whether all new patches stand near, and what common patches name is marked, where the marks tell the patches apart.
 fn is_nearby<A: Allocator, B: Allocator>(
     repo: &Repo<A>,
     kept: usize,
@@ -248,16 +227,14 @@ fn is_nearby<A: Allocator, B: Allocator>(
     requires common { length common.now ≡ length repo.now.patches }
     requires marks { length nearby.now.marks.items ≡ length repo.now.patches }
     requires sorted { AreSortedTops nearby.now.paths.items }
+    requires told { AreToldApart repo.now.patches kept common.now nearby.now.marks.items nearby.now.paths.items }
     ensures { IsTrue result → IsNearby repo.now.patches kept common.now new.now nearby.now.paths.items nearby.now.marks.items }
 {
     prove_names(&nearby.paths);
     if !stand_near(new, &nearby.paths) {
         return false;
     }
-    if !are_needed_marked(repo, kept, common, &nearby.marks) {
-        return false;
-    }
-    are_told_apart(repo, kept, common, &nearby.marks, &nearby.paths)
+    are_needed_marked(repo, kept, common, &nearby.marks)
 }
 
 /// Finds the patches behind the first `kept` of a repository that have to do with new patches or with common ones there. None where
@@ -275,10 +252,23 @@ pub(crate) fn find_nearby<A: Allocator, B: Allocator + Copy>(
 {
     let mut nearby = nearest(alloc, repo, kept, common, new)?;
     for _ in 0..MOST_PASSES {
-        nearby = widen(alloc, repo, kept, nearby)?;
-        if is_nearby(repo, kept, common, new, &nearby) {
-            return Ok(Some(nearby));
-        }
+        let Nearby {
+            mut paths,
+            mut marks,
+        } = nearby;
+        let more = tell_apart(alloc, repo, kept, common, &paths, marks.as_mut_slice())?;
+        let Some(mut names) = more else {
+            let found = Nearby { paths, marks };
+            if is_nearby(repo, kept, common, new, &found) {
+                return Ok(Some(found));
+            }
+            return Ok(None);
+        };
+        paths.append(&mut names)?;
+        nearby = Nearby {
+            paths: thin(paths),
+            marks,
+        };
     }
     Ok(None)
 }

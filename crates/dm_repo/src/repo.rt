@@ -4,6 +4,9 @@ ghost use Rattle.std.specs.FinMap as finmap;
 ghost use Rattle.dm_tree.specs.Trees.{IsLawful, Map};
 ghost use Rattle.dm_tree.specs.Reach.{AreBelowRoot, AreTops, Puts};
 ghost use Rattle.dm_bundle.specs.Patches.{infos_of};
+ghost use Rattle.dm_prim.specs.Glances.{IsGlanceOf};
+ghost use Rattle.dm_named.specs.Patches.{Patch};
+ghost use Rattle.dm_repo.specs.Glances.{AreGlancesOf};
 ghost use Rattle.dm_repo.specs.Repositories.{Holds, IsRepo, IsTreeOf, KeepsTree};
 ghost use Rattle.dm_repo.specs.Trials.{KeepsPart, ReplacesPart};
 
@@ -12,6 +15,7 @@ use crate::weighed::Merged;
 use dm_bundle::Bundle;
 use dm_info::Info;
 use dm_named::Named;
+use dm_prim::{Glance, touch};
 use dm_tree::laws::tree_is_lawful;
 use dm_tree::{Path, Tree};
 use std::alloc::{AllocError, Allocator};
@@ -26,6 +30,8 @@ use std::marker::Model;
 /// compares as many of them as a walk over the patches would.
 pub struct Repo<A: Allocator> {
     patches: Vec<Named<A>, A>,
+    // What each patch touches at a glance: so most are passed over without a look at their paths.
+    glances: Vec<Glance, A>,
     names: Names<A>,
     tree: Tree<A>,
 }
@@ -35,6 +41,7 @@ impl<A: Allocator> Drop for Repo<A> {
     fn drop(self) {
         let Repo {
             patches: _,
+            glances: _,
             names: _,
             tree: _,
         } = self;
@@ -45,19 +52,21 @@ impl<A: Allocator> Model for Repo<A> {
     ghost use Rattle.std.specs.Prelude.{◌≡◌, ◌-◌, min, vec_len, vec_capacity};
     ghost use Rattle.indexmap.specs.IndexSet.{spare};
     ghost use Rattle.dm_bundle.specs.Patches.{infos_of};
+    ghost use Rattle.dm_repo.specs.Glances.{AreGlancesOf};
     ghost use Rattle.dm_repo.specs.Repositories.{Repository, KeepsTree};
 
     ghost Value = { Repository };
 
-    ghost view = { λ r. record { patches = r.patches.items; room = min (vec_capacity r.patches - vec_len r.patches) (spare r.names) } };
+    ghost view = { λ r. record { patches = r.patches.items; room = min (min (vec_capacity r.patches - vec_len r.patches) (vec_capacity r.glances - vec_len r.glances)) (spare r.names) } };
 
-    ghost invariant = { λ r. KeepsTree r.patches.items r.tree × (r.names.keys ≡ infos_of r.patches.items) };
+    ghost invariant = { λ r. KeepsTree r.patches.items r.tree × ((r.names.keys ≡ infos_of r.patches.items) × AreGlancesOf r.patches.items r.glances.items) };
 }
 
 /// Copies of patches that are about to be appended, of their names, and of the tree after them.
 #[derive(Drop)]
 pub struct Ready<A: Allocator> {
     patches: Vec<Named<A>, A>,
+    glances: Vec<Glance, A>,
     names: Vec<Info<A>, A>,
     tree: Tree<A>,
 }
@@ -67,6 +76,7 @@ impl<A: Allocator> Model for Ready<A> {
     ghost use Rattle.std.specs.Coded.{codes};
     ghost use Rattle.dm_tree.specs.Trees.{tree_code};
     ghost use Rattle.dm_bundle.specs.Patches.{infos_of};
+    ghost use Rattle.dm_repo.specs.Glances.{AreGlancesOf};
     ghost use Rattle.dm_repo.specs.Repositories.{Prepared};
 
     ghost Value = { Prepared };
@@ -75,7 +85,7 @@ impl<A: Allocator> Model for Ready<A> {
 
     ghost view = { λ r. record { patches = r.patches.items; tree = r.tree } };
 
-    ghost invariant = { λ r. r.names.items ≡ infos_of r.patches.items };
+    ghost invariant = { λ r. (r.names.items ≡ infos_of r.patches.items) × AreGlancesOf r.patches.items r.glances.items };
 }
 
 impl<A: Allocator> Repo<A> {
@@ -100,6 +110,14 @@ impl<A: Allocator> Repo<A> {
         ensures { slice_get self.now.patches i ≡ Some result.now }
     {
         &self.patches[i]
+    }
+
+    /// What the patch at a place touches, at a glance.
+    pub(crate) fn glance(&self, i: usize) -> Glance
+        requires { i < length self.now.patches }
+        ensures { (x : Patch) → slice_get self.now.patches i ≡ Some x → IsGlanceOf x.prims result }
+    {
+        self.glances[i]
     }
 
     /// That its patches are a repository; does nothing.
@@ -160,10 +178,12 @@ impl<A: Allocator> Repo<A> {
         ensures count { result ≡ length ready.patches }
     {
         let mut more = ready.patches;
+        let mut glances = ready.glances;
         let count = more.len();
-        // There is room, so neither can fail.
+        // There is room, so none can fail.
         append_names(&mut self.names, ready.names);
         let _ = self.patches.append(&mut more);
+        let _ = self.glances.append(&mut glances);
         self.tree = ready.tree;
         count
     }
@@ -178,6 +198,7 @@ impl<A: Allocator + Copy> Repo<A> {
         tree_is_lawful(&tree);
         Repo {
             patches: Vec::new(alloc),
+            glances: Vec::new(alloc),
             names: no_names(alloc),
             tree,
         }
@@ -211,9 +232,10 @@ impl<A: Allocator + Copy> Repo<A> {
         self.make_room(merged.patches.len())?;
         let alloc = *self.patches.allocator();
         let patches = copy_patches(alloc, &merged.patches)?;
+        let glances = glances_of(alloc, &patches)?;
         let names = copy_names(alloc, &patches)?;
         let part = merged.part.copy_into(alloc)?;
-        self.put(patches, names, part, &merged.paths)
+        self.put(patches, glances, names, part, &merged.paths)
     }
 
     /// The same as [`Repo::append`] of what was merged in the repository's own memory and is given up: its patches and the part
@@ -225,19 +247,23 @@ impl<A: Allocator + Copy> Repo<A> {
         ensures same { OnErr result (self.new.patches ≡ self.old.patches) }
     {
         self.make_room(merged.patches.len())?;
-        let names = copy_names(*self.patches.allocator(), &merged.patches)?;
-        self.put(merged.patches, names, merged.part, &merged.paths)
+        let alloc = *self.patches.allocator();
+        let glances = glances_of(alloc, &merged.patches)?;
+        let names = copy_names(alloc, &merged.patches)?;
+        self.put(merged.patches, glances, names, merged.part, &merged.paths)
     }
 
     /// Puts a part into the kept tree, which is the last that may fail, and appends the patches and names that there is room for.
     fn put<B: Allocator>(
         &mut self,
         patches: Vec<Named<A>, A>,
+        glances: Vec<Glance, A>,
         names: Vec<Info<A>, A>,
         part: Tree<A>,
         paths: &[Path<B>],
     ) -> Result<usize, AllocError>
         requires room { length patches.items ≤ self.old.room }
+        requires glances { AreGlancesOf patches.items glances.items }
         requires names { names.items ≡ infos_of patches.items }
         requires keeps { KeepsPart self.old.patches patches.items paths.now (finmap.get part) }
         ensures patches { OnOk result (self.new.patches ≡ self.old.patches ++ patches.items) }
@@ -247,9 +273,11 @@ impl<A: Allocator + Copy> Repo<A> {
         let whole = self.is_empty();
         replace_part(&mut self.tree, whole, part, paths)?;
         let mut more = patches;
+        let mut more_glances = glances;
         let count = more.len();
         append_names(&mut self.names, names);
         let _ = self.patches.append(&mut more);
+        let _ = self.glances.append(&mut more_glances);
         Ok(count)
     }
 
@@ -266,10 +294,12 @@ impl<A: Allocator + Copy> Repo<A> {
         self.make_room(merged.patches.len())?;
         let alloc = *self.patches.allocator();
         let patches = copy_patches(alloc, &merged.patches)?;
+        let glances = glances_of(alloc, &patches)?;
         let names = copy_names(alloc, &patches)?;
         let tree = tree_after(alloc, &self.tree, merged)?;
         Ok(Ready {
             patches,
+            glances,
             names,
             tree,
         })
@@ -281,6 +311,7 @@ impl<A: Allocator + Copy> Repo<A> {
         ensures room { OnOk result (count ≤ self.new.room) }
     {
         self.patches.reserve(count)?;
+        self.glances.reserve(count)?;
         self.names.reserve(count)?;
         Ok(())
     }
@@ -291,10 +322,12 @@ impl<A: Allocator + Copy> Repo<A> {
     {
         repo.lawful();
         let patches = copy_patches(alloc, repo.patches())?;
+        let glances = glances_of(alloc, &patches)?;
         let names = index_of(alloc, &patches)?;
         let tree = repo.tree_copy(alloc)?;
         Ok(Repo {
             patches,
+            glances,
             names,
             tree,
         })
@@ -350,4 +383,20 @@ pub(crate) fn copy_patches<A: Allocator, B: Allocator + Copy>(
         copies.push(patch.copy_into(alloc)?)?;
     }
     Ok(copies)
+}
+
+/// What each of these patches touches, at a glance.
+fn glances_of<A: Allocator, B: Allocator + Copy>(
+    alloc: B,
+    patches: &[Named<A>],
+) -> Result<Vec<Glance, B>, AllocError>
+    ensures { IfOk result (λ glances. AreGlancesOf patches.now glances.items) }
+{
+    let mut glances = Vec::with_capacity(alloc, patches.len())?;
+    for patch in patches {
+        let touched = touch(alloc, patch.prims())?;
+        let seen = touched.glance();
+        glances.push(seen)?;
+    }
+    Ok(glances)
 }

@@ -5,6 +5,6 @@ pub returns : goal.returns
 returns g c = λ t. record {
   below = rw c.deref.ensures.value at c.prove_names.ensures;
   new_near = rw c.deref-2.ensures.value at (c.if-not-stand_near.ensures refl);
-  told = rw (c.deref-4.ensures.value, c.deref-5.ensures.value) at (c.are_told_apart.ensures t);
-  needed = rw c.deref-3.ensures.value at (c.if-not-are_needed_marked.ensures refl);
+  told = c.requires.told;
+  needed = rw c.deref-3.ensures.value at (c.are_needed_marked.ensures t);
 }

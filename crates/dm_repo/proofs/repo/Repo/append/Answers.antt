@@ -18,3 +18,6 @@ returns-clause-count g c = rw (c.in_ok-patches.ensures, c.deref.ensures.value) a
 
 pub returns-clause-same : goal.returns-clause-same
 returns-clause-same g c = rw c.make_room.ensures.same at c.put.ensures.same
+
+pub returns-in_err-names-clause-same : goal.returns-in_err-names-clause-same
+returns-in_err-names-clause-same g c = let p = err_from_is_err_and c.from_residual-in_err-names.result c.from_residual-in_err-names.ensures.1 in rw p.1 c.make_room.ensures.same

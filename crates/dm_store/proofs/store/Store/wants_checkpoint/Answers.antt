@@ -1,4 +1,4 @@
-use Rattle.std.proofs.Common.{arith}
+use Rattle.std.proofs.Common.{◌^◌, arith}
 use Rattle.dm_store.proofs.GrowthLemmas.{large_if_many}
 use Rattle.dm_store.proofs.store.Store.wants_checkpoint.Goals as goal
 
