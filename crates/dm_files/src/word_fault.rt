@@ -1,4 +1,8 @@
 //! Why the words of a command start nothing, or why what they started gives no answer.
+ghost use Rattle.std.specs.Prelude.{◌≡◌};
+ghost use Rattle.dm_commands.specs.declared.fault.ToolFault.TheVariants.{NoMemory};
+ghost use Rattle.dm_files.specs.declared.word_fault.WordFault.TheVariants.{Tool};
+
 use crate::input::said;
 use crate::names_fault::NamesFault;
 use crate::take_back_fault::TakeBackFault;
@@ -172,12 +176,16 @@ impl From<ToolFault> for WordFault<'_> {
 }
 
 impl From<AllocError> for WordFault<'_> {
+    ghost from_gives = { λ _ fault. fault ≡ Tool NoMemory };
+
     fn from(error: AllocError) -> Self {
         WordFault::Tool(ToolFault::from(error))
     }
 }
 
 impl<T: Drop> From<AllocFailed<T>> for WordFault<'_> {
+    ghost from_gives = { λ _ fault. fault ≡ Tool NoMemory };
+
     fn from(error: AllocFailed<T>) -> Self {
         WordFault::Tool(ToolFault::from(error))
     }

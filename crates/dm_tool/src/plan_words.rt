@@ -1,10 +1,12 @@
 //! The words of `dm run`, and what they start.
-ghost use Rattle.std.specs.Prelude.{◌≡◌, ◌⊎◌, IfErr, IfOk};
+ghost use Rattle.std.specs.Prelude.{◌≡◌, ◌⊎◌, ℕ, List, [], ◌∷◌, ◌++◌, Ok, OnOk, IfErr, IfOk, MatchOption, option_map};
 ghost use Rattle.dm_mirror.specs.declared.plan.PlanFault.{PlanFault};
 ghost use Rattle.dm_commands.specs.declared.fault.ToolFault.TheVariants as ToolFault;
 ghost use Rattle.dm_commands.specs.declared.running.Ran.{Ran};
 ghost use Rattle.dm_commands.specs.Alike.{HasFaultAs, IsRanAs};
 ghost use Rattle.dm_commands.specs.Running.{texts_in};
+ghost use Rattle.dm_tool.specs.Posters.{AreRead, AreSplit, IsFirstBad, IsNoPosterWord, IsPosterWord, ReadWord, by_poster, bytes_of, texts_sent};
+ghost use Rattle.dm_tool.specs.Held.{items_of, listed, named, posters_in, words_in};
 
 use clap::ArgMatches;
 use dm_commands::{Base, Mirrors, ToolFault, run_mirrors};
@@ -16,7 +18,6 @@ use dm_named::Limits;
 use dm_remarks::{Colour, Reading, explain_agreement, explain_base, explain_run};
 use dm_scratch::Verdict;
 use indexmap::IndexMap;
-use memchr::memchr;
 use std::alloc::{AllocError, Global};
 use std::io;
 use std::rt::Runtime;
@@ -27,46 +28,75 @@ use std::thread::Threads;
 type Posters<'a> = IndexMap<&'a str, Vec<Vec<u8>>>;
 
 /// The poster and the file of a word `POSTER=FILE`. The file may be empty, the poster not.
-fn split_word(word: &str) -> Option<(&str, &str)> {
-    let at = memchr(b'=', word.as_bytes())?;
-    if at == 0 {
+fn split_word(word: &str) -> Option<(&str, &str)>
+    ensures { MatchOption result (IsNoPosterWord word.now) (λ pair. IsPosterWord word.now pair.0.now pair.1.now) }
+{
+    let (poster, file) = word.split_once('=')?;
+    if poster.is_empty() {
         return None;
     }
-    Some((word.get(..at)?, word.get(at + 1..)?))
+    Some((poster, file))
 }
 
 /// The poster and the file of each of these words.
 fn split_words<'a>(
     alloc: Global,
     words: &[&'a str],
-) -> Result<Vec<(&'a str, &'a str)>, WordFault<'a>> {
+) -> Result<Vec<(&'a str, &'a str)>, WordFault<'a>>
+    ensures split { IfOk result (λ pairs. AreSplit (bytes_of words.now) (words_in pairs.items)) }
+    ensures bad { IfErr result (λ fault. (word : _) → fault ≡ WordFault.BadPosterWord word → IsFirstBad (bytes_of words.now) word.now) }
+{
     let mut pairs = Vec::with_capacity(alloc, words.len())?;
     for word in words {
-        match split_word(word) {
-            Some(pair) => pairs.push(pair)?,
-            None => return Err(WordFault::BadPosterWord(word)),
-        }
+        let Some(pair) = split_word(word) else {
+            return Err(WordFault::BadPosterWord(word));
+        };
+        pairs.push(pair)?;
     }
     Ok(pairs)
 }
 
-/// Each poster with the bytes of its files, which are read in this order.
-fn read_posters<'a>(
-    rt: &HostRuntime,
+/// Gives this poster one text more, if there is one; a new poster goes last.
+fn add_text<'a>(
+    alloc: Global,
+    posters: &mut Posters<'a>,
+    poster: &'a str,
+    text: Option<Vec<u8>>,
+) -> Result<(), WordFault<'a>>
+    ensures { OnOk result ((words : List ReadWord) → posters_in posters.old ≡ by_poster words → posters_in posters.new ≡ by_poster (words ++ (poster.now, option_map (λ t. t.items) text) ∷ [])) }
+{
+    let texts = posters.entry(poster)?.or_insert(Vec::new(alloc));
+    match text {
+        Some(text) => Ok(texts.push(text)?),
+        None => Ok(()),
+    }
+}
+
+/// Each poster with the texts of its files, which are read in this order.
+fn read_posters<'a, F: Fn(&'a str) -> Result<Vec<u8>, WordFault<'a>>>(
+    alloc: Global,
     words: &[(&'a str, &'a str)],
-) -> Result<Posters<'a>, WordFault<'a>> {
-    let mut posters = IndexMap::new(rt.alloc());
+    read: F,
+) -> Result<Posters<'a>, WordFault<'a>>
+    requires { (file : _) → F.pre read file }
+    ensures { IfOk result (λ posters. (read_words : List ReadWord) × AreRead (λ name text. F.post read name (Ok text)) words.now read_words × (posters_in posters ≡ by_poster read_words)) }
+{
+    let mut posters = IndexMap::new(alloc);
     for word in words {
-        let texts = posters.entry(word.0)?.or_insert(Vec::new(rt.alloc()));
-        if !word.1.is_empty() {
-            texts.push(read_file(rt, word.1, Limits::STANDARD)?)?;
-        }
+        let text = if word.1.is_empty() {
+            None
+        } else {
+            Some(read(word.1)?)
+        };
+        add_text(alloc, &mut posters, word.0, text)?;
     }
     Ok(posters)
 }
 
 /// Each of these texts, borrowed.
-fn slices_of<'t>(alloc: Global, texts: &'t [Vec<u8>]) -> Result<Vec<&'t [u8]>, AllocError> {
+fn slices_of<'t>(alloc: Global, texts: &'t [Vec<u8>]) -> Result<Vec<&'t [u8]>, AllocError>
+    ensures { IfOk result (λ slices. bytes_of slices.items ≡ items_of texts.now) }
+{
     let mut slices = Vec::with_capacity(alloc, texts.len())?;
     for text in texts {
         slices.push(text.as_slice())?;
@@ -78,7 +108,9 @@ fn slices_of<'t>(alloc: Global, texts: &'t [Vec<u8>]) -> Result<Vec<&'t [u8]>, A
 fn lists_of<'n, 't>(
     alloc: Global,
     posters: &'t Posters<'n>,
-) -> Result<Vec<(&'n str, Vec<&'t [u8]>)>, AllocError> {
+) -> Result<Vec<(&'n str, Vec<&'t [u8]>)>, AllocError>
+    ensures { IfOk result (λ lists. listed lists.items ≡ posters_in posters.now) }
+{
     let mut lists = Vec::with_capacity(alloc, posters.len())?;
     for (poster, texts) in posters.iter() {
         lists.push((*poster, slices_of(alloc, texts)?))?;
@@ -90,7 +122,9 @@ fn lists_of<'n, 't>(
 fn named_lists<'n, 'l, 't>(
     alloc: Global,
     lists: &'l [(&'n str, Vec<&'t [u8]>)],
-) -> Result<Vec<(&'n str, &'l [&'t [u8]])>, AllocError> {
+) -> Result<Vec<(&'n str, &'l [&'t [u8]])>, AllocError>
+    ensures { IfOk result (λ run. named run.items ≡ listed lists.now) }
+{
     let mut named = Vec::with_capacity(alloc, lists.len())?;
     for list in lists {
         named.push((list.0, list.1.as_slice()))?;
@@ -127,7 +161,12 @@ fn run_texts<'a, R: Runtime + AllocGlobal + Threads + Wait + Sync>(
     posters: &Posters<'a>,
     mirrors: Mirrors<'_>,
     explained: Option<Colour>,
-) -> Result<u8, ToolFault> {
+) -> Result<u8, ToolFault>
+    ensures status { IfOk result (λ status. (ran : Ran) × IsRanAs (texts_sent (posters_in posters.now)) mirrors.entry ran × (ran.status ≡ status)) }
+    ensures bad_plan { IfErr result (λ e. (fault : PlanFault) → e ≡ ToolFault.BadPlan fault → HasFaultAs (texts_sent (posters_in posters.now)) mirrors.entry fault) }
+    ensures fault { IfErr result (λ e. ((fault : PlanFault) × (e ≡ ToolFault.BadPlan fault))
+        ⊎ ((e ≡ ToolFault.NoThread) ⊎ ((e ≡ ToolFault.NoMemory) ⊎ (e ≡ ToolFault.Write)))) }
+{
     let lists = lists_of(rt.alloc(), posters)?;
     let named = named_lists(rt.alloc(), &lists)?;
     run_lists(rt, &named, mirrors, explained)
@@ -221,7 +260,9 @@ pub fn run_plan<'a, R: Runtime + AllocGlobal + Threads + Wait + Sync>(
 ) -> Result<u8, WordFault<'a>> {
     let files = split_words(rt.alloc(), words.get_strs("posters").unwrap_or(&[]))?;
     let file = read_base(host, words)?;
-    let posters = read_posters(host, &files)?;
+    let posters = read_posters(rt.alloc(), &files, |name| {
+        read_file(host, name, Limits::STANDARD)
+    })?;
     let mirrors = Mirrors {
         base: base_or_empty(&file),
         policy: policy_of(words),
