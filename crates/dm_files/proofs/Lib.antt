@@ -1,2 +1,3 @@
 pub mod MirrorLemmas
+pub mod LettingGoLemmas
 pub mod ChoosingLemmas

@@ -1,11 +1,11 @@
 //! `dm obliterate`: patches are taken out of a mirror, and kept as a bundle.
-ghost use Rattle.std.specs.Prelude.{ℕ, List, IfOk};
-ghost use Rattle.dm_disk.specs.States.{seen, may_leave, file_may_leave};
-ghost use Rattle.dm_journal.specs.Device.{IsDurable};
+ghost use Rattle.std.specs.Prelude.{◌≡◌, ℕ, List, length, IfOk, IsTrue, OnOk};
+ghost use Rattle.dm_disk.specs.States.{seen, may_leave, file_may_leave, left_since};
+ghost use Rattle.dm_journal.specs.Device.{IsDurable, LeavesOnly};
 ghost use Rattle.dm_named.specs.Laws.{with_kinds};
 ghost use Rattle.dm_named.specs.Limits.{standard};
 ghost use Rattle.dm_scratch.specs.Taking.{ReadsWithin};
-ghost use Rattle.dm_store.specs.Keeping.{IsStored};
+ghost use Rattle.dm_store.specs.Keeping.{IsStored, KeepsEither, kept_as, kept_in};
 ghost use Rattle.dm_store.specs.Kinds.{kinds_in};
 ghost use Rattle.dm_commands.specs.Obliterating.{ObliteratesBehind, TakesOut};
 
@@ -57,7 +57,9 @@ pub fn write_bundle_file<'a>(
 }
 
 /// The end of a command that may have changed a mirror: `false` says that what stays is too large for one.
-fn finish<'a>(done: bool, path: &'a str) -> Result<(), WordFault<'a>> {
+fn finish<'a>(done: bool, path: &'a str) -> Result<(), WordFault<'a>>
+    ensures { OnOk result (IsTrue done) }
+{
     if done {
         Ok(())
     } else {
@@ -91,6 +93,10 @@ fn keep_in_file<'a>(
 ) -> Result<(), WordFault<'a>>
     requires stored { IsStored seen may_leave file_may_leave store.old }
     requires takes_out { TakesOut (kinds_in store.old) store.old.repo.patches stays.patches text.now }
+    ensures done { OnOk result (store.new.repo ≡ stays) }
+    // A crash at any moment of it leaves a file that keeps the repository, or what stays.
+    ensures any_moment { LeavesOnly length left_since store.old.journal.device store.new.journal.device
+        (KeepsEither (kinds_in store.old) (kept_in store.old) (kept_as store.old.base stays.patches)) }
 {
     let mut file = open_kept(rt, name)?;
     match keep_and_let_go(rt.alloc(), store, &mut file, text, stays) {
@@ -108,6 +114,10 @@ fn let_go<'a>(
     stays: Repo<Global>,
 ) -> Result<(), WordFault<'a>>
     requires { IsStored seen may_leave file_may_leave store.old }
+    ensures done { OnOk result (store.new.repo ≡ stays) }
+    // A crash at any moment of it leaves a file that keeps the repository, or what stays.
+    ensures any_moment { LeavesOnly length left_since store.old.journal.device store.new.journal.device
+        (KeepsEither (kinds_in store.old) (kept_in store.old) (kept_as store.old.base stays.patches)) }
 {
     match store.replace(rt.alloc(), stays) {
         Ok(done) => finish(done, path),
@@ -124,6 +134,10 @@ fn print_and_let_go<'a>(
     stays: Repo<Global>,
 ) -> Result<(), WordFault<'a>>
     requires { IsStored seen may_leave file_may_leave store.old }
+    ensures done { OnOk result (store.new.repo ≡ stays) }
+    // A crash at any moment of it leaves a file that keeps the repository, or what stays.
+    ensures any_moment { LeavesOnly length left_since store.old.journal.device store.new.journal.device
+        (KeepsEither (kinds_in store.old) (kept_in store.old) (kept_as store.old.base stays.patches)) }
 {
     write_text(text, &mut io::writer(rt))?;
     let_go(rt, path, store, stays)

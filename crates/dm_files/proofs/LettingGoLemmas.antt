@@ -1,0 +1,39 @@
+-- What a mirror's file keeps where patches go, or where they stay.
+use Rattle.std.proofs.Common.{◌≡◌, ◌⊎◌, inl, inr, ⊎_elim, ℕ, List, length, sym, subst}
+use Rattle.dm_named.specs.declared.limits.Kinds.{Kinds}
+use Rattle.dm_named.specs.Patches.{Patch}
+use Rattle.dm_journal.specs.Device.{LeavesOnly}
+use Rattle.dm_disk.specs.Events.{Event}
+use Rattle.dm_disk.specs.States.{seen, may_leave, file_may_leave, left_since, left_now, left_only_now}
+use Rattle.dm_store.specs.declared.store.Store.{Store}
+use Rattle.dm_store.specs.Keeping.{CrashesKeep, IsStored, KeepsEither, KeepsRepo, Kept, kept_as, kept_in}
+use Rattle.dm_store.specs.Kinds.{kinds_in}
+use Rattle.dm_store.specs.LettingGo.{LosesNothing}
+use Rattle.dm_store.proofs.StoredLemmas.{at_rest, crashes_keep, weakened}
+
+-- no call of the file
+pub still_keeps : (store : Store (List Event)) (P : List ℕ → Type 0) → ((file : List ℕ) → KeepsRepo (kinds_in store) file (kept_in store) → P file) → IsStored seen may_leave file_may_leave store →
+    LeavesOnly length left_since store.journal.device store.journal.device P
+still_keeps store P to stored =
+    at_rest length left_since store.journal.device P
+    (λ c left. to c (crashes_keep seen may_leave file_may_leave store.journal stored.entries (kept_in store) stored.has stored.folds c (left_only_now store.journal.device c left)))
+
+pub stays_either : (store : Store (List Event)) (other : Kept) → IsStored seen may_leave file_may_leave store → LeavesOnly length left_since store.journal.device store.journal.device (KeepsEither (kinds_in store) (kept_in store) other)
+stays_either store other stored = still_keeps store (KeepsEither (kinds_in store) (kept_in store) other) (λ file keeps. inl keeps) stored
+
+either_of : (kinds : Kinds) (kept other : Kept) (others : List ℕ → Type 0) (file : List ℕ) → LosesNothing kinds kept other others file → KeepsEither kinds kept other file
+either_of kinds kept other others file (inl keeps) = inl keeps
+either_of kinds kept other others file (inr keeps) = inr keeps.0
+
+-- the mirror wasn't touched, or it loses nothing
+pub kept_or_gone : (old new : Store (List Event)) (left : List Patch) (others : List ℕ → Type 0) → IsStored seen may_leave file_may_leave old →
+    (new ≡ old) ⊎ LeavesOnly length left_since old.journal.device new.journal.device (LosesNothing (kinds_in old) (kept_in old) (kept_as old.base left) others) →
+    LeavesOnly length left_since old.journal.device new.journal.device (KeepsEither (kinds_in old) (kept_in old) (kept_as old.base left))
+kept_or_gone old new left others stored changes =
+    ⊎_elim (λ same. subst (λ (s : Store (List Event)). LeavesOnly length left_since old.journal.device s.journal.device (KeepsEither (kinds_in old) (kept_in old) (kept_as old.base left))) (sym same) (stays_either old (kept_as old.base left) stored))
+    (λ run. weakened length left_since old.journal.device new.journal.device _ _ (either_of (kinds_in old) (kept_in old) (kept_as old.base left) others) run)
+    changes
+
+-- what a crash may leave now, it may have left at any moment since
+pub left_keeps : (old new : List Event) (kinds : Kinds) (kept : Kept) → LeavesOnly length left_since old new (λ file. KeepsRepo kinds file kept) → CrashesKeep kinds may_leave new kept
+left_keeps old new kinds kept run c may = run.each c (left_now new (length old) c run.later may)
