@@ -1,3 +1,4 @@
 pub mod MirrorLemmas
+pub mod NamedLemmas
 pub mod LettingGoLemmas
 pub mod ChoosingLemmas

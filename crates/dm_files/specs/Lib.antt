@@ -1,3 +1,4 @@
 pub mod Choosing
 pub mod Bundles
+pub mod Named
 pub mod Mirrors

@@ -2,10 +2,16 @@
 use Rattle.std.specs.Prelude.{◌≡◌, ◌⊎◌, ℕ, List, All}
 use Rattle.dm_named.specs.declared.limits.Kinds.{Kinds}
 use Rattle.dm_repo.specs.declared.policy.Policy.{Policy}
-use Rattle.dm_store.specs.Keeping.{Kept}
+use Rattle.dm_journal.specs.declared.fault.WriteError.{WriteError}
+use Rattle.dm_store.specs.Keeping.{CrashesKeep, Kept}
+use Rattle.dm_store.specs.declared.store.Store.{Store}
 use Rattle.dm_deliver.specs.declared.answers.Answer.{Answer}
+use Rattle.dm_deliver.specs.declared.fault.AnswerError.{AnswerError}
+use Rattle.dm_deliver.specs.declared.fault.AnswerError.TheVariants.{Store as OfStore}
 use Rattle.dm_deliver.specs.declared.bundle_rule.BundleRule.{BundleRule}
-use Rattle.dm_deliver.specs.Answering.{AnswersEach, IsAcceptedAnswer}
+use Rattle.dm_deliver.specs.Answering.{AnswersEach, IsAcceptedAnswer, IsOfStore}
+use Rattle.dm_deliver.specs.Delivering.{Delivers, DeliversAllBut, DeliversButLast}
+use Rattle.dm_deliver.specs.Outputs.{Output}
 use Rattle.dm_commands.specs.Mirrors.{HasMirrorFault, IsInTheWay}
 use Rattle.dm_commands.specs.declared.mirror.MirrorFault.TheVariants.{Bad}
 use Rattle.dm_commands.specs.declared.mirror.MirrorFault.TheVariants.{Hidden as Hiding}
@@ -15,12 +21,20 @@ use Rattle.dm_files.specs.declared.word_fault.WordFault.TheVariants.{BadMirror, 
 use Rattle.dm_files.specs.declared.delivering.Stop.{Stop}
 use Rattle.dm_files.specs.declared.delivering.Stop.TheVariants.{Mirror, Beside}
 
--- texts that may have primitives of these kinds were answered in turn, each by the repository that the one before it left, and the exit status says whether all were accepted
-pub record AnswersAll (kinds : Kinds) (policy : Policy) (rule : BundleRule) (old new : Kept) (status : ℕ) : Type 0 where
+-- these texts came, which may have primitives of these kinds, and were answered in turn, each by the repository that the one before it left, and the exit status says whether all were accepted
+pub record AnswersAll (Gave : List (List ℕ) → Type 0) (kinds : Kinds) (policy : Policy) (rule : BundleRule) (old new : Kept) (status : ℕ) : Type 0 where
   pub texts : List (List ℕ)
   pub answers : List Answer
+  pub came : Gave texts
   pub takes : AnswersEach kinds old texts policy rule answers new
   pub exit : (All IsAcceptedAnswer answers × (status ≡ 0)) ⊎ ((All IsAcceptedAnswer answers → ⊥) × (status ≡ 1))
+
+-- some of the texts that came, the first, were answered in turn, each by the repository that the one before it left
+pub record AnswersSome (Gave : List (List ℕ) → Type 0) (kinds : Kinds) (policy : Policy) (rule : BundleRule) (old new : Kept) : Type 0 where
+  pub texts : List (List ℕ)
+  pub answers : List Answer
+  pub came : Gave texts
+  pub takes : AnswersEach kinds old texts policy rule answers new
 
 -- whichever texts came
 abbrev pub AnyTexts : List (List ℕ) → Type 0
@@ -30,6 +44,19 @@ AnyTexts texts = Unit {0}
 abbrev pub MayGoOn : Stop → Type 0
 MayGoOn (Mirror why) = ⊥
 MayGoOn (Beside why) = Unit {0}
+
+-- What was delivered by the time that the taking stopped: where the mirror can go on, all texts that came, or all but the last, which has no answer; where
+-- the mirror failed, all but the last.
+pub record DeliversBy {D : Type 0} (seen : D → List ℕ) (moment : D → ℕ) (left_since : D → ℕ → List ℕ → Type 0) (faults : D → ℕ) (Gave : List (List ℕ) → Type 0) (policy : Policy)
+    (rule : BundleRule) (stop : Stop) (old new : Store D) (before now : Output) : Type 0 where
+  pub mirror : (why : WriteError) → stop ≡ Mirror why →
+      DeliversButLast seen moment left_since faults Gave policy rule (OfStore why) old new before now ⊎ DeliversAllBut moment left_since faults Gave policy rule why old new before now
+  pub beside : MayGoOn stop → Delivers moment left_since Gave policy rule old new before now
+      ⊎ ((error : AnswerError) × (IsOfStore error → ⊥) × DeliversButLast seen moment left_since faults Gave policy rule error old new before now)
+
+-- a crash now leaves a file that keeps the repository which some texts left, or all, and these have the answers of P
+abbrev pub LeavesAnswered : {D : Type 0} → Kinds → (D → List ℕ → Type 0) → D → (Kept → Type 0) → Type 0
+LeavesAnswered kinds may_leave device P = (new : Kept) × P new × CrashesKeep kinds may_leave device new
 
 -- the fault tells why the file isn't opened as a mirror, and nothing else
 abbrev pub TellsUnkept : List ℕ → WordFault → Type 0

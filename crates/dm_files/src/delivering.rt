@@ -1,12 +1,17 @@
 //! Bundles that are taken one after the other, into a mirror or a repository in memory: `dm apply --mirror`.
-ghost use Rattle.std.specs.Prelude.{◌≡◌, ◌↔◌, All, length, IfOk, IfErr, IsTrue, OnOk};
-ghost use Rattle.dm_disk.specs.States.{seen, may_leave, file_may_leave};
-ghost use Rattle.dm_store.specs.Keeping.{IsStored, kept_in};
+ghost use Rattle.std.specs.Prelude.{◌≡◌, ◌≤◌, ◌↔◌, All, length, IfOk, IfErr, IsTrue, OnOk};
+ghost use Rattle.dm_journal.specs.declared.fault.WriteError.{WriteError as WriteFault};
+ghost use Rattle.dm_journal.specs.Device.{LeavesOnly};
+ghost use Rattle.dm_disk.specs.States.{seen, may_leave, file_may_leave, left_since};
+ghost use Rattle.dm_store.specs.Keeping.{CrashesKeep, IsStored, KeepsRepo, kept_in};
 ghost use Rattle.dm_store.specs.Kinds.{kinds_in};
+ghost use Rattle.dm_deliver.specs.declared.fault.AnswerError.TheVariants.{Store as OfStore};
 ghost use Rattle.dm_deliver.specs.Answering.{IsAcceptedAnswer, IsOfStore};
-ghost use Rattle.dm_deliver.specs.Delivering.{Delivers};
+ghost use Rattle.dm_deliver.specs.Delivering.{Delivers, KeepsSome};
 ghost use Rattle.dm_deliver.specs.Outputs.{output};
-ghost use Rattle.dm_files.specs.Mirrors.{AnswersAll, AnyTexts, MayGoOn};
+ghost use Rattle.dm_files.specs.declared.delivering.Stop.TheVariants.{Mirror};
+ghost use Rattle.dm_files.specs.Mirrors.{AnswersAll, AnswersSome, AnyTexts, DeliversBy, LeavesAnswered, MayGoOn};
+ghost use Rattle.dm_files.specs.Named.{CameAsNamed, CameAtMost};
 
 use crate::beginning::{open_mirror, rehearse_mirror, rehearse_start};
 use crate::bundles::Bundles;
@@ -40,7 +45,8 @@ enum Stop<'a> {
 
 impl<'a> Stop<'a> {
     fn of_answer(fault: AnswerError) -> Stop<'a>
-        ensures { MayGoOn result → ¬ IsOfStore fault }
+        ensures goes_on { MayGoOn result → ¬ IsOfStore fault }
+        ensures mirror { (why : WriteFault) → result ≡ Mirror why → fault ≡ OfStore why }
     {
         match fault {
             AnswerError::Store(fault) => Stop::Mirror(fault),
@@ -87,8 +93,13 @@ fn take_named<'a, D: Device, W: Write>(
     // As many texts came as there are names, each was answered in turn, and its line written.
     ensures delivers { IfOk result (λ all. (d : Delivers D.moment D.left_since (λ texts. length texts ≡ length names.now) policy rule store.old store.new
         (output W.contents writer.old) (output W.contents writer.new)) × (IsTrue all ↔ All IsAcceptedAnswer d.answers)) }
+    ensures delivers_by { IfErr result (λ stop. DeliversBy D.seen D.moment D.left_since D.faults (λ texts. length texts ≤ length names.now) policy
+        rule stop store.old store.new (output W.contents writer.old) (output W.contents writer.new)) }
+    ensures kinds { kinds_in store.new ≡ kinds_in store.old }
     ensures stored { OnOk result (IsStored D.seen D.may_leave D.file_may_leave store.new) }
     ensures stored_err { IfErr result (λ e. MayGoOn e → IsStored D.seen D.may_leave D.file_may_leave store.new) }
+    ensures any_moment { LeavesOnly D.moment D.left_since store.old.journal.device store.new.journal.device
+        (KeepsSome (λ texts. length texts ≤ length names.now) (kinds_in store.old) (kept_in store.old) policy rule) }
 {
     let mut source = Bundles::new(*rt, names);
     match deliver(
@@ -120,8 +131,13 @@ fn take_stream<'a, D: Device, W: Write>(
     // The texts that came were each answered in turn, and their lines written.
     ensures delivers { IfOk result (λ all. (d : Delivers D.moment D.left_since AnyTexts policy rule store.old store.new
         (output W.contents writer.old) (output W.contents writer.new)) × (IsTrue all ↔ All IsAcceptedAnswer d.answers)) }
+    ensures delivers_by { IfErr result (λ stop. DeliversBy D.seen D.moment D.left_since D.faults AnyTexts policy rule stop store.old store.new
+        (output W.contents writer.old) (output W.contents writer.new)) }
+    ensures kinds { kinds_in store.new ≡ kinds_in store.old }
     ensures stored { OnOk result (IsStored D.seen D.may_leave D.file_may_leave store.new) }
     ensures stored_err { IfErr result (λ e. MayGoOn e → IsStored D.seen D.may_leave D.file_may_leave store.new) }
+    ensures any_moment { LeavesOnly D.moment D.left_since store.old.journal.device store.new.journal.device
+        (KeepsSome AnyTexts (kinds_in store.old) (kept_in store.old) policy rule) }
 {
     let mut source = Framed::new(rt.alloc(), rt.reader());
     match deliver(
@@ -176,10 +192,16 @@ fn take_words<'a, D: Device, W: Write>(
     writer: &mut Watched<W>,
 ) -> Result<bool, Stop<'a>>
     requires { IsStored D.seen D.may_leave D.file_may_leave store.old }
-    ensures delivers { IfOk result (λ all. (d : Delivers D.moment D.left_since AnyTexts policy rule store.old store.new
+    // As many texts came as the words name, each was answered in turn, and its line written.
+    ensures delivers { IfOk result (λ all. (d : Delivers D.moment D.left_since (CameAsNamed words.now) policy rule store.old store.new
         (output W.contents writer.old) (output W.contents writer.new)) × (IsTrue all ↔ All IsAcceptedAnswer d.answers)) }
+    ensures delivers_by { IfErr result (λ stop. DeliversBy D.seen D.moment D.left_since D.faults (CameAtMost words.now) policy rule stop store.old
+        store.new (output W.contents writer.old) (output W.contents writer.new)) }
+    ensures kinds { kinds_in store.new ≡ kinds_in store.old }
     ensures stored { OnOk result (IsStored D.seen D.may_leave D.file_may_leave store.new) }
     ensures stored_err { IfErr result (λ e. MayGoOn e → IsStored D.seen D.may_leave D.file_may_leave store.new) }
+    ensures any_moment { LeavesOnly D.moment D.left_since store.old.journal.device store.new.journal.device
+        (KeepsSome (CameAtMost words.now) (kinds_in store.old) (kept_in store.old) policy rule) }
 {
     let explains = words.get_flag("explain");
     let reading = reading_of(words, store.kinds());
@@ -205,9 +227,13 @@ fn take_and_show<'a, D: Device>(
     rule: BundleRule,
 ) -> Result<u8, Stop<'a>>
     requires { IsStored D.seen D.may_leave D.file_may_leave store.old }
-    ensures answers { IfOk result (AnswersAll (kinds_in store.old) policy rule (kept_in store.old) (kept_in store.new)) }
+    ensures answers { IfOk result (AnswersAll (CameAsNamed words.now) (kinds_in store.old) policy rule (kept_in store.old) (kept_in store.new)) }
+    ensures answers_err { IfErr result (λ e. MayGoOn e → AnswersSome (CameAtMost words.now) (kinds_in store.old) policy rule (kept_in store.old) (kept_in store.new)) }
+    ensures kinds { kinds_in store.new ≡ kinds_in store.old }
     ensures stored { OnOk result (IsStored D.seen D.may_leave D.file_may_leave store.new) }
     ensures stored_err { IfErr result (λ e. MayGoOn e → IsStored D.seen D.may_leave D.file_may_leave store.new) }
+    ensures any_moment { LeavesOnly D.moment D.left_since store.old.journal.device store.new.journal.device
+        (KeepsSome (CameAtMost words.now) (kinds_in store.old) (kept_in store.old) policy rule) }
 {
     let mut writer = Watched::new(io::writer(rt));
     let all_accepted = match take_words(rt, colour, words, store, policy, rule, &mut writer) {
@@ -220,14 +246,18 @@ fn take_and_show<'a, D: Device>(
     }
 }
 
-/// Makes a checkpoint where one is worth its while. Where it fails what was taken stands, so that is only said.
-fn settle(rt: &HostRuntime, path: &str, store: Store<DiskFile>)
+/// Makes a checkpoint where one is worth its while. Where it fails what was taken stands, so that is only said. The file comes back.
+fn settle(rt: &HostRuntime, path: &str, store: Store<DiskFile>) -> DiskFile
     requires { IsStored seen may_leave file_may_leave store }
+    // A crash at any moment of it, and from then on, leaves a file that keeps the repository.
+    ensures kept { CrashesKeep (kinds_in store) may_leave result (kept_in store) }
+    ensures any_moment { LeavesOnly length left_since store.journal.device result (λ file. KeepsRepo (kinds_in store) file (kept_in store)) }
 {
     let mut store = store;
     if !store.wants_checkpoint() {
-        say_lost_rights(rt, path, &store.into_device());
-        return;
+        let file = store.into_device();
+        say_lost_rights(rt, path, &file);
+        return file;
     }
     let done = store.checkpoint(rt.alloc());
     let file = store.into_device();
@@ -235,6 +265,7 @@ fn settle(rt: &HostRuntime, path: &str, store: Store<DiskFile>)
         say_unsettled(rt, path, fault, &file);
     }
     say_lost_rights(rt, path, &file);
+    file
 }
 
 fn say_unsettled(rt: &HostRuntime, path: &str, fault: WriteError, file: &DiskFile) {
@@ -285,6 +316,37 @@ fn refuse_bundle_of_base<'a>(
     Ok(())
 }
 
+/// Takes what the words name into a mirror, prints what is shown of it then, and makes a checkpoint where one is worth its while. Returns
+/// the exit status, and the mirror's file.
+fn take_into<'a>(
+    rt: &HostRuntime,
+    colour: Colour,
+    words: &ArgMatches<'a>,
+    path: &str,
+    store: Store<DiskFile>,
+    policy: Policy,
+    rule: BundleRule,
+) -> (Result<u8, Stop<'a>>, DiskFile)
+    requires { IsStored seen may_leave file_may_leave store }
+
+    // What was answered is kept, and nothing else is: all that came, or, where something else than the mirror failed, the first of it.
+    ensures answers { IfOk result.0 (λ status. LeavesAnswered (kinds_in store) may_leave result.1
+        (λ new. AnswersAll (CameAsNamed words.now) (kinds_in store) policy rule (kept_in store) new status)) }
+    ensures answers_err { IfErr result.0 (λ stop. MayGoOn stop → LeavesAnswered (kinds_in store) may_leave result.1
+        (AnswersSome (CameAtMost words.now) (kinds_in store) policy rule (kept_in store))) }
+
+    // A crash at any moment of it leaves a file that keeps the repository after the first of the texts, some or all.
+    ensures any_moment { LeavesOnly length left_since store.journal.device result.1
+        (KeepsSome (CameAtMost words.now) (kinds_in store) (kept_in store) policy rule) }
+{
+    let mut store = store;
+    match take_and_show(rt, colour, words, &mut store, policy, rule) {
+        Ok(status) => (Ok(status), settle(rt, path, store)),
+        Err(Stop::Beside(fault)) => (Err(Stop::Beside(fault)), settle(rt, path, store)),
+        Err(Stop::Mirror(fault)) => (Err(Stop::Mirror(fault)), store.into_device()),
+    }
+}
+
 /// `dm apply --mirror`.
 pub fn apply_to_mirror<'a>(
     rt: &HostRuntime,
@@ -302,19 +364,12 @@ pub fn apply_to_mirror<'a>(
         let tried = take_and_show(rt, colour, words, &mut store, policy, rule);
         return status_of_trial(tried, path);
     }
-    let mut store = open_mirror(rt, colour, words, path, is_terminal)?;
+    let store = open_mirror(rt, colour, words, path, is_terminal)?;
     refuse_bundle_of_base(words, path, store.base())?;
-    match take_and_show(rt, colour, words, &mut store, policy, rule) {
-        Ok(status) => {
-            settle(rt, path, store);
-            Ok(status)
-        }
-        Err(Stop::Beside(fault)) => {
-            settle(rt, path, store);
-            Err(fault)
-        }
-        Err(Stop::Mirror(fault)) => {
-            Err(blame(WordFault::Unwritten(path, fault), &store.into_device()))
-        }
+    let (taken, file) = take_into(rt, colour, words, path, store, policy, rule);
+    match taken {
+        Ok(status) => Ok(status),
+        Err(Stop::Beside(fault)) => Err(fault),
+        Err(Stop::Mirror(fault)) => Err(blame(WordFault::Unwritten(path, fault), &file)),
     }
 }

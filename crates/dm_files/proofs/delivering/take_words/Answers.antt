@@ -1,5 +1,36 @@
-use Rattle.dm_files.proofs.MirrorLemmas.{told_less}
+use Rattle.std.proofs.Common.{◌≡◌, ◌≤◌, ◌∙◌, ⊎_elim, ℕ, List, length, codes, ap, refl, subst, true≢false}
+use Rattle.std.specs.Borrow.{Bor}
+use Rattle.dm_store.proofs.StoredLemmas.{weakened}
+use Rattle.dm_files.proofs.MirrorLemmas.{by_less, if_err, if_ok, some_less, told_less}
+use Rattle.dm_files.proofs.NamedLemmas.{as_many}
 use Rattle.dm_files.proofs.delivering.take_words.Goals as goal
 
+pub returns-then-get_flag-clause-delivers : goal.returns-then-get_flag-clause-delivers
+returns-then-get_flag-clause-delivers g c = if_ok c.take_stream.result (λ all told. told_less all (λ texts came on. absurd (⊎_elim (λ none. true≢false (c.if-get_flag.ensures.none none)) (λ other. true≢false (c.if-get_flag.ensures.other other)) on)) told) c.take_stream.ensures.delivers
+
+pub returns-then-get_flag-clause-delivers_by : goal.returns-then-get_flag-clause-delivers_by
+returns-then-get_flag-clause-delivers_by g c = if_err c.take_stream.result (λ stop told. by_less (λ texts came on. absurd (⊎_elim (λ none. true≢false (c.if-get_flag.ensures.none none)) (λ other. true≢false (c.if-get_flag.ensures.other other)) on)) told) c.take_stream.ensures.delivers_by
+
+pub returns-then-get_flag-clause-any_moment : goal.returns-then-get_flag-clause-any_moment
+returns-then-get_flag-clause-any_moment g c =
+    weakened g.D.Device.moment g.D.Device.left_since _ _ _ _ (some_less (λ texts came on. absurd (⊎_elim (λ none. true≢false (c.if-get_flag.ensures.none none)) (λ other. true≢false (c.if-get_flag.ensures.other other)) on))) c.take_stream.ensures.any_moment
+
 pub returns-in-Ok-clause-delivers : goal.returns-in-Ok-clause-delivers
-returns-in-Ok-clause-delivers g c = told_less c.in-Ok.all_accepted (λ texts came. tt) c.in-Ok.ensures.delivers
+returns-in-Ok-clause-delivers g c =
+    let same = (ap (λ (n : Bor (List (Bor (List ℕ)))). length n.now) c.unwrap_or-names.ensures ∙ as_many c.get_strs.result _ _ (codes "-") c.get_strs.ensures refl) in
+    told_less c.in-Ok.all_accepted (λ texts came off. came ∙ same) c.in-Ok.ensures.delivers
+
+pub returns-clause-delivers_by : goal.returns-clause-delivers_by
+returns-clause-delivers_by g c =
+    let same = (ap (λ (n : Bor (List (Bor (List ℕ)))). length n.now) c.unwrap_or-names.ensures ∙ as_many c.get_strs.result _ _ (codes "-") c.get_strs.ensures refl) in
+    by_less (λ texts came off. subst (λ (n : ℕ). length texts ≤ n) same came) c.in-Err.ensures.delivers_by
+
+pub returns-in-Ok-clause-any_moment : goal.returns-in-Ok-clause-any_moment
+returns-in-Ok-clause-any_moment g c =
+    let same = (ap (λ (n : Bor (List (Bor (List ℕ)))). length n.now) c.unwrap_or-names.ensures ∙ as_many c.get_strs.result _ _ (codes "-") c.get_strs.ensures refl) in
+    weakened g.D.Device.moment g.D.Device.left_since _ _ _ _ (some_less (λ texts came off. subst (λ (n : ℕ). length texts ≤ n) same came)) c.take_named.ensures.any_moment
+
+pub returns-clause-any_moment : goal.returns-clause-any_moment
+returns-clause-any_moment g c =
+    let same = (ap (λ (n : Bor (List (Bor (List ℕ)))). length n.now) c.unwrap_or-names.ensures ∙ as_many c.get_strs.result _ _ (codes "-") c.get_strs.ensures refl) in
+    weakened g.D.Device.moment g.D.Device.left_since _ _ _ _ (some_less (λ texts came off. subst (λ (n : ℕ). length texts ≤ n) same came)) c.take_named.ensures.any_moment
