@@ -76,7 +76,8 @@ def framed(title, body, site, up="", nav=NAV):
     feed = '<link rel="alternate" type="application/atom+xml" href="%sfeed.atom">\n' % up if nav is NAV else ""
     return (
         '<!doctype html>\n<html lang="en">\n<head>\n<meta charset="utf-8">\n<meta name="viewport" content="width=device-width">\n'
-        '<title>%s</title>\n<link rel="stylesheet" href="%sstyle.css">\n%s</head>\n<body>\n<nav><b>%s</b>%s</nav>\n<main>\n%s</main>\n</body>\n</html>\n'
+        '<title>%s</title>\n<link rel="stylesheet" href="%sstyle.css">\n%s</head>\n'
+        "<body>\n<nav><b>%s</b>%s</nav>\n<main>\n%s</main>\n</body>\n</html>\n"
         % (html.escape(plain(title)), up, feed, shown(site), links, body)
     ).encode()
 
@@ -130,7 +131,8 @@ def change_of(change, room):
     if kind == "hunk":
         return "<p>line %d</p>\n" % change["line"] + sides(change["old"], change["new"], room)
     if kind == "replace":
-        return "<p>a word is replaced, where a word is made of <code>%s</code></p>\n" % shown(cut(change["tokens"])) + sides([change["old"]], [change["new"]], room)
+        words = "<p>a word is replaced, where a word is made of <code>%s</code></p>\n" % shown(cut(change["tokens"]))
+        return words + sides([change["old"]], [change["new"]], room)
     if kind == "changepref":
         return sides(*([it] if it else [] for it in (change["old"], change["new"])), room)
     if kind == "binary":

@@ -7,6 +7,8 @@ import unicodedata
 from page import named, person, plain
 
 WIDE, HIGH, SECONDS = 190, 40, 20
+# How wide a picture may get before it is drawn from left to right, if it is narrower so.
+BROAD = 1000
 # How many letters fit into a box.
 LETTERS = 24
 
@@ -37,13 +39,18 @@ def arrows(patches):
     return kept
 
 
-def placed(pairs):
+def placed(pairs, direction):
     """What `dot` says of these arrows, a line of words each."""
     lines = ["n%d -> n%d;" % it for it in pairs]
-    text = "digraph { ranksep=0.35; nodesep=0.2; node [shape=box, fixedsize=true, width=%.3f, height=%.3f];\n%s\n}\n" % (WIDE / 72, HIGH / 72, "\n".join(lines))
+    nodes = "node [shape=box, fixedsize=true, width=%.3f, height=%.3f];" % (WIDE / 72, HIGH / 72)
+    text = "digraph { rankdir=%s; ranksep=0.35; nodesep=0.2; %s\n%s\n}\n" % (direction, nodes, "\n".join(lines))
     done = subprocess.run(["dot", "-Tplain"], input=text.encode(), stdout=subprocess.PIPE, check=True, timeout=SECONDS)
     # A long line ends with a backslash.
     return [line.split() for line in done.stdout.decode().replace("\\\n", "").split("\n")]
+
+
+def width_of(lines):
+    return 72 * float(lines[0][2])
 
 
 def box(patch, x, y):
@@ -52,7 +59,8 @@ def box(patch, x, y):
     line = '<text%s x="%.1f" y="%.1f">%s</text>'
     lines = line % ("", left + 8, top + 16, html.escape(fitting(name))), line % (' class="dim"', left + 8, top + 32, html.escape(fitting(who)))
     rect = '<rect x="%.1f" y="%.1f" width="%d" height="%d" rx="5"/>' % (left, top, WIDE, HIGH)
-    return '<a href="%s"%s><title>%s</title>%s%s%s</a>\n' % (patch["page"], ' class="tagged"' if patch["tag"] else "", html.escape(name), rect, *lines)
+    tagged = ' class="tagged"' if patch["tag"] else ""
+    return '<a href="%s"%s><title>%s</title>%s%s%s</a>\n' % (patch["page"], tagged, html.escape(name), rect, *lines)
 
 
 def arrow(points):
@@ -76,10 +84,12 @@ def svg(patches):
     if not pairs:
         return "<p>None names another.</p>\n"
     try:
-        lines = placed(pairs)
+        lines = placed(pairs, "TB")
+        if width_of(lines) > BROAD:
+            lines = min(lines, placed(pairs, "LR"), key=width_of)
     except (OSError, subprocess.SubprocessError):
         return "<p>There is no picture, since <code>dot</code> of graphviz doesn't run here.</p>\n"
-    width, height = (72 * float(it) for it in lines[0][2:4])
+    width, height = width_of(lines), 72 * float(lines[0][3])
     at = lambda x, y: (72 * float(x) + 2, height - 72 * float(y) + 2)
     parts = []
     for words in lines:

@@ -8,6 +8,7 @@ import re
 import shutil
 import signal
 import subprocess
+import sys
 import tempfile
 import time
 import unicodedata
@@ -235,7 +236,7 @@ def ask_faults(place):
     text = read(folder, "page.py").decode()
     holds("what is changed", text.count('    text = html.escape(text)\n'), 1)
     write(folder, "page.py", text=text.replace('    text = html.escape(text)\n', "").encode())
-    place.call(os.path.join(folder, "pages"), "hard.dm", "wrong")
+    place.call(sys.executable, os.path.join(folder, "pages"), "hard.dm", "wrong")
     texts = [read(place.path("wrong"), name).decode() for name in files(place.path("wrong")) if name.endswith(".html")]
     is_so("pages that escape nothing are found wrong", any(Page(it).wrong for it in texts))
 
