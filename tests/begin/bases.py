@@ -1,7 +1,7 @@
-"""Texts that were made to move the base of a mirror, and files that say what it is.
+"""Texts that were made to change the base of a mirror, and files that say what it is.
 
-The base of a mirror that begins at a tag is fixed when the mirror is made. Whatever is taken later, honest bundles have to be taken, and
-what was taken has to go again. The expected values come from that and from docs/FORMAT.md.
+The base of a mirror that begins at a tag is fixed when the mirror is made. Whatever is taken later, honest bundles still have to be taken, and
+what was taken can be obliterated. The expected values come from that and from docs/FORMAT.md.
 """
 import hashlib
 import os

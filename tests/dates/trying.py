@@ -3,11 +3,11 @@
 
     tests/dates/trying.py DATE..       asks for these dates
     tests/dates/trying.py < DATES      asks for each line
-    TZ=ZONE tests/dates/trying.py ..   with the clock of another zone; UTC where nothing is said
+    TZ=ZONE tests/dates/trying.py ..   in another time zone; by default in UTC
 
 For each date a bundle with one patch is made. `darcs apply` takes it into an empty repository, and `darcs log` shows it, in each of
-darcs' two formats. A date is read where all of that works. Odd bytes are written as Python does, `\\xff`. A line is printed for each
-date: `reads` or `ends`, the date, and what darcs said first where it ended.
+darcs' two formats. A date is read if all of that works. Odd bytes are written as in Python, `\\xff`. A line is printed for each
+date: `reads` or `ends`, the date, and what darcs said first if it failed.
 """
 import codecs
 import os

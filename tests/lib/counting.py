@@ -1,4 +1,4 @@
-"""Counts what holds, and prints what doesn't, with the name of the suite that runs."""
+"""Counts the checks that hold, and prints those that don't, with the name of the suite."""
 import os
 import sys
 import threading

@@ -1,4 +1,4 @@
-"""Repositories of the real darcs that change at random, for what compares `dm` with `darcs`."""
+"""Repositories of the real darcs that change at random, for scripts that compare `dm` with `darcs`."""
 import os
 import shutil
 import subprocess

@@ -1,4 +1,4 @@
-"""Large texts, repositories and trees, whose lines are as source code has them."""
+"""Large texts, repositories and trees, whose lines look like source code."""
 import os
 import subprocess
 from functools import partial

@@ -10,10 +10,15 @@ from importlib.util import module_from_spec, spec_from_loader
 
 from counting import leave, unless_broken
 from program import ANN, EXAMPLES, SEED, Place
-from trees import write
+from trees import tree, write
 
 FORMATS = ("darcs-1", "darcs-2")
 NO_CONTEXT = b"\nContext:\n\n"
+# A repository may name commands to be run before and after those of darcs.
+HOOKLESS = ("--no-prehook", "--no-posthook")
+# What darcs writes if two sides changed the same lines: the lines before, then those of each side with bars between.
+MARKS = re.compile(rb"(?m)^v v v v v v v\n(?:.*\n)*?=============\n((?:.*\n)*?)\^ \^ \^ \^ \^ \^ \^\n")
+BAR = b"*************\n"
 
 
 def has_darcs():
@@ -38,6 +43,17 @@ def script(name):
     module = module_from_spec(spec_from_loader(name, loader))
     loader.exec_module(module)
     return module
+
+
+def keep_both(folder):
+    """Settles the conflicts that darcs marked in a folder: the lines of both sides stay. Returns whether there were some."""
+    is_settled = False
+    for path, text in tree(folder).items():
+        both = text and MARKS.sub(lambda found: found[1].replace(BAR, b""), text)
+        if both != text:
+            write(os.fsencode(folder), path, text=both)
+            is_settled = True
+    return is_settled
 
 
 class Repositories(Place):

@@ -1,6 +1,6 @@
-"""Mails that were made to stop the next one, each with the verdict that is due.
+"""Mails that were made to stop the next one, each with its expected verdict.
 
-    DM=PROGRAM python3 tests/lib/stoppers.py RECIPE     which of them, without a signature, stop the recipe of this folder
+    DM=PROGRAM python3 tests/lib/stoppers.py RECIPE     which of them, unsigned, stop the recipe in this folder
 """
 import base64
 import bz2

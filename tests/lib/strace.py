@@ -1,4 +1,4 @@
-"""Processes under strace, which kills or refuses their calls."""
+"""Processes under strace, which kills them at a call or makes it fail."""
 import os
 import re
 import signal

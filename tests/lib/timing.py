@@ -1,4 +1,4 @@
-"""What benches measure: times, peaks of memory, and the rows of their tables. Times are the processor's."""
+"""What benches measure: times, peaks of memory, and the rows of their tables. Times are processor times."""
 import os
 import resource
 import subprocess

@@ -1,4 +1,4 @@
-"""Files and folders: read, written, and as a whole, to be compared."""
+"""Files and folders, read, written and compared."""
 import os
 
 

@@ -1,4 +1,4 @@
-"""A broker that lets nobody in but by TLS with a certificate, accounts, and a mirror with a keyring."""
+"""A broker that lets nobody in except by TLS with a certificate, accounts, and a mirror with a keyring."""
 import base64
 import os
 import random
