@@ -22,7 +22,7 @@ use Rattle.dm_begin.specs.Sharing.{AreCommon}
 use Rattle.dm_repo.specs.Squares.{Placed, placed, placed_from, patches, PlacedCommutes}
 use Rattle.dm_repo.specs.Staircases.{Split, SplitStops}
 use Rattle.dm_repo.specs.Weighed.{Weighs}
-use Rattle.dm_repo.specs.Weighing.{IsCommon, IsHeld, HasPrerequisites, IsRepoSplit, IsBundleSplit, GoesTooDeep, Fits, IsFull, RefusesBundle, IsNothingNew, Appends, IsMergeOf}
+use Rattle.dm_repo.specs.Weighing.{IsCommon, IsHeld, HasPrerequisites, IsRepoSplit, IsBundleSplit, RunsPastLimits, Fits, IsFull, RefusesBundle, IsNothingNew, Appends, IsMergeOf}
 use Rattle.dm_repo.proofs.Making.{grows_one, makes_on}
 use Rattle.dm_repo.proofs.Members.{dep_held, infos_of-append, in_infos, one_of, none_of, here, more}
 use Rattle.dm_repo.proofs.Placed.{patches_placed}
@@ -30,7 +30,7 @@ use Rattle.dm_repo.proofs.Splits.{placed_from-append}
 use Rattle.dm_repo.proofs.Staircases.{runs_part}
 use Rattle.dm_repo.proofs.Trees.{root_one}
 use Rattle.dm_begin.specs.Alike.{StandAlike, ShareFirst, AnswersAlike, WeighsAlike, TreesStayAlike, CommonAlike}
-use Rattle.dm_begin.proofs.FrontLemmas.{split_also, stops_also, split_first, split_after, stops_first, stops_after, deep_first, deep_after}
+use Rattle.dm_begin.proofs.FrontLemmas.{split_also, stops_also, split_first, split_after, stops_first, stops_after, past_first, past_after}
 
 names_front : (known : List PatchInfo) (xs ys : List Patch) → NamesEarlier known (xs ++ ys) → NamesEarlier known xs
 names_front known [] ys n = tt
@@ -223,7 +223,7 @@ module _ (f g xs : List Patch) (b : Contents) (s : ShareFirst f g xs b) where
   held_stops : {h n : Placed} → SplitStops PlacedCommutes (IsHeld (f ++ xs)) (placed b.patches) h n → SplitStops PlacedCommutes (IsHeld (g ++ xs)) (placed b.patches) h n
   held_stops p = stops_also PlacedCommutes (λ x h. holds x.1.info h) (λ x h. held x.1.info h) p
 
-  -- both fronts make the same tree, and go too deep at the same patch
+  -- both fronts make the same tree, and go past a limit at the same patch
   patches_of_front : (h later : List Placed) (base : List Patch) → h ≡ placed base ++ later → patches h ≡ base ++ patches later
   patches_of_front h later base e = ap patches e ∙ map-append (λ (x : Placed). x.1) (placed base) later ∙ ap (λ l. l ++ patches later) (patches_placed 0 base)
 
@@ -231,13 +231,13 @@ module _ (f g xs : List Patch) (b : Contents) (s : ShareFirst f g xs b) where
   front_folds {front} {also} r w =
       rw (patches_of_front also r.later g r.also_is) (folds_there f g s.alike (patches r.later) (rw (patches_of_front front r.later f r.is) at w))
 
-  front_deep : {front also : List Placed} → Fronts front also → (start : LawfulMap) × IsRoot start × GoesTooDeep start front → (start : LawfulMap) × IsRoot start × GoesTooDeep start also
-  front_deep {front} {also} r (start, root, (x, stops)) =
+  front_past : {front also : List Placed} → Fronts front also → (start : LawfulMap) × IsRoot start × RunsPastLimits start front → (start : LawfulMap) × IsRoot start × RunsPastLimits start also
+  front_past {front} {also} r (start, root, (x, stops)) =
       let e : s.alike.first.start ≡ start = root_one s.alike.first.start start s.alike.first.is_root root in
       let runs = rw (e, ← patches_placed 0 f) at s.alike.first.runs in
       let there = rw (← patches_placed 0 g) at s.alike.second.runs in
-      let behind = deep_after (placed f) r.later runs (rw r.is at stops) in
-      (s.alike.second.start, s.alike.second.is_root, (x, rw r.also_is (deep_first (placed g) r.later there behind)))
+      let behind = past_after (placed f) r.later runs (rw r.is at stops) in
+      (s.alike.second.start, s.alike.second.is_root, (x, rw r.also_is (past_first (placed g) r.later there behind)))
 
   fits : {rest new : List Placed} → Fits (f ++ xs) b rest new → Fits (g ++ xs) b rest new
   fits p = let q = bundle_split p.bundle_split in record { front = q.0; bundle_split = q.2; base = p.base; folds = front_folds q.1 p.folds; fitted = p.fitted; leads = p.leads }
@@ -276,7 +276,7 @@ module _ (f g xs : List Patch) (b : Contents) (s : ShareFirst f g xs b) where
   refuses_there policy (HeldDepends h n) (front, rest, p, q) = let r = repo_split p in (r.0, rest, r.2, (q.0, q.1, q.2, q.3, held_stops q.4))
   refuses_there policy (DoesNotFit n) (front, rest, new, p, (base, x, e, w, q)) = let r = bundle_split p in (r.0, rest, new, r.2, (base, x, e, front_folds r.1 w, q))
   refuses_there policy (Conflicts n r) (rest, new, p, q) = (rest, new, fits p, q)
-  refuses_there policy Full (inl (front, rest, new, p, q)) = let r = bundle_split p in inl (r.0, rest, new, r.2, front_deep r.1 q)
+  refuses_there policy Full (inl (front, rest, new, p, q)) = let r = bundle_split p in inl (r.0, rest, new, r.2, front_past r.1 q)
   refuses_there policy Full (inr (rest, new, merged, skipped, p, m, i)) = inr (rest, new, merged, skipped, fits p, m, is_full merged i)
   refuses_there policy NoMemory u = tt
 

@@ -1,14 +1,15 @@
 -- A list whose first part is in the set: where it is split or stopped, and where it is applied.
-use Rattle.std.proofs.Common.{◌≡◌, List, [], ◌∷◌, ◌++◌, refl, sym, ap, ◌∙◌, inr, append_assoc}
+use Rattle.std.proofs.Common.{◌≡◌, List, [], ◌∷◌, ◌++◌, refl, sym, ap, ◌∙◌, append_assoc}
 use Rattle.std.specs.List.{AllByRecursion}
 use Rattle.dm_prim.specs.InTurn.{InTurn, done, step}
 use Rattle.dm_prim.specs.Primitives.{Prim, LawfulMap}
 use Rattle.dm_named.specs.Patches.{Patch}
 use Rattle.dm_repo.specs.Staircases.{Split, nothing, stays, yields, PassStops, SplitStops}
 use Rattle.dm_repo.specs.Squares.{Placed, patches}
-use Rattle.dm_repo.specs.Folds.{PatchLeadsShallowly, MakesTooDeep, IsStopped, PatchStops}
+use Rattle.dm_repo.specs.Folds.{PatchLeadsShallowly, GoesPastLimits, IsStopped, PatchStops}
 use Rattle.dm_repo.specs.Weighing.{FitStops}
 use Rattle.dm_repo.proofs.Applying.{patch_stops_all}
+use Rattle.dm_repo.proofs.OneAnswer.{past_stopped}
 use Rattle.dm_repo.proofs.Trees.{goes_all_one}
 
 module _ {P : Type 0} (Square : P → P → P → P → Type 0) where
@@ -68,29 +69,29 @@ module _ {P : Type 0} (Square : P → P → P → P → Type 0) where
     stops_after [] a s = s
     stops_after (p ∷ ps) a s = stops_after ps a.1 (stops_behind p a.0 s.before s.after s.at s.so_far s.in_set s.stops)
 
--- patches that lead on are applied, and what goes too deep stands behind them
-pub deep_first : (ps xs : List Placed) {s t : LawfulMap} {x : Placed} → InTurn PatchLeadsShallowly (patches ps) s t → FitStops MakesTooDeep t xs x → FitStops MakesTooDeep s (ps ++ xs) x
-deep_first [] xs done f = f
-deep_first (p ∷ ps) xs (step h r) f =
-    let g = deep_first ps xs r f in
+-- patches that lead on are applied, and what goes past a limit stands behind them
+pub past_first : (ps xs : List Placed) {s t : LawfulMap} {x : Placed} → InTurn PatchLeadsShallowly (patches ps) s t → FitStops GoesPastLimits t xs x → FitStops GoesPastLimits s (ps ++ xs) x
+past_first [] xs done f = f
+past_first (p ∷ ps) xs (step h r) f =
+    let g = past_first ps xs r f in
     record { before = p ∷ g.before; after = g.after; tree = g.tree; at = ap (λ l. p ∷ l) g.at; leads = step h g.leads; stops = g.stops }
 
-deep_stopped : {x : Patch} {s : LawfulMap} → PatchStops MakesTooDeep x s → PatchStops IsStopped x s
-deep_stopped q = record { before = q.before; prim = q.prim; after = q.after; tree = q.tree; at = q.at; leads = q.leads; stops = inr q.stops }
+past_stops : {x : Patch} {s : LawfulMap} → PatchStops GoesPastLimits x s → PatchStops IsStopped x s
+past_stops q = record { before = q.before; prim = q.prim; after = q.after; tree = q.tree; at = q.at; leads = q.leads; stops = past_stopped q.prim q.tree q.stops }
 
-deep_behind : (p : Placed) (xs : List Placed) {s u : LawfulMap} {x : Placed} → PatchLeadsShallowly p.1 s u → (before after : List Placed) {tree : LawfulMap} →
-    p ∷ xs ≡ before ++ x ∷ after → InTurn PatchLeadsShallowly (patches before) s tree → PatchStops MakesTooDeep x.1 tree → FitStops MakesTooDeep u xs x
-deep_behind p xs {u = u} {x = x} h [] after e done q =
+past_behind : (p : Placed) (xs : List Placed) {s u : LawfulMap} {x : Placed} → PatchLeadsShallowly p.1 s u → (before after : List Placed) {tree : LawfulMap} →
+    p ∷ xs ≡ before ++ x ∷ after → InTurn PatchLeadsShallowly (patches before) s tree → PatchStops GoesPastLimits x.1 tree → FitStops GoesPastLimits u xs x
+past_behind p xs {u = u} {x = x} h [] after e done q =
     let f : x ∷ after ≡ p ∷ xs = sym e in
     let same : x ≡ p = cc in
-    absurd (patch_stops_all {t = u} (deep_stopped q) (rw same h))
-deep_behind p xs {s} {u} {x} h (b ∷ before) after {tree} e (step {u = w} k r) q =
+    absurd (patch_stops_all {t = u} (past_stops q) (rw same h))
+past_behind p xs {s} {u} {x} h (b ∷ before) after {tree} e (step {u = w} k r) q =
     let f : b ∷ (before ++ x ∷ after) ≡ p ∷ xs = sym e in
     let same : b ≡ p = cc in
     let rest : xs ≡ before ++ x ∷ after = cc in
     let one : w ≡ u = goes_all_one p.1 s w u (rw same at k) h in
     record { before = before; after = after; tree = tree; at = rest; leads = rw one at r; stops = q }
 
-pub deep_after : (ps xs : List Placed) {s t : LawfulMap} {x : Placed} → InTurn PatchLeadsShallowly (patches ps) s t → FitStops MakesTooDeep s (ps ++ xs) x → FitStops MakesTooDeep t xs x
-deep_after [] xs done f = f
-deep_after (p ∷ ps) xs (step h r) f = deep_after ps xs r (deep_behind p (ps ++ xs) h f.before f.after f.at f.leads f.stops)
+pub past_after : (ps xs : List Placed) {s t : LawfulMap} {x : Placed} → InTurn PatchLeadsShallowly (patches ps) s t → FitStops GoesPastLimits s (ps ++ xs) x → FitStops GoesPastLimits t xs x
+past_after [] xs done f = f
+past_after (p ∷ ps) xs (step h r) f = past_after ps xs r (past_behind p (ps ++ xs) h f.before f.after f.at f.leads f.stops)

@@ -43,7 +43,7 @@ module _ (s : LawfulMap) (p : Path) (a : MayAdd s.map p) where
   with_dir = record {
     end = record { map = put s.map p Dir; lawful = dir_lawful s.map p a };
     is = refl;
-    leads = step (record { leads = record { applies = adds_dir s.map p a }; shallow = put_shallow s.map p a Dir }) done;
+    leads = step (record { leads = record { applies = adds_dir s.map p a }; shallow = put_shallow s.map p a Dir; small = λ l. l }) done;
   }
 
   empty_there : LawfulMap
@@ -51,7 +51,7 @@ module _ (s : LawfulMap) (p : Path) (a : MayAdd s.map p) where
 
   file_added : LeadsShallowly (At p AddFile) s empty_there
   unfolding empty_there
-  file_added = record { leads = record { applies = adds_file s.map p a }; shallow = put_shallow s.map p a empty_file }
+  file_added = record { leads = record { applies = adds_file s.map p a }; shallow = put_shallow s.map p a empty_file; small = λ l. l }
 
   filled : (ls : Lines) → ls ≢ [] → (b : Bool) → is_blank ls ≡ b → LeadsTo (cond b [] (At p (Hunk 1 ([] ∷ []) ls) ∷ [])) empty_there (put s.map p (File ls))
   unfolding empty_there
@@ -59,7 +59,7 @@ module _ (s : LawfulMap) (p : Path) (a : MayAdd s.map p) where
   filled ls some false e = record {
     end = record { map = put s.map p (File ls); lawful = filled_lawful s.map p a ls some };
     is = refl;
-    leads = step (record { leads = record { applies = fills_file s.map p a ls some }; shallow = put_shallow s.map p a (File ls) }) done;
+    leads = step (record { leads = record { applies = fills_file s.map p a ls some }; shallow = put_shallow s.map p a (File ls); small = λ l. l }) done;
   }
 
   with_entry : (e : Entry) → ((ls : Lines) → e ≡ File ls → ls ≢ []) → LeadsTo (making p e) s (put s.map p e)

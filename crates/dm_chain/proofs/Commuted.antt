@@ -4,7 +4,7 @@ use Rattle.dm_tree.specs.Trees.{Lines}
 use Rattle.dm_prim.specs.Primitives.{Hunk, Prim, At}
 use Rattle.dm_prim.specs.Table.{LiesAbove}
 use Rattle.dm_prim.proofs.Ends.{split}
-use Rattle.dm_prim.proofs.Single.{Both, apart, down, up, answer_from}
+use Rattle.dm_prim.proofs.Single.{Both, apart, at_one, answer_from}
 use Rattle.dm_chain.specs.Chains.{Token, gap_next, other, Place, lines_of, IsChain, cuts_at, HunkSteps}
 use Rattle.dm_chain.specs.Laws.{CommutedHunksStepAlike}
 use Rattle.dm_chain.proofs.Leading.{size, lines-append, leads-append, leads-length}
@@ -141,15 +141,11 @@ commuted_alike I first last f l1 l2 m k o1 n1 o2 n2 o1' n1' o2' n2' t1 a1 t2 a2 
     go : Both f (Hunk l1 o1 n1) f (Hunk l2 o2 n2) (At f (Hunk m o2' n2')) (At f (Hunk k o1' n1')) →
         (d' : List (Token I)) × HunkSteps m o2' n2' t2 a2 c d' × HunkSteps k o1' n1' t1 a1 d' e
     go (apart s i j) = absurd (s.differ refl)
-    go (down {l1 = x1} {l2 = x2} {m = y} {o1 = u1} {n1 = v1} {o2 = u2} {n2 = v2} s a b q w i j) =
-        let e1 : x1 ≡ l1 = cc in let e2 : x2 ≡ l2 = cc in let e3 : y ≡ m = cc in let e4 : l1 ≡ k = cc in
-        let p1 : u1 ≡ o1 = cc in let p2 : v1 ≡ n1 = cc in let p3 : u2 ≡ o2 = cc in let p4 : v2 ≡ n2 = cc in
-        let above : Above (l1 + length n1) l2 o1 n1 o2 n2 = rw (e1, e2, p1, p2, p3, p4) at q in
-        let moved : m + length n1 ≡ l2 + length o1 = rw (e2, e3, p1, p2) at w in
-        found (rw e4 at (above_alike I first last l1 l2 m o1 n1 o2 n2 t1 a1 t2 a2 c d e above moved ch g h)) (cc) (cc) (cc) (cc)
-    go (up {l1 = x1} {l2 = x2} {k = y} {o1 = u1} {n1 = v1} {o2 = u2} {n2 = v2} s a b q w i j) =
-        let e1 : x1 ≡ l1 = cc in let e2 : x2 ≡ l2 = cc in let e3 : y ≡ k = cc in let e4 : l2 ≡ m = cc in
-        let p1 : u1 ≡ o1 = cc in let p2 : v1 ≡ n1 = cc in let p3 : u2 ≡ o2 = cc in let p4 : v2 ≡ n2 = cc in
-        let above : Above (l2 + length o2) l1 o1 n1 o2 n2 = rw (e1, e2, p1, p2, p3, p4) at q in
-        let moved : k + length o2 ≡ l1 + length n2 = rw (e1, e3, p3, p4) at w in
-        found (rw e4 at (below_alike I first last l1 l2 k o1 n1 o2 n2 t1 a1 t2 a2 c d e above moved ch g h)) (cc) (cc) (cc) (cc)
+    go (at_one {v'} {w'} s (y, x, inl (q, w, z), a, b) i j) =
+        let e3 : y ≡ m = cc in let e4 : l1 ≡ k = cc in
+        let moved : m + length n1 ≡ l2 + length o1 = rw e3 at w in
+        found (rw e4 at (above_alike I first last l1 l2 m o1 n1 o2 n2 t1 a1 t2 a2 c d e q moved ch g h)) (cc) (cc) (cc) (cc)
+    go (at_one {v'} {w'} s (y, x, inr (q, z, w), a, b) i j) =
+        let e3 : x ≡ k = cc in let e4 : l2 ≡ m = cc in
+        let moved : k + length o2 ≡ l1 + length n2 = rw e3 at w in
+        found (rw e4 at (below_alike I first last l1 l2 k o1 n1 o2 n2 t1 a1 t2 a2 c d e q moved ch g h)) (cc) (cc) (cc) (cc)

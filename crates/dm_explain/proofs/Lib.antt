@@ -5,3 +5,4 @@ pub mod LineLemmas
 pub mod RowLemmas
 pub mod PlaceLemmas
 pub mod AccountLemmas
+pub mod TokenLemmas

@@ -4,12 +4,13 @@ use Rattle.std.specs.declared.cmp.Ordering.TheVariants.{Less}
 use Rattle.std.specs.FinMap as map
 use Rattle.dm_info.specs.PatchInfo.{PatchInfo}
 use Rattle.dm_tree.specs.Changes.{RenameAnswers}
-use Rattle.dm_tree.specs.declared.fault.TreeFault.TheVariants.{TooDeep}
+use Rattle.dm_tree.specs.declared.fault.TreeFault.TheVariants.{TooDeep, TooLarge}
 use Rattle.dm_tree.specs.Limits.{most_names}
 use Rattle.dm_tree.specs.Paths.{Path, forward}
 use Rattle.dm_tree.specs.Trees.{path_cmp}
 use Rattle.dm_prim.specs.Prims.{prim_of}
-use Rattle.dm_prim.specs.Primitives.{Move}
+use Rattle.dm_prim.specs.Applying.{ReplaceAnswers}
+use Rattle.dm_prim.specs.Primitives.{At, Move, Replace}
 use Rattle.dm_named.specs.Patches.{Patch}
 use Rattle.dm_bundle.specs.Patches.{infos_of}
 use Rattle.dm_bundle.specs.Bundles.{Contents}
@@ -73,12 +74,12 @@ pub record AreClashing (repo : List Patch) (b : Contents) (n h : ℕ) (pair : Cl
 abbrev pub AreMissing : List Patch → Contents → ℕ → Type 0
 AreMissing repo b count = (names : List PatchInfo) × AreChosen (λ i. Holds repo i → ⊥) (infos_of b.patches) names × (count ≡ length names)
 
--- the name of the patch that makes a path too deep: a held one of the front, or a new one that was merged
+-- the name of the patch that goes past a limit: a held one of the front, or a new one that was merged
 abbrev pub overflowing : {Z : Type 0} → List Patch → Contents → Overflow Z → Option PatchInfo
 overflowing repo b (Front m) = held_at repo m.place
 overflowing repo b (Merged m) = new_at b m.place
 
--- the patch that makes a path too deep, its primitive, and the tree that this was applied to
+-- the patch that goes past a limit, its primitive, and the tree that this was applied to
 abbrev pub misfit_of : {Z : Type 0} → Overflow Z → Misfit Z
 misfit_of (Front m) = m
 misfit_of (Merged m) = m
@@ -86,6 +87,15 @@ misfit_of (Merged m) = m
 -- the primitive that is told is a move, which the tree refuses since a path would get too many names
 abbrev pub IsMoveTooDeep : {Z : Type 0} → Misfit Z → Type 0
 IsMoveTooDeep m = (from : Path) × (to : Path) × (slice_get m.patch.prims m.prim ≡ Some (Move from to)) × RenameAnswers {T = Unit {0}} (map.get m.tree) from to (Err TooDeep)
+
+-- the primitive that is told is a replace in the file at this path, which the tree refuses since the file is too large, before or after
+abbrev pub IsReplaceTooLarge : {Z : Type 0} → Misfit Z → Path → Type 0
+IsReplaceTooLarge m path = (set : List ℕ) × (old : List ℕ) × (new : List ℕ) ×
+    (slice_get m.patch.prims m.prim ≡ Some (At path (Replace set old new))) × ReplaceAnswers {T = Unit {0}} (map.get m.tree) path set old new (Err TooLarge)
+
+-- the primitive that is told goes past a limit, which its fault says: a move makes a path too deep, or the file of a replace is too large
+abbrev pub IsPast : {Z : Type 0} → Misfit Z → Type 0
+IsPast m = ((m.fault ≡ TooDeep) × IsMoveTooDeep m) ⊎ ((m.fault ≡ TooLarge) × ((path : Path) × IsReplaceTooLarge m path))
 
 -- the primitive that is told is a move, and this is the first path of the tree that gets too many names by it
 pub record IsMovedTooDeep {Z : Type 0} (m : Misfit Z) (path : Path) : Type 0 where
@@ -96,14 +106,18 @@ pub record IsMovedTooDeep {Z : Type 0} (m : Misfit Z) (path : Path) : Type 0 whe
   pub is_too_deep : most_names < length (forward from to path)
   pub is_first : (q : Path) → map.get m.tree q ≢ None → path_cmp q path ≡ Less → length (forward from to q) ≤ most_names
 
--- where a path would get too many names: the patch, its name, and the path
+-- it does so at this path: a move makes the path too deep, or it is the file of a replace
+abbrev pub IsPastAt : {Z : Type 0} → Misfit Z → Path → Type 0
+IsPastAt m path = ((m.fault ≡ TooDeep) × IsMovedTooDeep m path) ⊎ ((m.fault ≡ TooLarge) × IsReplaceTooLarge m path)
+
+-- where a patch would go past a limit: the patch, its name, and the path that a move would make too deep, or the file of a replace
 pub record IsDepth (repo : List Patch) (b : Contents) (policy : Policy) (depth : Depth) : Type 0 where
   pub told : IsOverflow repo b policy depth.overflow
   pub named : overflowing repo b depth.overflow ≡ Some depth.name.now
-  pub moved : IsMovedTooDeep (misfit_of depth.overflow) depth.path
+  pub past : IsPastAt (misfit_of depth.overflow) depth.path
 
 -- whom a refusal of a bundle is about; nobody is only where no patch stands at a place of it, or it has no place. A misfit, or the
--- primitives of a clash, are missing only where weighing the bundle doesn't refuse it so; where a path gets too deep, only where it doesn't, or
+-- primitives of a clash, are missing only where weighing the bundle doesn't refuse it so; where a patch goes past a limit, only where none does, or
 -- too many patches would be merged
 abbrev pub IsAccountOfRefusal : List Patch → Contents → Policy → Refusal → Account → Type 0
 IsAccountOfRefusal repo b policy (refusals.MissingContext c) (MissingContext missing) = AreChosen (λ i. Holds repo i → ⊥) b.context (lent missing.items)

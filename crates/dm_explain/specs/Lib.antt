@@ -3,3 +3,4 @@ pub mod Accounts
 pub mod Rows
 pub mod Skips
 pub mod Places
+pub mod Tokens

@@ -37,8 +37,8 @@ pub struct Clashing<'a> {
 pub enum Account<'a> {
     /// No patch, or a place where none stands.
     Nobody,
-    /// How many patches the repository has, and how many of the bundle it hasn't: they are too many together, or a path would have
-    /// too many names, and where that is.
+    /// How many patches the repository has, and how many of the bundle it hasn't: they are too many together, or a patch would go
+    /// past a limit, and where that is.
     Full(usize, usize, Option<Depth<'a>>),
     /// The patches of the context that aren't held, in its order.
     MissingContext(Vec<Name<'a>>),
@@ -280,7 +280,7 @@ fn does_not_fit<'a>(
     Ok(Account::DoesNotFit(patch, misfit))
 }
 
-/// How many patches are held, how many new ones aren't, and where a path would have too many names.
+/// How many patches are held, how many new ones aren't, and where a patch would go past a limit.
 fn full<'a>(
     alloc: Global,
     repo: &'a Repo<Global>,

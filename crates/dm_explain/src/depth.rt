@@ -1,33 +1,33 @@
-//! Which path would get too many names, and by which patch.
+//! Which patch would go past a limit, and at which path: one that gets too many names, or a file in which a replace turns too many bytes.
 ghost use Rattle.std.specs.Prelude.{◌≡◌, ◌<◌, ◌≤◌, ℕ, None, Some, length, slice_get, IfOk, MatchOption};
 ghost use Rattle.dm_tree.specs.Limits.{most_names};
-ghost use Rattle.dm_tree.specs.Paths.{forward};
+ghost use Rattle.dm_tree.specs.Paths.{Path as TreePath, forward};
 ghost use Rattle.dm_repo.specs.Overflows.{MergesTooMany};
 ghost use Rattle.dm_repo.specs.Weighing.{RefusesBundle};
-ghost use Rattle.dm_explain.specs.Accounts.{IsDepth, IsMoveTooDeep, IsMovedTooDeep, misfit_of, overflowing};
+ghost use Rattle.dm_explain.specs.Accounts.{IsDepth, IsMoveTooDeep, IsMovedTooDeep, IsPast, IsPastAt, IsReplaceTooLarge, misfit_of, overflowing};
 ghost use Rattle.dm_explain.specs.Rows.{AreShallow, FirstDeep};
 
 use crate::account::{held_name, new_name};
 use crate::head::{Head, ShownMoved};
-use crate::remedies::{write_shallower, write_whole_context};
+use crate::remedies::{write_whole_context, write_within};
 use crate::shown::Who;
 use dm_bundle::Bundle;
 use dm_info::Info;
 use dm_prim::Prim;
 use dm_repo::{Misfit, Overflow, Policy, Refusal, Repo, find_overflow};
 use dm_tree::laws::tree_is_lawful;
-use dm_tree::{Listed, MOST_NAMES, Path};
+use dm_tree::{Listed, Path, TreeFault};
 use std::alloc::{AllocError, Global};
 use std::fmt::{self, Formatter, Write};
 
-/// Where a path would get too many names.
+/// Where a patch would go past a limit.
 #[derive(Drop)]
 pub struct Depth<'a> {
-    /// The name of the patch that would make it.
+    /// The name of the patch.
     pub name: &'a Info<Global>,
     /// The patch as it was tried, its primitive, and the tree that this was applied to.
     pub overflow: Overflow<Global>,
-    /// The first path of that tree that the primitive would give too many names.
+    /// The first path of that tree that a move would give too many names, or the file of a replace.
     pub path: Path<Global>,
 }
 
@@ -64,7 +64,32 @@ fn moved_too_deep(alloc: Global, misfit: &Misfit<Global>) -> Result<Path<Global>
     Ok(path)
 }
 
-/// The name of the patch that makes a path too deep.
+/// The file of the replace that was applied to the tree, and which is too large.
+fn turned_path(alloc: Global, misfit: &Misfit<Global>) -> Result<Path<Global>, AllocError>
+    requires { (path : TreePath) × IsReplaceTooLarge misfit.now path }
+    ensures { IfOk result (IsReplaceTooLarge misfit.now) }
+{
+    let Some(Prim::Replace(replace)) = misfit.patch.prims().get(misfit.prim) else {
+        unreachable!();
+    };
+    let path = replace.path().copy_into(alloc)?;
+    Ok(path)
+}
+
+/// The path at which a limit is passed.
+fn path_of(alloc: Global, misfit: &Misfit<Global>) -> Result<Path<Global>, AllocError>
+    requires { IsPast misfit.now }
+    ensures { IfOk result (IsPastAt misfit.now) }
+{
+    if misfit.fault == TreeFault::TooLarge {
+        let path = turned_path(alloc, misfit)?;
+        return Ok(path);
+    }
+    let path = moved_too_deep(alloc, misfit)?;
+    Ok(path)
+}
+
+/// The name of the patch that goes past a limit.
 fn name_of<'a>(
     repo: &'a Repo<Global>,
     bundle: &'a Bundle<Global>,
@@ -80,7 +105,7 @@ fn name_of<'a>(
     }
 }
 
-/// The patch that makes a path too deep, its primitive, and the tree that this was applied to.
+/// The patch that goes past a limit, its primitive, and the tree that this was applied to.
 fn misfit_in(overflow: &Overflow<Global>) -> &Misfit<Global>
     ensures { result.now ≡ misfit_of overflow.now }
 {
@@ -90,7 +115,7 @@ fn misfit_in(overflow: &Overflow<Global>) -> &Misfit<Global>
     }
 }
 
-/// Where a path would get too many names, unless there would only be too many patches.
+/// Where a patch would go past a limit, unless there would only be too many patches.
 pub(crate) fn depth_of<'a>(
     alloc: Global,
     repo: &'a Repo<Global>,
@@ -106,7 +131,7 @@ pub(crate) fn depth_of<'a>(
             let Some(name) = name_of(repo, bundle, &overflow) else {
                 unreachable!();
             };
-            let path = moved_too_deep(alloc, misfit_in(&overflow))?;
+            let path = path_of(alloc, misfit_in(&overflow))?;
             Ok(Some(Depth {
                 name,
                 overflow,
@@ -123,7 +148,15 @@ pub(crate) fn depth_of<'a>(
     }
 }
 
-/// Writes the primitive that makes a path too deep, and what the path would be.
+/// What a patch does that goes past a limit.
+fn deed(misfit: &Misfit<Global>) -> &'static str {
+    if misfit.fault == TreeFault::TooLarge {
+        return "replaces words in a file that is too large";
+    }
+    "makes a path too deep"
+}
+
+/// Writes the primitive that goes past a limit, and what a path would be.
 fn write_move<W: Write>(
     f: &mut Formatter<W>,
     misfit: &Misfit<Global>,
@@ -132,25 +165,22 @@ fn write_move<W: Write>(
     let Some(prim) = misfit.patch.prims().get(misfit.prim) else {
         return Ok(());
     };
-    write!(
-        f,
-        "at `{}`: a path would have more than {MOST_NAMES} names",
-        Head { prim }
-    )?;
+    write!(f, "at `{}`: {}", Head { prim }, misfit.fault)?;
     match prim {
         Prim::Move(from, to) => writeln!(f, ":\n  {}", ShownMoved { path, from, to }),
         _ => f.write_str(".\n"),
     }
 }
 
-/// Writes which patch makes a path too deep, and where.
+/// Writes which patch goes past a limit, and where.
 pub(crate) fn write_depth<W: Write>(f: &mut Formatter<W>, depth: &Depth<'_>) -> fmt::Result {
     let who = Who { info: depth.name };
     match &depth.overflow {
         Overflow::Front(misfit) => {
             writeln!(
                 f,
-                "This held patch makes a path too deep without the patches that the bundle doesn't build on:\n  {who}"
+                "This held patch {} without the patches that the bundle doesn't build on:\n  {who}",
+                deed(misfit)
             )?;
             write_move(f, misfit, &depth.path)?;
             write_whole_context(f)
@@ -158,10 +188,11 @@ pub(crate) fn write_depth<W: Write>(f: &mut Formatter<W>, depth: &Depth<'_>) -> 
         Overflow::Merged(misfit) => {
             writeln!(
                 f,
-                "This new patch makes a path too deep once it is merged:\n  {who}"
+                "This new patch {} once it is merged:\n  {who}",
+                deed(misfit)
             )?;
             write_move(f, misfit, &depth.path)?;
-            write_shallower(f)
+            write_within(f, misfit.fault)
         }
     }
 }

@@ -17,6 +17,7 @@ mod head;
 mod malformed;
 mod merged;
 mod misfits;
+mod passing;
 mod paths;
 mod place;
 mod printing;

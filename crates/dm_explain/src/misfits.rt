@@ -1,6 +1,6 @@
 //! What a new patch wants where it doesn't apply, and what stands there.
 use crate::head::{Bytes, Head};
-use crate::remedies::{write_anew, write_shallower};
+use crate::remedies::{write_anew, write_within};
 use crate::shown::Shown;
 use dm_prim::{Binary, Hunk, Prim, Replace};
 use dm_repo::Misfit;
@@ -79,12 +79,15 @@ fn write_binary<W: Write>(
     )
 }
 
-/// Writes the first line in which the new token of a replace stands already.
+/// Writes the first line in which the new token of a replace stands already, where that is what the tree answers.
 fn write_replace<W: Write>(
     f: &mut Formatter<W>,
     replace: &Replace<Global>,
     misfit: &Misfit<Global>,
 ) -> fmt::Result {
+    if misfit.fault != TreeFault::TokenThere {
+        return Ok(());
+    }
     let Some(Entry::File(file)) = misfit.tree.entry(replace.path()) else {
         return Ok(());
     };
@@ -122,8 +125,8 @@ pub(crate) fn write_misfit<W: Write>(f: &mut Formatter<W>, misfit: &Misfit<Globa
         writeln!(f, "at `{}`: {}.", Head { prim }, misfit.fault)?;
         write_wanted(f, prim, misfit)?;
     }
-    if misfit.fault == TreeFault::TooDeep {
-        return write_shallower(f);
+    match misfit.fault {
+        TreeFault::TooDeep | TreeFault::TooLarge => write_within(f, misfit.fault),
+        _ => write_anew(f),
     }
-    write_anew(f)
 }

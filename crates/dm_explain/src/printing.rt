@@ -4,6 +4,7 @@ use crate::depth::{Depth, write_depth};
 use crate::fates::Fates;
 use crate::head::Head;
 use crate::misfits::write_misfit;
+use crate::passing::write_passing;
 use crate::remedies::{
     write_against, write_against_any, write_anew, write_new_repository, write_settling,
     write_whole_context,
@@ -70,7 +71,7 @@ fn write_lacking<W: Write>(
     write_against_any(f)
 }
 
-/// Which limit a repository of so many patches would pass with so many more: the depth of a path, and where, or else the patches.
+/// Which limit a repository of so many patches would pass with so many more: that of a path or a file, and where, or else the patches.
 fn write_full<W: Write>(
     f: &mut Formatter<W>,
     held: usize,
@@ -159,6 +160,7 @@ impl Display for Account<'_> {
                 )?;
                 if let Some(pair) = clashing {
                     write_clashing(f, pair)?;
+                    write_passing(f, pair)?;
                 }
                 write_settling(f, clashing)
             }

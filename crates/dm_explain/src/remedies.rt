@@ -1,8 +1,7 @@
 //! What helps after a refusal: who does what, with the commands on lines of their own.
 use crate::account::Clashing;
 use crate::same::same_prim;
-use dm_prim::Prim;
-use std::alloc::Global;
+use dm_tree::TreeFault;
 use std::fmt::{self, Formatter, Write};
 
 /// Writes how a sender names all of the context, and not only what the new patches rest on.
@@ -41,8 +40,18 @@ pub(crate) fn write_new_repository<W: Write>(f: &mut Formatter<W>) -> fmt::Resul
     )
 }
 
+/// Writes how a patch stays within the limit that this fault is of.
+pub(crate) fn write_within<W: Write>(f: &mut Formatter<W>, fault: TreeFault) -> fmt::Result {
+    if fault == TreeFault::TooLarge {
+        return f.write_str(
+            "The sender takes the replace back, and changes the lines by hand:\n  darcs pull\n  darcs unrecord -p NAME\n  darcs revert\n  darcs record\n",
+        );
+    }
+    write_shallower(f)
+}
+
 /// Writes how a patch gets a path of fewer names.
-pub(crate) fn write_shallower<W: Write>(f: &mut Formatter<W>) -> fmt::Result {
+fn write_shallower<W: Write>(f: &mut Formatter<W>) -> fmt::Result {
     f.write_str(
         "The sender moves it to a path of fewer names, and records that anew:\n  darcs pull\n  darcs unrecord -p NAME\n  darcs move LONG SHORT\n  darcs record\n",
     )
@@ -62,22 +71,6 @@ fn write_twin<W: Write>(f: &mut Formatter<W>) -> fmt::Result {
     )
 }
 
-/// Writes how a sender puts a replace on top of other changes of its file.
-fn write_replace<W: Write>(f: &mut Formatter<W>) -> fmt::Result {
-    f.write_str("dm merges no replace with other changes of its file. ")?;
-    write_whole_context(f)?;
-    f.write_str("If darcs finds a conflict there, too:\n")?;
-    write_one_patch(f)
-}
-
-/// Whether a primitive is a replace.
-fn is_replace(prim: &Prim<Global>) -> bool {
-    match prim {
-        Prim::Replace(_) => true,
-        _ => false,
-    }
-}
-
 /// Writes what helps where two patches conflict, by these primitives if they are known.
 pub(crate) fn write_settling<W: Write>(
     f: &mut Formatter<W>,
@@ -88,12 +81,6 @@ pub(crate) fn write_settling<W: Write>(
     };
     if same_prim(pair.new, pair.held) {
         return write_twin(f);
-    }
-    if is_replace(pair.new) {
-        return write_replace(f);
-    }
-    if is_replace(pair.held) {
-        return write_replace(f);
     }
     write_one_patch(f)
 }

@@ -1,5 +1,5 @@
 -- Heaps of replaces: what they spell, and that two orders make the same heap.
-use Rattle.std.proofs.Common.{◌≡◌, ◌≢◌, ◌⊎◌, inl, inr, ℕ, ◌+◌, ◌<◌, max, Bool, true, false, not, cond, List, [], ◌∷◌, Option, Some, refl, sym, ap, ap₂, subst, ◌∙◌, arith, Contains}
+use Rattle.std.proofs.Common.{◌≡◌, ◌≢◌, ◌⊎◌, inl, inr, ℕ, ◌+◌, ◌<◌, max, Bool, true, false, not, cond, List, [], ◌∷◌, Option, Some, None, refl, sym, ap, ap₂, subst, ◌∙◌, arith, Contains}
 use Rattle.std.specs.List.Sorted.{IsPermutation}
 use Rattle.std.specs.declared.cmp.Ordering.{Ordering}
 use Rattle.std.specs.declared.cmp.Ordering.TheVariants.{Less, Equal, Greater}
@@ -17,9 +17,9 @@ use Rattle.dm_tokens.specs.Sets.{ByteSet, set_of}
 use Rattle.dm_tokens.specs.Validity.{TokenWords, AreOfSet}
 use Rattle.dm_tokens.specs.Exchanging.{exchanged}
 use Rattle.dm_tokens.proofs.TurnLemmas.{same_bytes, other_bytes, differ}
-use Rattle.dm_tokens.proofs.ExchangeLemmas.{exchanged_twice, exchanges_pass}
+use Rattle.dm_tokens.proofs.ExchangeLemmas.{exchanged_twice, exchanged_round, exchanges_pass}
 use Rattle.dm_chain.proofs.Members.{none_in_nil, head_is_in, next_is_in, in_cases}
-use Rattle.dm_facts.specs.Heaps.{leans, HeapEntry, height_on, key, compared, Precedes, Heap, put_in, entry_on, put_on, IsHeap, exchange_in, exchange, spelled}
+use Rattle.dm_facts.specs.Heaps.{leans, undoing, HeapEntry, height_on, key, compared, Precedes, Heap, put_in, entry_on, put_on, IsHeap, exchange_in, exchange, spelled}
 
 -- the words are tokens of a set
 abbrev pub AreGood : TokenWords → Type 0
@@ -139,6 +139,15 @@ exchange_is w set means x = ap (λ (o : Option ByteSet). exchange_in o w x) mean
 pub exchange_twice : (w : TokenWords) → AreGood w → (x : List ℕ) → exchange w (exchange w x) ≡ x
 exchange_twice w good x =
     exchange_is w good.set good.means (exchange w x) ∙ ap (exchanged good.set w.old w.new) (exchange_is w good.set good.means x) ∙ exchanged_twice good.set w.old w.new x good.old_token good.new_token
+
+-- what undoes a replace exchanges the same tokens
+pub exchange_round : (w : TokenWords) (x : List ℕ) → exchange (undoing w) x ≡ exchange w x
+unfolding exchange
+exchange_round w x = go (set_of w.set)
+  where
+    go : (o : Option ByteSet) → exchange_in o (undoing w) x ≡ exchange_in o w x
+    go None = refl
+    go (Some set) = exchanged_round set w.old w.new x
 
 -- replaces that don't lean on each other have one set and no token in common
 pub record AreApart (v w : TokenWords) : Type 0 where

@@ -11,7 +11,7 @@ use Rattle.dm_facts.proofs.Sums as sums
 use Rattle.dm_facts.proofs.Order as order
 use Rattle.dm_facts.proofs.ListSteps as lists
 use Rattle.dm_facts.proofs.Undoing.{steps_back}
-use Rattle.dm_facts.proofs.SquareLemmas.{square_steps}
+use Rattle.dm_facts.proofs.BothWays.{square_steps}
 
 module _ (I : Type 0) where
   pub steps_apply : laws.StepsApply I

@@ -1,9 +1,12 @@
 pub mod TreeLemmas
 pub mod HeapLemmas
 pub mod TextLemmas
+pub mod Crossing
 pub mod StepLemmas
 pub mod Undoing
 pub mod SquareLemmas
+pub mod ReplaceSquares
+pub mod BothWays
 pub mod Made
 pub mod Kept
 pub mod Determined

@@ -19,7 +19,7 @@ use Rattle.dm_facts.specs.Identities.{Introduces, IsIn, UsesOf, AddsNew, enough}
 use Rattle.dm_facts.specs.Runs.{StepsAll, SharesNone, AllAddNew, enough_for_all}
 use Rattle.dm_facts.specs.Laws.{ListEffectsStay, MergedEffectsStay, WhatLeadsSteps}
 use Rattle.dm_facts.proofs.Undoing.{steps_back}
-use Rattle.dm_facts.proofs.SquareLemmas.{square_steps}
+use Rattle.dm_facts.proofs.BothWays.{square_steps}
 use Rattle.dm_facts.proofs.Made.{steps_off_root}
 use Rattle.dm_facts.proofs.Kept.{steps_keep_trees}
 use Rattle.dm_facts.proofs.Newness.{in_after, in_before}

@@ -1,4 +1,4 @@
--- Both ways of a square make the same tree with identities, and each primitive has the same effect in both.
+-- Work and moves that change places: the same tree and the same effects in both orders.
 use Rattle.std.proofs.Common.{◌≡◌, ◌≢◌, ℕ, List, [], ◌∷◌, ◌++◌, length, Option, Some, None, option_map, ◌⊎◌, inl, inr, refl, sym, ap, subst, ◌∙◌}
 use Rattle.dm_tree.specs.Paths.{Name, Path, Inside, Apart}
 use Rattle.dm_tree.specs.Trees.{Lines, Dir}
@@ -7,8 +7,7 @@ use Rattle.dm_prim.specs.Primitives.{Work, AddFile, RmFile, AddDir, RmDir, Hunk,
 use Rattle.dm_prim.specs.Table.{KeepsFile, WorkAndWork, TableRow}
 use Rattle.dm_prim.proofs.Maps.{path_dec, child_differs, swap_child}
 use Rattle.dm_prim.proofs.Undoing.{swap_left, swap_right}
-use Rattle.dm_prim.proofs.Squares.{Beside, Passing, Square, hunk_down, hunk_up, free, then_move, move_then, moves, pref_then, then_pref, beside_clear, beside_moved, beside_inv, passing_turn, passing_clear, passing_moved, same_under}
-use Rattle.dm_prim.proofs.TableRows.{row_from}
+use Rattle.dm_prim.proofs.Squares.{Beside, Passing, beside_clear, beside_moved, beside_inv, passing_turn, passing_clear, passing_moved, same_under}
 use Rattle.dm_prim.proofs.Ends.{dir_before, dir_after, passing_cross, inv_twice}
 use Rattle.dm_chain.specs.Chains.{Token, HunkSteps}
 use Rattle.dm_chain.proofs.Stepping.{steps_keep_chains}
@@ -113,7 +112,7 @@ module _ (I : Type 0) where
   free_swapped a b p s t ab c is bare r = is (swap a b p ++ r) ∙ rw (← swap-append a b p r ab c, swap-swap a b (p ++ r) ab) (bare r)
 
   -- two moves
-  moves_step : (a b c d : Path) → Passing a b c d → (e f : Effect I) (s t u : NodeMap I) → StepsMove a b e s t → StepsMove (swap a b c) (swap a b d) f t u →
+  pub moves_step : (a b c d : Path) → Passing a b c d → (e f : Effect I) (s t u : NodeMap I) → StepsMove a b e s t → StepsMove (swap a b c) (swap a b d) f t u →
       BothStep (Move c d) (Move (swap c d a) (swap c d b)) f e s u
   moves_step a b c d p e f s t u h k = (m, moves_from c d f s m first, moves_from (swap c d a) (swap c d b) e m u second)
     where
@@ -183,7 +182,7 @@ module _ (I : Type 0) where
   makes_at : (w : Work) (d : I) (n : Name) (x x' y y' : Option (Node I)) (e : Effect I) → Makes w d n x x' e → y ≡ x → y' ≡ x' → Makes w d n y y' e
   makes_at w d n x x' y y' e h i j = rw (i, j) h
 
-  works_step : (f : Path) (w : Work) (g : Path) (v : Work) → WorkAndWork f w g v → (x y : Effect I) (s t u : NodeMap I) → StepsAt f w x s t → StepsAt g v y t u → BothStep (At g v) (At f w) y x s u
+  pub works_step : (f : Path) (w : Work) (g : Path) (v : Work) → WorkAndWork f w g v → (x y : Effect I) (s t u : NodeMap I) → StepsAt f w x s t → StepsAt g v y t u → BothStep (At g v) (At f w) y x s u
   works_step f w g v c x y s t u h k = (m, first, second)
     where
       m : NodeMap I
@@ -280,7 +279,7 @@ module _ (I : Type 0) where
     )
 
     -- the row holds of the symbols too, as of all lines of these counts
-    hunks_step : ((w1 i1 w2 i2 : Lines) → length w1 ≡ length o1 → length i1 ≡ length n1 → length w2 ≡ length o2 → length i2 ≡ length n2 →
+    pub hunks_step : ((w1 i1 w2 i2 : Lines) → length w1 ≡ length o1 → length i1 ≡ length n1 → length w2 ≡ length o2 → length i2 ≡ length n2 →
         TableRow (At f (Hunk l1 w1 i1)) (At f (Hunk l2 w2 i2)) (At f (Hunk m w2 i2)) (At f (Hunk k w1 i1))) → BothStep (At f (Hunk m o2 n2)) (At f (Hunk k o1 n1)) y x s u
     hunks_step row = go h.here j.here
       where
@@ -320,7 +319,7 @@ module _ (I : Type 0) where
   stands_alike (Binary old new) d n o o' e x i h j = file_alike h.file h.heap h.heap h.tokens h.tokens' o o' x h.stood h.there j
   stands_alike (Replace set old new) d n o o' e x i h j = file_alike h.file h.heap h.heap' h.tokens h.tokens o o' x h.stood h.there j
 
-  work_then_move : (f : Path) (w : Work) (a b : Path) → Beside f w a b → (x y : Effect I) (s t u : NodeMap I) → StepsAt f w x s t → StepsMove a b y t u → BothStep (Move a b) (At (swap a b f) w) y x s u
+  pub work_then_move : (f : Path) (w : Work) (a b : Path) → Beside f w a b → (x y : Effect I) (s t u : NodeMap I) → StepsAt f w x s t → StepsMove a b y t u → BothStep (Move a b) (At (swap a b f) w) y x s u
   work_then_move f w a b c x y s t u h k = (m, moves_from a b y s m first, second (path_dec f a))
     where
       d : Apart a b
@@ -389,22 +388,10 @@ module _ (I : Type 0) where
       second (inr i) = works h.directory h.name (name_swapped a b f h.directory h.name s m d i (λ j. c.target.left (same_under f b j)) (λ p. refl) h.placed) here
 
   -- a move, then work: what leads from u to s, undone
-  move_then_work : (f : Path) (w : Work) (a b : Path) → Beside f w a b → (x y : Effect I) (s t u : NodeMap I) → StepsMove a b x s t → StepsAt (swap a b f) w y t u → BothStep (At f w) (Move a b) y x s u
+  pub move_then_work : (f : Path) (w : Work) (a b : Path) → Beside f w a b → (x y : Effect I) (s t u : NodeMap I) → StepsMove a b x s t → StepsAt (swap a b f) w y t u → BothStep (At f w) (Move a b) y x s u
   move_then_work f w a b c x y s t u h k =
       let d : Apart a b = c.move_apart in
       let near : Beside (swap a b f) (inv_work w) b a = beside_inv (swap a b f) w b a (beside_moved f w a b c) in
       let r = work_then_move (swap a b f) (inv_work w) b a near (inverse y) (inverse x) u t s (works_back I (swap a b f) w y t u k) (moves_back I a b x s t h) in
       let v = works_back I (swap b a (swap a b f)) (inv_work w) (inverse y) r.0 s r.2 in
       (r.0, rw (swap_turn b a (swap a b f) (apart_sym d), swap-swap a b f d, inv_twice w) at v, moves_back I b a (inverse x) u r.0 r.1)
-
-  pub square_steps : {p q q' p' : Prim} → Square p q q' p' → (e f : Effect I) (s t u : NodeMap I) → Steps p e s t → Steps q f t u → BothStep q' p' f e s u
-  square_steps (hunk_down {f} {l1} {l2} {l2'} {o1} {n1} {o2} {n2} c e) x y s t u h k =
-      hunks_step f l1 l2 l2' l1 o1 n1 o2 n2 x y s t u h k (λ w1 i1 w2 i2 a b g d. row_from (hunk_down {o1 = w1} {n1 = i1} {o2 = w2} {n2 = i2} (rw (a, b, g, d) c) (rw (a, b) e)))
-  square_steps (hunk_up {f} {l1} {l2} {l1'} {o1} {n1} {o2} {n2} c e) x y s t u h k =
-      hunks_step f l1 l2 l2 l1' o1 n1 o2 n2 x y s t u h k (λ w1 i1 w2 i2 a b g d. row_from (hunk_up {o1 = w1} {n1 = i1} {o2 = w2} {n2 = i2} (rw (a, b, g, d) c) (rw (g, d) e)))
-  square_steps (free {f} {g} {w} {v} c) x y s t u h k = works_step f w g v c x y s t u h k
-  square_steps (then_move {f} {f'} {a} {b} {w} c e) x y s t u h k = rw e (work_then_move f w a b c x y s t u h k)
-  square_steps (move_then {f} {f'} {a} {b} {w} c e) x y s t u h k = move_then_work f w a b c x y s t u h (rw e at k)
-  square_steps (moves {a} {b} {c} {d} {a'} {b'} {c'} {d'} p ec ed ea eb) x y s t u h k = rw (ea, eb) (moves_step a b c d p x y s t u h (rw (ec, ed) at k))
-  square_steps (pref_then {q = q} c) x y s t u h k = (u, subst (λ z. Steps q y z u) (sym h.0) k, (refl, h.1))
-  square_steps (then_pref {p = p} c) x y s t u h k = (s, (refl, k.1), subst (λ z. Steps p x s z) k.0 h)

@@ -89,7 +89,7 @@ each_spells : (w : TokenWords) (h : Heap) → IsHeap h → AreGood w → (ls : L
 each_spells w h heap good [] = refl
 each_spells w h heap good (l ∷ ls) = ap₂ (λ z zs. z ∷ zs) (put_on_spells w h heap good l) (each_spells w h heap good ls)
 
-each_exchange : (w : TokenWords) (good : AreGood w) (ls : Lines) → map (exchange w) ls ≡ map (exchanged good.set w.old w.new) ls
+pub each_exchange : (w : TokenWords) (good : AreGood w) (ls : Lines) → map (exchange w) ls ≡ map (exchanged good.set w.old w.new) ls
 each_exchange w good [] = refl
 each_exchange w good (l ∷ ls) = ap₂ (λ z zs. z ∷ zs) (exchange_is w good.set good.means l) (each_exchange w good ls)
 

@@ -9,17 +9,19 @@ use Rattle.dm_tree.specs.declared.fault.TreeFault.TheVariants.{NoParent, Occupie
 use Rattle.dm_tree.specs.Paths.{Path, Apart}
 use Rattle.dm_tree.specs.Trees.{Lines, Entry, Dir, File, Map, Tree, path_cmp, IsLawful, Deep, empty_file}
 use Rattle.dm_tree.specs.Changes.{AddAnswers, RemoveFileAnswers, RemoveDirAnswers, MayMove, RenameAnswers, Renamed, ReplacesLines, EditAnswers, Edited}
+use Rattle.dm_tree.specs.Listings.{file_size}
 use Rattle.dm_tree.proofs.Paths.{swap, swap-right}
 use Rattle.dm_tree.proofs.Trees.{path_total, equal_by}
 use Rattle.dm_tree.proofs.MoveLemmas.{self_equal}
 use Rattle.dm_tree.proofs.OneAnswer.{in_range, old_there, some_left}
 use Rattle.dm_prim.specs.InTurn.{InTurn, done, step}
 use Rattle.dm_prim.specs.Primitives.{AddFile, RmFile, AddDir, RmDir, Hunk, Binary, Replace, Prim, At, Move, Applies, TurnsLines}
+use Rattle.dm_prim.specs.Limits.{TurnsLarge, IsPastLimits}
 use Rattle.dm_prim.specs.Prims.{prim_of, prims_of}
-use Rattle.dm_prim.specs.Applying.{AdmitsFault, Applied, BinaryAnswers, ReplaceAnswers, FaultsAs, AppliesToTree, AppliedAll}
+use Rattle.dm_prim.specs.Applying.{AdmitsFault, Applied, BinaryAnswers, ReplaceAnswers, TurnsWithin, FaultsAs, AppliesToTree, AppliedAll}
 use Rattle.dm_prim.specs.declared.primitive.Primitive as code
 use Rattle.dm_prim.proofs.Maps.{below_absent, moves_from}
-use Rattle.dm_prim.proofs.TurnedLines.{no_growth, no_new_token}
+use Rattle.dm_prim.proofs.TurnedLines.{grown, no_new_token, turned_one}
 use Rattle.dm_prim.proofs.ListLemmas.{prims_more, parted}
 use Rattle.dm_prim.proofs.RectangleLemmas.{runs_on}
 
@@ -308,7 +310,7 @@ module _ (m : Map) (p : Path) (set old new : List ℕ) where
       let k : m p ≡ Some (File a.here.0) = a.here.2 in
       let same : a.here.0 ≡ ls = cc in
       let turns = subst (λ z. TurnsLines set old new z a.here.1) same a.here.4 in
-      elim h [ inl large ↦ omega (arith, large, turns.was_small) | inr grows ↦ no_growth set old new ls a.here.1 grows.1 turns ]
+      elim h [ inl large ↦ inl (ls, e, large) | inr grows ↦ inr (a.here.1, a.here.3, grown set old new ls a.here.1 grows.1 turns) ]
   turn_refused T NoMemory f = tt
   turn_refused T NoParent f = absurd f
   turn_refused T Occupied f = absurd f
@@ -321,7 +323,7 @@ module _ (m : Map) (p : Path) (set old new : List ℕ) where
   turn_refused T TooDeep f = absurd f
 
   -- an edit of all lines of the file, to what they turn to
-  module _ (xs ys : Lines) (file : m p ≡ Some (File xs)) (turned : TurnsLines set old new xs ys) where
+  module _ (xs ys : Lines) (file : m p ≡ Some (File xs)) (turned : TurnsWithin set old new xs ys) where
     lines_are : (ls : Lines) → m p ≡ Some (File ls) → ls ≡ xs
     lines_are ls e = cc
 
@@ -332,7 +334,7 @@ module _ (m : Map) (p : Path) (set old new : List ℕ) where
     turn_answers (Err NotFile) f = f
     turn_answers (Err LineRange) f = let n : length f.0 ≡ length xs = ap length (lines_are f.0 f.1) in absurd (f.2 (omega arith, omega arith))
     turn_answers (Err OldDiffers) f = absurd (f.3 (all_taken m p xs ys f.0 (lines_are f.0 f.1)))
-    turn_answers (Err NoLines) f = absurd (turned.left f.4)
+    turn_answers (Err NoLines) f = absurd (turned.turns.left f.4)
     turn_answers (Err TokenThere) f = absurd f
     turn_answers (Err TooLarge) f = absurd f
     turn_answers (Err NoParent) f = absurd f
@@ -344,24 +346,48 @@ module _ (m : Map) (p : Path) (set old new : List ℕ) where
 
 module _ (t t' : Tree) (p : Path) (set old new : List ℕ) where
   -- each line stays as it is
-  pub turns_nothing : (ls : Lines) → map.get t p ≡ Some (File ls) → TurnsLines set old new ls ls → t' ≡ t → Applies (At p (Replace set old new)) (map.get t) (map.get t')
-  turns_nothing ls e h same = record { around = tt; here = (ls, ls, e, ap (λ z. map.get z p) same ∙ e, h); elsewhere = λ q n. ap (λ z. map.get z q) same }
+  pub turns_nothing : (ls : Lines) → map.get t p ≡ Some (File ls) → TurnsWithin set old new ls ls → t' ≡ t → Applies (At p (Replace set old new)) (map.get t) (map.get t')
+  turns_nothing ls e h same = record { around = tt; here = (ls, ls, e, ap (λ z. map.get z p) same ∙ e, h.turns); elsewhere = λ q n. ap (λ z. map.get z q) same }
 
-  pub turns_file : {T : Type 0} (r : Result T TreeFault) (xs ys : Lines) → map.get t p ≡ Some (File xs) → TurnsLines set old new xs ys →
+  pub turns_file : {T : Type 0} (r : Result T TreeFault) (xs ys : Lines) → map.get t p ≡ Some (File xs) → TurnsWithin set old new xs ys →
       EditAnswers (map.get t) p 1 xs ys r → OnOk r (Edited p 1 xs ys t t') → OnErr r (t' ≡ t) → Applied (At p (Replace set old new)) t t' r
   turns_file (Ok x) xs ys e h f (ls, ls', i, w, made) err =
       let same : ls ≡ xs = cc in
       let all = whole (map.get t) p xs ys ls ls' (ap length same) w in record {
         around = tt;
-        here = (xs, ys, e, rw made (put_here t p (File ls') ∙ ap (λ x. Some (File x)) all.1), h);
+        here = (xs, ys, e, rw made (put_here t p (File ls') ∙ ap (λ x. Some (File x)) all.1), h.turns);
         elsewhere = λ q n. rw made (put_else t p (File ls') q n);
       }
   turns_file {T} (Err x) xs ys e h f ok err = (err, turn_refused (map.get t) p set old new T x (turn_answers (map.get t) p set old new xs ys e h {T = T} (Err x) f))
 
+-- what was answered Ok went past no limit
+turns_within : {T : Type 0} (p : Prim) (m m' : Map) (x : T) → FaultsAs p m (Ok x) → Applies p m m' → TurnsLarge p m m' → ⊥
+turns_within (At p (Replace set old new)) m m' x (ls, ls', e, t) a (inl (xs, i, large)) =
+    let same : xs ≡ ls = cc in
+    let size : file_size xs ≡ file_size ls = ap file_size same in
+    omega (arith, size, large, t.was_small)
+turns_within (At p (Replace set old new)) m m' x (ls, ls', e, t) a (inr (xs, i, large)) =
+    let k : m p ≡ Some (File a.here.0) = a.here.2 in
+    let j : m' p ≡ Some (File a.here.1) = a.here.3 in
+    let was : a.here.0 ≡ ls = cc in
+    let one : a.here.1 ≡ ls' = turned_one set old new ls a.here.1 ls' (subst (λ z. TurnsLines set old new z a.here.1) was a.here.4) t.turns in
+    let same : xs ≡ ls' = cc in
+    let size : file_size xs ≡ file_size ls' = ap file_size same in
+    omega (arith, size, large, t.is_small)
+turns_within p m m' x f a h = absurd h
+
+pub past_none : {T : Type 0} (p : Prim) (m m' : Map) (x : T) → FaultsAs p m (Ok x) → Applies p m m' → (Deep m' → ⊥) → IsPastLimits p m m' → ⊥
+past_none p m m' x f a d (inl deep) = d deep
+past_none p m m' x f a d (inr large) = turns_within p m m' x f a large
+
 -- a list
 module _ {Y : Type 0} (prims : List (code.Primitive Y)) (i : ℕ) (p : code.Primitive Y) (l : i < length prims) (e : p ≡ get_or prims i p) where
-  pub one_more : {T : Type 0} (x : T) (r : Result T TreeFault) (t u z : Tree) → r ≡ Ok x → Applied (prim_of p) u z r → (Deep (map.get z) → ⊥) → InTurn AppliesToTree (take i (prims_of prims)) t u → InTurn AppliesToTree (take (i + 1) (prims_of prims)) t z
-  one_more x r t u z is a d k = rw (prims_more prims i p l e) (runs_on Prim Tree AppliesToTree k (step (rw is at a, d) done))
+  pub one_more : {T : Type 0} (x : T) (r : Result T TreeFault) (t u z : Tree) → r ≡ Ok x → Applied (prim_of p) u z r → FaultsAs (prim_of p) (map.get u) r → (Deep (map.get z) → ⊥) →
+      InTurn AppliesToTree (take i (prims_of prims)) t u → InTurn AppliesToTree (take (i + 1) (prims_of prims)) t z
+  one_more {T} x r t u z is a h d k =
+      let made = rw is at a in
+      let few = past_none (prim_of p) (map.get u) (map.get z) x (subst (FaultsAs {T = T} (prim_of p) (map.get u)) is h) made d in
+      rw (prims_more prims i p l e) (runs_on Prim Tree AppliesToTree k (step (made, few) done))
 
   pub stops_at : {T : Type 0} (f : TreeFault) (r : Result T TreeFault) (t u z : Tree) → r ≡ Err f → Applied (prim_of p) u z r → FaultsAs (prim_of p) (map.get u) r → InTurn AppliesToTree (take i (prims_of prims)) t u →
       AppliedAll {T = T} (prims_of prims) t z (Err (i, f))

@@ -3,12 +3,17 @@ use Rattle.std.proofs.Common.{◌≡◌, ◌≢◌, ℕ, ◌+◌, ◌<◌, ◌�
 use Rattle.dm_tree.proofs.Paths.{apart_sym, swap, swap-swap, swap_inj, Clear, swap-append, swap_turn, swap_through}
 use Rattle.dm_prim.proofs.Maps.{path_dec, swap_child, Swaps, swaps_from, moves_from}
 use Rattle.dm_prim.proofs.Undoing.{swap_left, swap_right, OffRoot, undone, kept, swaps_kept}
-use Rattle.dm_prim.proofs.Squares.{Beside, Passing, Square, hunk_down, hunk_up, free, then_move, move_then, moves, pref_then, then_pref, beside_clear, beside_moved, passing_turn, passing_clear, passing_moved, beside_inv, same_under, passing_kind, passing_still}
+use Rattle.dm_prim.proofs.Squares.{Beside, Passing, Square, hunk_down, hunk_up, hunk_turned, turned_hunk, replaces, free, then_move, move_then, moves, pref_then, then_pref, beside_clear, beside_moved, passing_turn, passing_clear, passing_moved, beside_inv, same_under, passing_kind, passing_still}
 use Rattle.dm_tree.specs.Paths.{Path, Apart}
 use Rattle.dm_tree.specs.Trees.{Lines, Entry, Dir, File, Map, HasParent, IsLawful, empty_file}
 use Rattle.dm_tree.specs.Changes.{ReplacesLines}
-use Rattle.dm_prim.specs.Primitives.{Work, AddFile, RmFile, AddDir, RmDir, Hunk, Binary, Replace, Prim, At, Move, ChangePref, inv_work, inv, Changes, Around, WorksAt, AppliesMove, Applies}
-use Rattle.dm_prim.specs.Table.{IsDirectoryWork, KeepsFile, LiesAbove, WorkAndWork}
+use Rattle.dm_tokens.specs.Sets.{ByteSet}
+use Rattle.dm_tokens.specs.Pieces.{IsToken}
+use Rattle.dm_tokens.specs.Turning.{TurnAll, Turns}
+use Rattle.dm_tokens.proofs.TurnLemmas.{lines_one_answer, turnings_pass}
+use Rattle.dm_prim.proofs.TurnedLines.{one_set, part_back, zip_apart, zip_both, zip_left, zip_length}
+use Rattle.dm_prim.specs.Primitives.{Work, AddFile, RmFile, AddDir, RmDir, Hunk, Binary, Replace, Prim, At, Move, ChangePref, inv_work, inv, Changes, Around, WorksAt, AppliesMove, Applies, TurnsLines}
+use Rattle.dm_prim.specs.Table.{IsDirectoryWork, KeepsFile, LiesAbove, TurnsPart, ShareNoToken, WorkAndWork}
 
 -- t with e at p
 unfoldable pub put : Map → Path → Option Entry → Map
@@ -310,6 +315,104 @@ runs_hunk_up f l1 l2 l1' o1 n1 o2 n2 c e g t u z lt lu lz h k =
     (runs_hunk_down f l2 l1 l1' n2 o2 n1 o1 (hunk_up_turned l1 l2 l1' (length o1) (length n1) (length o2) (length n2) c e) e z u t
     (undone (At f (Hunk l2 o2 n2)) u z lu lz k) (undone (At f (Hunk l1 o1 n1)) t u lt lu h))
 
+-- where the lines after a hunk turn, so do those before it, if the hunk's lines do
+hunk_and_turn : (l : ℕ) (old new old' new' : Lines) (set o n : List ℕ) (ls mid fin : Lines) → TurnsPart set o n old old' → TurnsPart set o n new new' → ls ≢ [] →
+    ReplacesLines l old new ls mid → TurnsLines set o n mid fin → (via : Lines) × TurnsLines set o n ls via × ReplacesLines l old' new' via fin
+hunk_and_turn l old new old' new' set o n ls mid fin a b some e t =
+    let s = t.tokens.set in
+    let told : TurnAll s o n old old' = subst (λ z. TurnAll z o n old old') (one_set set a.tokens.set s a.tokens.means t.tokens.means) a.turned in
+    let tnew : TurnAll s o n new new' = subst (λ z. TurnAll z o n new new') (one_set set b.tokens.set s b.tokens.means t.tokens.means) b.turned in
+    let front = zip_apart (Turns s o n) e.front (new ++ e.back) fin (subst (λ z. TurnAll s o n z fin) e.after t.turned) in
+    let back = zip_apart (Turns s o n) new e.back front.1 front.4 in
+    let same : back.0 ≡ new' = lines_one_answer s o n new back.0 new' back.3 tnew in
+    let via : Lines = front.0 ++ (old' ++ back.1) in
+    let all : TurnAll s o n ls via = subst (λ z. TurnAll s o n z via) (sym e.before) (zip_both (Turns s o n) e.front front.0 (old ++ e.back) (old' ++ back.1) front.3 (zip_both (Turns s o n) old old' e.back back.1 told back.4)) in (
+      via,
+      record { tokens = t.tokens; turned = all; left = zip_left (Turns s o n) ls via all some },
+      record {
+        front = front.0;
+        back = back.1;
+        at = ap (λ z. z + 1) (zip_length (Turns s o n) e.front front.0 front.3) ∙ e.at;
+        before = refl;
+        after = front.2 ∙ ap (λ z. front.0 ++ z) (back.2 ∙ ap (λ z. z ++ back.1) same);
+        left = t.left;
+      },
+    )
+
+pub runs_hunk_replace : (f : Path) (l : ℕ) (old new old' new' : Lines) (set o n : List ℕ) → TurnsPart set o n old old' → TurnsPart set o n new new' →
+    (t u z : Map) → IsLawful t → WorksAt f (Hunk l old new) t u → WorksAt f (Replace set o n) u z → BothLead (At f (Replace set o n)) (At f (Hunk l old' new')) t z
+runs_hunk_replace f l old new old' new' set o n a b t u z lt h k = go h.here k.here
+  where
+    go : Changes (Hunk l old new) (t f) (u f) → Changes (Replace set o n) (u f) (z f) → BothLead (At f (Replace set o n)) (At f (Hunk l old' new')) t z
+    go (ls, mid, is, mid_is, e) (mid', fin, mid_is', fin_is, r) =
+        let same : mid' ≡ mid = cc in
+        let v = hunk_and_turn l old new old' new' set o n ls mid fin a b (lt.lines f ls is) e (rw same at r) in
+        let m : Map = put t f (Some (File v.0)) in (
+          m,
+          record { around = tt; here = (ls, v.0, is, put_same t f (Some (File v.0)), v.1); elsewhere = λ q i. put_other t f (Some (File v.0)) q i },
+          record {
+            around = tt;
+            here = (v.0, fin, put_same t f (Some (File v.0)), fin_is, v.2);
+            elsewhere = λ q i. k.elsewhere q i ∙ h.elsewhere q i ∙ sym (put_other t f (Some (File v.0)) q i);
+          },
+        )
+
+-- what leads back from z to t, undone
+pub runs_replace_hunk : (f : Path) (l : ℕ) (old new old' new' : Lines) (set o n : List ℕ) → TurnsPart set o n old old' → TurnsPart set o n new new' →
+    f ≢ [] → (t u z : Map) → IsLawful t → IsLawful u → IsLawful z → WorksAt f (Replace set o n) t u → WorksAt f (Hunk l old' new') u z →
+    BothLead (At f (Hunk l old new)) (At f (Replace set o n)) t z
+runs_replace_hunk f l old new old' new' set o n a b g t u z lt lu lz h k =
+    turned (At f (Replace set n o)) (At f (Hunk l new old)) t z g lz lt
+    (runs_hunk_replace f l new' old' new old set n o (part_back set o n new new' b) (part_back set o n old old' a) z u t lz
+    (undone (At f (Hunk l old' new')) u z lu lz k) (undone (At f (Replace set o n)) t u lt lu h))
+
+-- turnings of other tokens pass each other, line by line
+lines_pass : (s : ByteSet) (o1 n1 o2 n2 : List ℕ) → ShareNoToken o1 n1 o2 n2 → IsToken s o1 → IsToken s n1 → IsToken s o2 → IsToken s n2 → (xs ys zs : Lines) →
+    TurnAll s o1 n1 xs ys → TurnAll s o2 n2 ys zs → (ws : Lines) × TurnAll s o2 n2 xs ws × TurnAll s o1 n1 ws zs
+lines_pass s o1 n1 o2 n2 off a b c d [] [] [] h k = ([], tt, tt)
+lines_pass s o1 n1 o2 n2 off a b c d [] [] (z ∷ zs) h k = absurd k
+lines_pass s o1 n1 o2 n2 off a b c d [] (y ∷ ys) zs h k = absurd h
+lines_pass s o1 n1 o2 n2 off a b c d (x ∷ xs) [] zs h k = absurd h
+lines_pass s o1 n1 o2 n2 off a b c d (x ∷ xs) (y ∷ ys) [] h k = absurd k
+lines_pass s o1 n1 o2 n2 off a b c d (x ∷ xs) (y ∷ ys) (z ∷ zs) h k =
+    let first = turnings_pass s o1 n1 o2 n2 x y z a b c d off.olds off.old_new off.new_old off.news h.0 k.0 in
+    let rest = lines_pass s o1 n1 o2 n2 off a b c d xs ys zs h.1 k.1 in
+    (first.0 ∷ rest.0, (first.1, rest.1), (first.2, rest.2))
+
+both_turn : (set o1 n1 o2 n2 : List ℕ) (ls mid fin : Lines) → ShareNoToken o1 n1 o2 n2 → ls ≢ [] → TurnsLines set o1 n1 ls mid → TurnsLines set o2 n2 mid fin →
+    (via : Lines) × TurnsLines set o2 n2 ls via × TurnsLines set o1 n1 via fin
+both_turn set o1 n1 o2 n2 ls mid fin off some a b =
+    let s = a.tokens.set in
+    let same : b.tokens.set ≡ s = one_set set b.tokens.set s b.tokens.means a.tokens.means in
+    let of_set : IsToken s o2 × IsToken s n2 × TurnAll s o2 n2 mid fin = subst (λ (z : ByteSet). IsToken z o2 × IsToken z n2 × TurnAll z o2 n2 mid fin) same (b.tokens.old_token, b.tokens.new_token, b.turned) in
+    let v = lines_pass s o1 n1 o2 n2 off a.tokens.old_token a.tokens.new_token of_set.0 of_set.1 ls mid fin a.turned of_set.2 in (
+      v.0,
+      record {
+        tokens = b.tokens;
+        turned = subst (λ z. TurnAll z o2 n2 ls v.0) (sym same) v.1;
+        left = zip_left (Turns s o2 n2) ls v.0 v.1 some;
+      },
+      record { tokens = a.tokens; turned = v.2; left = b.left },
+    )
+
+pub runs_replaces : (f : Path) (set o1 n1 o2 n2 : List ℕ) → ShareNoToken o1 n1 o2 n2 → (t u z : Map) → IsLawful t → WorksAt f (Replace set o1 n1) t u → WorksAt f (Replace set o2 n2) u z →
+    BothLead (At f (Replace set o2 n2)) (At f (Replace set o1 n1)) t z
+runs_replaces f set o1 n1 o2 n2 s t u z lt h k = go h.here k.here
+  where
+    go : Changes (Replace set o1 n1) (t f) (u f) → Changes (Replace set o2 n2) (u f) (z f) → BothLead (At f (Replace set o2 n2)) (At f (Replace set o1 n1)) t z
+    go (ls, mid, is, mid_is, a) (mid', fin, mid_is', fin_is, b) =
+        let same : mid' ≡ mid = cc in
+        let v = both_turn set o1 n1 o2 n2 ls mid fin s (lt.lines f ls is) a (rw same at b) in
+        let m : Map = put t f (Some (File v.0)) in (
+          m,
+          record { around = tt; here = (ls, v.0, is, put_same t f (Some (File v.0)), v.1); elsewhere = λ q i. put_other t f (Some (File v.0)) q i },
+          record {
+            around = tt;
+            here = (v.0, fin, put_same t f (Some (File v.0)), fin_is, v.2);
+            elsewhere = λ q i. k.elsewhere q i ∙ h.elsewhere q i ∙ sym (put_other t f (Some (File v.0)) q i);
+          },
+        )
+
 -- p then q on a lawful map has the same end by q' then p'
 pub square_runs : {p q q' p' : Prim} → Square p q q' p' → OffRoot p → OffRoot q → OffRoot q' → (t u z : Map) → IsLawful t → Applies p t u → Applies q u z → BothLead q' p' t z
 square_runs {p} {q} {q'} {p'} s gp gq gq' t u z lt h k = go s gp gq gq' lu lz h k
@@ -323,6 +426,9 @@ square_runs {p} {q} {q'} {p'} s gp gq gq' t u z lt h k = go s gp gq gq' lu lz h 
     go : {p q q' p' : Prim} → Square p q q' p' → OffRoot p → OffRoot q → OffRoot q' → IsLawful u → IsLawful z → Applies p t u → Applies q u z → BothLead q' p' t z
     go (hunk_down {f} {l1} {l2} {l2'} {o1} {n1} {o2} {n2} c e) gp gq gq' x y h k = runs_hunk_down f l1 l2 l2' o1 n1 o2 n2 c e t u z h k
     go (hunk_up {f} {l1} {l2} {l1'} {o1} {n1} {o2} {n2} c e) gp gq gq' x y h k = runs_hunk_up f l1 l2 l1' o1 n1 o2 n2 c e gp t u z lt x y h k
+    go (hunk_turned {f} {l} {old} {new} {old'} {new'} {set} {o} {n} a b) gp gq gq' x y h k = runs_hunk_replace f l old new old' new' set o n a b t u z lt h k
+    go (turned_hunk {f} {l} {old} {new} {old'} {new'} {set} {o} {n} a b) gp gq gq' x y h k = runs_replace_hunk f l old new old' new' set o n a b gp t u z lt x y h k
+    go (replaces {f} {set} {o1} {n1} {o2} {n2} s) gp gq gq' x y h k = runs_replaces f set o1 n1 o2 n2 s t u z lt h k
     go (free {f} {g} {w} {v} s) gp gq gq' x y h k = runs_free f w g v s t u z h k
     go (then_move {f} {f'} {a} {b} {w} s e) gp gq gq' x y h k = rw e (runs_then_move f w a b s t u z lt x h k)
     go (move_then {f} {f'} {a} {b} {w} s e) gp gq gq' x y h k = runs_move_then f w a b s gq' t u z (rw e at gq) lt x y h (rw e at k)

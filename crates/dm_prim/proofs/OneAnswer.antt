@@ -10,12 +10,13 @@ use Rattle.dm_tree.proofs.OneAnswer.{adding_one, removing_a_file_one, removing_a
 use Rattle.dm_tree.proofs.Trees.{path_total, path_same}
 use Rattle.dm_tree.specs.Listings.{file_size}
 use Rattle.dm_prim.specs.InTurn.{InTurn, done, step}
-use Rattle.dm_prim.specs.Primitives.{Work, AddFile, RmFile, AddDir, RmDir, Hunk, Binary, Replace, Prim, At, Move, ChangePref, Applies, TurnsLines, most_turned}
-use Rattle.dm_prim.specs.Applying.{AdmitsFault, BinaryAnswers, GrowsTooLarge, HasNewToken, ReplaceAnswers, FaultsAs, AppliesToTree, AppliedAll}
+use Rattle.dm_prim.specs.Primitives.{Work, AddFile, RmFile, AddDir, RmDir, Hunk, Binary, Replace, Prim, At, Move, ChangePref, Applies}
+use Rattle.dm_prim.specs.Limits.{most_turned, IsPastLimits}
+use Rattle.dm_prim.specs.Applying.{AdmitsFault, BinaryAnswers, GrowsTooLarge, HasNewToken, ReplaceAnswers, TurnsWithin, FaultsAs, AppliesToTree, AppliedAll}
 use Rattle.dm_prim.specs.Laws.{ApplyingHasOneAnswer, IsNotOutOfMemory, ApplyingAListHasOneAnswer, HunkHasOneAnswer, BinaryHasOneAnswer, PreferenceHasOneAnswer}
 use Rattle.dm_prim.specs.declared.hunk.HunkFault.TheVariants.{BadLine, NoChange}
 use Rattle.dm_prim.proofs.Maps.{path_dec}
-use Rattle.dm_prim.proofs.TurnedLines.{no_growth, no_new_token, there_is_no_growth}
+use Rattle.dm_prim.proofs.TurnedLines.{grown, no_new_token, there_is_no_growth}
 use Rattle.dm_prim.proofs.Undoing.{kept}
 use Rattle.dm_prim.proofs.Single.{applies_one}
 
@@ -63,14 +64,14 @@ module _ (m : Map) (p : Path) (set old new : List ℕ) where
   not_large : (ls : Lines) → file_size ls ≤ most_turned → IsLarge ls → ⊥
   not_large ls h k = omega (arith, h, k)
 
-  turns : (ls ls' : Lines) → m p ≡ Some (File ls) → TurnsLines set old new ls ls' → StopsToken None
+  turns : (ls ls' : Lines) → m p ≡ Some (File ls) → TurnsWithin set old new ls ls' → StopsToken None
   turns ls ls' e t = inr (
     λ k. cc,
     inr (
       λ k. cc,
       inr (
         no_file IsLarge ls e (not_large ls t.was_small),
-        inr (no_file (HasNewToken set old new) ls e (λ h. no_new_token set old new ls ls' h t), inr (no_file (GrowsTooLarge set old new) ls e (λ h. no_growth set old new ls ls' h t), refl)),
+        inr (no_file (HasNewToken set old new) ls e (λ h. no_new_token set old new ls ls' h t.turns), inr (no_file (GrowsTooLarge set old new) ls e (λ h. let size = grown set old new ls ls' h t.turns in omega (arith, size, t.is_small)), refl)),
       ),
     ),
   )
@@ -159,10 +160,11 @@ one_map p t u v (inr e) h k = λ q. ap (λ m. m q) (from_nothing p t u e h ∙ s
 one_tree : (p : Prim) (t u v : Tree) → Made (map.get t) → Applies p (map.get t) (map.get u) → Applies p (map.get t) (map.get v) → u ≡ v
 one_tree p t u v m h k = map.same_map path_total path_same u v (one_map p (map.get t) (map.get u) (map.get v) m h k)
 
--- a fault comes only where the primitive makes nothing, or something too deep
-faulty : (p : Prim) (t u : Map) (f : TreeFault) → Made t → f ≢ NoMemory → AdmitsFault p t f → Applies p t u → (Deep u → ⊥) → ⊥
+-- a fault comes only where the primitive makes nothing, or goes past a limit
+faulty : (p : Prim) (t u : Map) (f : TreeFault) → Made t → f ≢ NoMemory → AdmitsFault p t f → Applies p t u → (IsPastLimits p t u → ⊥) → ⊥
 faulty p t u NoMemory m n a h d = n refl
-faulty p t u TooDeep m n (v, k, (q, long, some)) h d = d (q, long, λ e. some (one_map p t v u m k h q ∙ e))
+faulty p t u TooDeep m n (v, k, (q, long, some)) h d = d (inl (q, long, λ e. some (one_map p t v u m k h q ∙ e)))
+faulty p t u TooLarge m n a h d = d (inr (a u h))
 faulty p t u f m n a h d = a u h
 
 same_fault : (f g : TreeFault) → f ≢ NoMemory → g ≢ NoMemory → fault_of_change (Err f) ≡ fault_of_change (Err g) → f ≡ g

@@ -6,6 +6,7 @@ use Rattle.dm_tree.specs.Paths.{Name, Path, Under}
 use Rattle.dm_tree.specs.Trees.{Lines, Entry, Dir, File, Map, HasParent, IsLawful, Deep}
 use Rattle.dm_tree.proofs.Paths.{under_dec, comparable, under_refl, under_append, under_trans}
 use Rattle.dm_prim.specs.Primitives.{Work, AddFile, RmFile, AddDir, RmDir, Hunk, Binary, Replace, Prim, At, Move, ChangePref, Around, Applies}
+use Rattle.dm_prim.specs.Limits.{TurnsLarge}
 use Rattle.dm_prim.specs.Touch.{paths_of, NamesAmong}
 use Rattle.dm_prim.proofs.Ends.{changes_at}
 use Rattle.dm_prim.proofs.Undoing.{OffRoot}
@@ -204,6 +205,14 @@ module _ (ps : List Path) where
       back : (d : Deep v) → IsReached ps d.0 ⊎ (IsReached ps d.0 → ⊥) → Deep t
       back d (inl r) = (d.0, d.1, λ e. d.2 (j.within d.0 r ∙ e))
       back d (inr away) = absurd (d.2 (j.outside d.0 away))
+
+  pub as_large : (p : Prim) (s t u v : Map) → NamesUnder ps p → IsPart ps s u → IsPart ps t v → TurnsLarge p s t ↔ TurnsLarge p u v
+  as_large (At f (Replace set old new)) s t u v n i j =
+      let r : IsReached ps f = reached_at f (work_in f (Replace set old new) n) in (
+        λ h. elim h [ inl l ↦ inl (l.0, i.within f r ∙ l.1, l.2) | inr l ↦ inr (l.0, j.within f r ∙ l.1, l.2) ],
+        λ h. elim h [ inl l ↦ inl (l.0, sym (i.within f r) ∙ l.1, l.2) | inr l ↦ inr (l.0, sym (j.within f r) ∙ l.1, l.2) ],
+      )
+  as_large p s t u v n i j = (λ h. absurd h, λ h. absurd h)
 
   pub put_back : (s t v : Map) → IsSameBut ps s t → IsPart ps t v → Puts ps s v t
   put_back s t v b j = record { put = λ q u. sym (j.within q (reached_at q u)); kept = b.kept }

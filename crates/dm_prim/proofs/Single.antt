@@ -8,19 +8,27 @@ use Rattle.dm_tree.specs.Paths.{Path, forward}
 use Rattle.dm_tree.specs.Trees.{Lines, Entry, Map, IsLawful}
 use Rattle.dm_tree.specs.Changes.{ReplacesLines}
 use Rattle.dm_prim.specs.Primitives.{Work, AddFile, RmFile, AddDir, RmDir, Hunk, Binary, Replace, Prim, At, Move, ChangePref, Changes, Applies}
-use Rattle.dm_prim.specs.Table.{LiesAbove, WorkAndWork, WorkThenMove, MoveThenMove, TableRow, first_above, second_above, two_works, work_move, move_work, two_moves, preference_first, preference_second, MovesOutside}
+use Rattle.dm_prim.specs.Table.{LiesAbove, TurnsPart, ShareNoToken, WorkAndWork, WorkThenMove, MoveThenMove, TableRow, first_above, second_above, hunk_replace, replace_hunk, two_replaces, two_works, work_move, move_work, two_moves, preference_first, preference_second, MovesOutside}
+use Rattle.dm_prim.specs.Hunks.{ChangePlaces}
 use Rattle.dm_prim.specs.Commuting.{Commutes, ListsCommute}
-use Rattle.dm_prim.proofs.TurnedLines.{turned_one}
+use Rattle.dm_prim.proofs.TurnedLines.{part_one, turned_one}
 
--- what the table answers for work on two paths
+-- what the table answers for work w, then work v at one path: v', then w'
+abbrev pub AtOnePath : Work → Work → Work → Work → Type 0
+AtOnePath (Hunk l1 o1 n1) (Hunk l2 o2 n2) v' w' =
+    (m : ℕ) × (k : ℕ) × ChangePlaces l1 (length o1) (length n1) l2 (length o2) (length n2) m k × (v' ≡ Hunk m o2 n2) × (w' ≡ Hunk k o1 n1)
+AtOnePath (Hunk l old new) (Replace set o n) v' w' =
+    (old' : Lines) × (new' : Lines) × TurnsPart set o n old old' × TurnsPart set o n new new' × (v' ≡ Replace set o n) × (w' ≡ Hunk l old' new')
+AtOnePath (Replace set o n) (Hunk l old new) v' w' =
+    (old' : Lines) × (new' : Lines) × TurnsPart set n o old old' × TurnsPart set n o new new' × (v' ≡ Hunk l old' new') × (w' ≡ Replace set o n)
+AtOnePath (Replace set1 o1 n1) (Replace set2 o2 n2) v' w' =
+    (set1 ≡ set2) × ShareNoToken o1 n1 o2 n2 × (v' ≡ Replace set2 o2 n2) × (w' ≡ Replace set1 o1 n1)
+AtOnePath w v v' w' = ⊥
+
+-- what it answers for work on two paths, or on one
 pub data Both (f : Path) (w : Work) (g : Path) (v : Work) (q' p' : Prim) : Type 0 where
   apart : WorkAndWork f w g v → q' ≡ At g v → p' ≡ At f w → Both f w g v q' p'
-  down : {l1 l2 m : ℕ} {o1 n1 o2 n2 : Lines} → f ≡ g → w ≡ Hunk l1 o1 n1 → v ≡ Hunk l2 o2 n2 →
-      LiesAbove (l1 + length n1) l2 (length o1) (length n1) (length o2) (length n2) → m + length n1 ≡ l2 + length o1 →
-      q' ≡ At g (Hunk m o2 n2) → p' ≡ At f (Hunk l1 o1 n1) → Both f w g v q' p'
-  up : {l1 l2 k : ℕ} {o1 n1 o2 n2 : Lines} → f ≡ g → w ≡ Hunk l1 o1 n1 → v ≡ Hunk l2 o2 n2 →
-      LiesAbove (l2 + length o2) l1 (length o1) (length n1) (length o2) (length n2) → k + length o2 ≡ l1 + length n2 →
-      q' ≡ At g (Hunk l2 o2 n2) → p' ≡ At f (Hunk k o1 n1) → Both f w g v q' p'
+  at_one : {v' w' : Work} → f ≡ g → AtOnePath w v v' w' → q' ≡ At g v' → p' ≡ At f w' → Both f w g v q' p'
 
 -- what the table answers, by the two primitives
 abbrev pub Answer : Prim → Prim → Prim → Prim → Type 0
@@ -38,8 +46,11 @@ after_any name old new (Move a b) h = (h, refl, refl)
 after_any name old new (ChangePref n o w) h = (tt, refl, refl)
 
 pub answer_from : {p q q' p' : Prim} → TableRow p q q' p' → Answer p q q' p'
-answer_from (first_above c e) = down refl refl refl c e refl refl
-answer_from (second_above c e) = up refl refl refl c e refl refl
+answer_from (first_above {l1 = l1} {l2' = m} c e) = at_one refl (m, l1, inl (c, e, refl), refl, refl) refl refl
+answer_from (second_above {l2 = l2} {l1' = k} c e) = at_one refl (l2, k, inr (c, refl, e), refl, refl) refl refl
+answer_from (hunk_replace {old' = old'} {new' = new'} a b) = at_one refl (old', new', a, b, refl, refl) refl refl
+answer_from (replace_hunk {old' = old'} {new' = new'} a b) = at_one refl (old', new', a, b, refl, refl) refl refl
+answer_from (two_replaces s) = at_one refl (refl, s, refl, refl) refl refl
 answer_from (two_works s) = apart s refl refl
 answer_from (work_move {w = w} c e) = (c, refl, ap (λ x. At x w) e)
 answer_from (move_work {w = w} c e) = (c, ap (λ x. At x w) e, refl)
@@ -54,26 +65,31 @@ clears_both l1 o1 n1 l2 o2 n2 (inl h) (inr k) = omega arith
 clears_both l1 o1 n1 l2 o2 n2 (inr h) (inl k) = omega arith
 clears_both l1 o1 n1 l2 o2 n2 (inr h) (inr k) = omega arith
 
+places_one : (l1 o1 n1 l2 o2 n2 m k m' k' : ℕ) → ChangePlaces l1 o1 n1 l2 o2 n2 m k → ChangePlaces l1 o1 n1 l2 o2 n2 m' k' → (m ≡ m') × (k ≡ k')
+places_one l1 o1 n1 l2 o2 n2 m k m' k' (inl (c, e, i)) (inl (c', e', i')) = (omega (arith, e, e'), i ∙ sym i')
+places_one l1 o1 n1 l2 o2 n2 m k m' k' (inl (c, e, i)) (inr (c', e', i')) = absurd (clears_both l1 o1 n1 l2 o2 n2 c c')
+places_one l1 o1 n1 l2 o2 n2 m k m' k' (inr (c, e, i)) (inl (c', e', i')) = absurd (clears_both l1 o1 n1 l2 o2 n2 c' c)
+places_one l1 o1 n1 l2 o2 n2 m k m' k' (inr (c, e, i)) (inr (c', e', i')) = (e ∙ sym e', omega (arith, i, i'))
+
+-- one answer at one path
+at_one_path : (w v v1 w1 v2 w2 : Work) → AtOnePath w v v1 w1 → AtOnePath w v v2 w2 → (v1 ≡ v2) × (w1 ≡ w2)
+at_one_path (Hunk l1 o1 n1) (Hunk l2 o2 n2) v1 w1 v2 w2 (m, k, c, a, b) (m', k', c', a', b') =
+    let e = places_one l1 (length o1) (length n1) l2 (length o2) (length n2) m k m' k' c c' in
+    (a ∙ ap (λ z. Hunk z o2 n2) e.0 ∙ sym a', b ∙ ap (λ z. Hunk z o1 n1) e.1 ∙ sym b')
+at_one_path (Hunk l old new) (Replace set o n) v1 w1 v2 w2 (x, y, s, t, a, b) (x', y', s', t', a', b') =
+    (a ∙ sym a', b ∙ ap₂ (Hunk l) (part_one set o n old x x' s s') (part_one set o n new y y' t t') ∙ sym b')
+at_one_path (Replace set o n) (Hunk l old new) v1 w1 v2 w2 (x, y, s, t, a, b) (x', y', s', t', a', b') =
+    (a ∙ ap₂ (Hunk l) (part_one set n o old x x' s s') (part_one set n o new y y' t t') ∙ sym a', b ∙ sym b')
+at_one_path (Replace set1 o1 n1) (Replace set2 o2 n2) v1 w1 v2 w2 (e, s, a, b) (e', s', a', b') = (a ∙ sym a', b ∙ sym b')
+at_one_path w v v1 w1 v2 w2 h k = absurd h
+
 pub both_one : (f : Path) (w : Work) (g : Path) (v : Work) (q1 p1 q2 p2 : Prim) → Both f w g v q1 p1 → Both f w g v q2 p2 → (q1 ≡ q2) × (p1 ≡ p2)
 both_one f w g v q1 p1 q2 p2 (apart s i j) (apart t k l) = (i ∙ sym k, j ∙ sym l)
-both_one f w g v q1 p1 q2 p2 (apart s i j) (down e a b c d k l) = absurd (s.differ e)
-both_one f w g v q1 p1 q2 p2 (apart s i j) (up e a b c d k l) = absurd (s.differ e)
-both_one f w g v q1 p1 q2 p2 (down e a b c d k l) (apart s i j) = absurd (s.differ e)
-both_one f w g v q1 p1 q2 p2 (up e a b c d k l) (apart s i j) = absurd (s.differ e)
-both_one f w g v q1 p1 q2 p2 (down {l1} {l2} {m} {o1} {n1} {o2} {n2} e a b c d k l) (down {l1 = l1'} {l2 = l2'} {m = m'} {o1 = o1'} {n1 = n1'} {o2 = o2'} {n2 = n2'} e' a' b' c' d' k' l') =
-    let x : l2 ≡ l2' = cc in let y : o1 ≡ o1' = cc in let z : n1 ≡ n1' = cc in
-    let lo : length o1 ≡ length o1' = ap length y in let ln : length n1 ≡ length n1' = ap length z in
-    let mm : m ≡ m' = omega arith in (cc, cc)
-both_one f w g v q1 p1 q2 p2 (up {l1} {l2} {k = m} {o1} {n1} {o2} {n2} e a b c d k l) (up {l1 = l1'} {l2 = l2'} {k = m'} {o1 = o1'} {n1 = n1'} {o2 = o2'} {n2 = n2'} e' a' b' c' d' k' l') =
-    let x : l1 ≡ l1' = cc in let y : o2 ≡ o2' = cc in let z : n2 ≡ n2' = cc in
-    let lo : length o2 ≡ length o2' = ap length y in let ln : length n2 ≡ length n2' = ap length z in
-    let mm : m ≡ m' = omega arith in (cc, cc)
-both_one f w g v q1 p1 q2 p2 (down {l1} {l2} {m} {o1} {n1} {o2} {n2} e a b c d k l) (up {l1 = l1'} {l2 = l2'} {k = m'} {o1 = o1'} {n1 = n1'} {o2 = o2'} {n2 = n2'} e' a' b' c' d' k' l') =
-    let x : l1' ≡ l1 = cc in let x2 : l2' ≡ l2 = cc in let y : o2' ≡ o2 = cc in let y1 : o1' ≡ o1 = cc in let z : n2' ≡ n2 = cc in let z1 : n1' ≡ n1 = cc in
-    absurd (clears_both l1 (length o1) (length n1) l2 (length o2) (length n2) c (rw (x, x2, y, y1, z, z1) at c'))
-both_one f w g v q1 p1 q2 p2 (up {l1} {l2} {k = m} {o1} {n1} {o2} {n2} e a b c d k l) (down {l1 = l1'} {l2 = l2'} {m = m'} {o1 = o1'} {n1 = n1'} {o2 = o2'} {n2 = n2'} e' a' b' c' d' k' l') =
-    let x : l1' ≡ l1 = cc in let x2 : l2' ≡ l2 = cc in let y : o2' ≡ o2 = cc in let y1 : o1' ≡ o1 = cc in let z : n2' ≡ n2 = cc in let z1 : n1' ≡ n1 = cc in
-    absurd (clears_both l1 (length o1) (length n1) l2 (length o2) (length n2) (rw (x, x2, y, y1, z, z1) at c') c)
+both_one f w g v q1 p1 q2 p2 (apart s i j) (at_one e h k l) = absurd (s.differ e)
+both_one f w g v q1 p1 q2 p2 (at_one e h k l) (apart s i j) = absurd (s.differ e)
+both_one f w g v q1 p1 q2 p2 (at_one {v' = v1} {w' = w1} e h k l) (at_one {v' = v2} {w' = w2} e' h' k' l') =
+    let s = at_one_path w v v1 w1 v2 w2 h h' in
+    (k ∙ ap (At g) s.0 ∙ sym k', l ∙ ap (At f) s.1 ∙ sym l')
 
 pub answer_one : (p q q1 p1 q2 p2 : Prim) → Answer p q q1 p1 → Answer p q q2 p2 → (q1 ≡ q2) × (p1 ≡ p2)
 answer_one (At f w) (At g v) q1 p1 q2 p2 x y = both_one f w g v q1 p1 q2 p2 x y

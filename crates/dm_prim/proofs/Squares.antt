@@ -7,7 +7,8 @@ use Rattle.dm_prim.proofs.Undoing.{swap_left, swap_right}
 use Rattle.dm_tree.specs.Paths.{Path, Under, Inside, Apart}
 use Rattle.dm_tree.specs.Trees.{Lines}
 use Rattle.dm_prim.specs.Primitives.{Work, AddFile, RmFile, AddDir, RmDir, Hunk, Binary, Replace, Prim, At, Move, ChangePref, inv_work, inv}
-use Rattle.dm_prim.specs.Table.{IsDirectoryWork, KeepsFile, LiesAbove, WorkAndWork, MovesOutside}
+use Rattle.dm_prim.specs.Table.{IsDirectoryWork, KeepsFile, LiesAbove, TurnsPart, ShareNoToken, WorkAndWork, MovesOutside}
+use Rattle.dm_prim.proofs.TurnedLines.{part_back}
 
 -- `move a b` against work on f, from the same start
 pub record Beside (f : Path) (w : Work) (a b : Path) : Type 0 where
@@ -33,6 +34,12 @@ pub data Square : Prim → Prim → Prim → Prim → Type 0 where
   hunk_up : {f : Path} {l1 l2 l1' : ℕ} {o1 n1 o2 n2 : Lines} →
       LiesAbove (l2 + length o2) l1 (length o1) (length n1) (length o2) (length n2) → l1' + length o2 ≡ l1 + length n2 →
       Square (At f (Hunk l1 o1 n1)) (At f (Hunk l2 o2 n2)) (At f (Hunk l2 o2 n2)) (At f (Hunk l1' o1 n1))
+  hunk_turned : {f : Path} {l : ℕ} {old new old' new' : Lines} {set o n : List ℕ} → TurnsPart set o n old old' → TurnsPart set o n new new' →
+      Square (At f (Hunk l old new)) (At f (Replace set o n)) (At f (Replace set o n)) (At f (Hunk l old' new'))
+  turned_hunk : {f : Path} {l : ℕ} {old new old' new' : Lines} {set o n : List ℕ} → TurnsPart set o n old old' → TurnsPart set o n new new' →
+      Square (At f (Replace set o n)) (At f (Hunk l old' new')) (At f (Hunk l old new)) (At f (Replace set o n))
+  replaces : {f : Path} {set o1 n1 o2 n2 : List ℕ} → ShareNoToken o1 n1 o2 n2 →
+      Square (At f (Replace set o1 n1)) (At f (Replace set o2 n2)) (At f (Replace set o2 n2)) (At f (Replace set o1 n1))
   free : {f g : Path} {w v : Work} → WorkAndWork f w g v → Square (At f w) (At g v) (At g v) (At f w)
   then_move : {f f' a b : Path} {w : Work} → Beside f w a b → f' ≡ swap a b f →
       Square (At f w) (Move a b) (Move a b) (At f' w)
@@ -56,9 +63,15 @@ separate_turn f w g v s = record { differ = λ e. s.differ (sym e); apart = λ d
 pub passing_turn : (a b c d : Path) → Passing a b c d → Passing c d a b
 passing_turn a b c d p = record { left = p.right; right = p.left; targets = apart_sym p.targets; sources = λ e. p.sources (sym e); c_off_b = p.a_off_d; a_off_d = p.c_off_b; not_both = λ x y. p.not_both y x }
 
+pub tokens_turn : (o1 n1 o2 n2 : List ℕ) → ShareNoToken o1 n1 o2 n2 → ShareNoToken o2 n2 o1 n1
+tokens_turn o1 n1 o2 n2 s = record { olds = λ e. s.olds (sym e); old_new = λ e. s.new_old (sym e); new_old = λ e. s.old_new (sym e); news = λ e. s.news (sym e) }
+
 pub square_turn : {p q q' p' : Prim} → Square p q q' p' → Square q' p' p q
 square_turn (hunk_down {l1 = l1} {l2' = m} {o1 = o1} {n1 = n1} {o2 = o2} {n2 = n2} c e) = hunk_up (clears_turn (l1 + length o1) m (length o1) (length n1) (length o2) (length n2) c) (sym e)
 square_turn (hunk_up {l1 = l1} {l2 = l2} {o1 = o1} {n1 = n1} {o2 = o2} {n2 = n2} c e) = hunk_down (clears_turn (l2 + length o2) l1 (length o1) (length n1) (length o2) (length n2) c) (sym e)
+square_turn (hunk_turned a b) = turned_hunk a b
+square_turn (turned_hunk a b) = hunk_turned a b
+square_turn (replaces {o1 = o1} {n1 = n1} {o2 = o2} {n2 = n2} s) = replaces (tokens_turn o1 n1 o2 n2 s)
 square_turn (free {f} {g} {w} {v} s) = free (separate_turn f w g v s)
 square_turn (then_move b e) = move_then b e
 square_turn (move_then b e) = then_move b e
@@ -218,6 +231,9 @@ pub square_inv : {p q q' p' : Prim} → Square p q q' p' → Square (inv p) q' q
 square_inv (hunk_down {l1 = l1} {l2 = l2} {l2' = m} {o1 = o1} {n1 = n1} {o2 = o2} {n2 = n2} c e) =
     hunk_down (clears_inv (l1 + length n1) l2 (length o1) (length n1) (length o2) (length n2) (clears_moved l1 l2 m (length o1) (length n1) (length o2) (length n2) c e)) (sym e)
 square_inv (hunk_up {l1 = l1} {l2 = l2} {o1 = o1} {n1 = n1} {o2 = o2} {n2 = n2} c e) = hunk_up (clears_inv (l2 + length o2) l1 (length o1) (length n1) (length o2) (length n2) c) e
+square_inv (hunk_turned a b) = hunk_turned b a
+square_inv (turned_hunk {old = old} {new = new} {old' = old'} {new' = new'} {set = set} {o = o} {n = n} a b) = turned_hunk (part_back set o n old old' a) (part_back set o n new new' b)
+square_inv (replaces s) = replaces (record { olds = s.new_old; old_new = s.news; new_old = s.olds; news = s.old_new })
 square_inv (free {f} {g} {w} {v} s) = free (separate_inv f w g v s)
 square_inv (then_move {f} {f'} {a} {b} {w} h e) = then_move (beside_inv f w a b h) e
 square_inv (move_then {f} {f'} {a} {b} {w} h e) = move_then (rw e (beside_moved f w a b h)) (swap_back a b f f' h.move_apart e)

@@ -1,17 +1,21 @@
 -- What the table says of two primitives of each kind.
-use Rattle.std.proofs.Common.{◌≡◌, ℕ, ◌<◌, length, ◌⊎◌, inl, inr, refl, sym, ap, Option, Some, None, arith}
+use Rattle.std.proofs.Common.{◌≡◌, ℕ, ◌<◌, List, length, ◌⊎◌, inl, inr, refl, sym, ap, Option, Some, None, arith}
 use Rattle.dm_tree.specs.Paths.{Path, Under, forward}
 use Rattle.dm_tree.specs.Validity.{IsValidPath}
 use Rattle.dm_tree.specs.Trees.{Lines}
 use Rattle.dm_tree.proofs.ValidityLemmas.{valid_parts}
 use Rattle.dm_tree.proofs.Paths.{forward-other, apart_sym}
-use Rattle.dm_prim.specs.Primitives.{Work, Prim, At, Move, Hunk, ChangePref}
-use Rattle.dm_prim.specs.Table.{TableRow, first_above, second_above, two_works, work_move, move_work, two_moves, preference_first, preference_second, MovesOutside, WorkAndWork, WorkThenMove, MoveThenMove, IsHunk}
+use Rattle.dm_prim.specs.Primitives.{Work, Prim, At, Move, Hunk, Replace, ChangePref}
+use Rattle.dm_prim.specs.Table.{TableRow, first_above, second_above, hunk_replace, replace_hunk, two_replaces, two_works, work_move, move_work, two_moves, preference_first, preference_second, MovesOutside, WorkAndWork, WorkThenMove, MoveThenMove, IsHunk, IsReplace, TurnsPart, ShareNoToken}
 use Rattle.dm_prim.specs.Commuting.{IsLineNumber, IsValidPrim, Commutes}
-use Rattle.dm_prim.specs.Hunks.{HunkParts, hunk_of, ChangePlaces}
+use Rattle.dm_prim.specs.Hunks.{HunkParts, TurnsHunk, hunk_of, ChangePlaces}
+use Rattle.dm_prim.specs.Replaces.{ReplaceParts, replace_of, words_back}
 use Rattle.dm_prim.specs.Prims.{path_of, work_of, IsWork, NamesAPath, MovesNothing, CommutesTo, PairLawsHold}
 use Rattle.dm_prim.specs.declared.primitive.Primitive as code
-use Rattle.dm_prim.proofs.Single.{answer_from, Both, apart, down, up}
+use Rattle.dm_prim.proofs.Single.{AtOnePath, answer_from, Both, apart, at_one}
+use Rattle.dm_tokens.specs.Turning.{Turns}
+use Rattle.dm_tokens.specs.Validity.{TokenWords}
+use Rattle.dm_prim.proofs.TurnedLines.{part_plain, zip_length}
 use Rattle.dm_prim.proofs.LawProofs.{pair_laws}
 
 pub laws_hold : {Z : Type 0} (p q : Prim) (r : Option (code.Primitive Z × code.Primitive Z)) → CommutesTo p q r → PairLawsHold p q r
@@ -118,34 +122,107 @@ module _ (p : Prim) (a b : Path) (is : IsWork p) where
       let r : TableRow (Move a b) p m (Move a b) = rw (e, as_work p is) (move_work k refl) in
       record { valid_p = (ga, gb); valid_q = gp; valid_q' = gm; valid_p' = (ga, gb); row = r }
 
--- work and work
-module _ (f g : Path) (w v : Work) where
-  on_two_paths : (q' p' : Prim) → (IsHunk w → IsHunk v → f ≡ g → ⊥) → Both f w g v q' p' → WorkAndWork f w g v
-  on_two_paths q' p' n (apart s i j) = s
-  on_two_paths q' p' n (down e a b c d k l) = absurd (n (rw a tt) (rw b tt) e)
-  on_two_paths q' p' n (up e a b c d k l) = absurd (n (rw a tt) (rw b tt) e)
+-- a hunk stays valid as its lines turn
+pub turned_valid : (w : TokenWords) (h k : HunkParts) → IsValidPrim (hunk_of h) → TurnsHunk w h k → IsValidPrim (hunk_of k)
+turned_valid w h k (p, (n, some, old, new)) t =
+    let x : length k.old ≡ length h.old = zip_length (Turns t.old.tokens.set w.old w.new) h.old k.old t.old.turned in
+    let y : length k.new ≡ length h.new = zip_length (Turns t.new.tokens.set w.old w.new) h.new k.new t.new.turned in
+    (rw t.path p, (rw t.line n, omega (arith, x, y, some), part_plain w.set w.old w.new h.old k.old t.old old, part_plain w.set w.old w.new h.new k.new t.new new))
 
+-- a hunk and a replace of one file
+hunk_row_turned : {f g : Path} {l : ℕ} {old new : Lines} {set o n : List ℕ} {q' p' : Prim} → f ≡ g → TableRow (At f (Hunk l old new)) (At g (Replace set o n)) q' p' →
+    (old' : Lines) × (new' : Lines) × TurnsPart set o n old old' × TurnsPart set o n new new'
+hunk_row_turned e (hunk_replace {old' = old'} {new' = new'} a b) = (old', new', a, b)
+hunk_row_turned e (two_works s) = absurd (s.differ e)
+
+replace_row_turned : {f g : Path} {l : ℕ} {old new : Lines} {set o n : List ℕ} {q' p' : Prim} → f ≡ g → TableRow (At f (Replace set o n)) (At g (Hunk l old new)) q' p' →
+    (old' : Lines) × (new' : Lines) × TurnsPart set n o old old' × TurnsPart set n o new new'
+replace_row_turned e (replace_hunk {old' = old'} {new' = new'} a b) = (old', new', a, b)
+replace_row_turned e (two_works s) = absurd (s.differ e)
+
+module _ (h : HunkParts) (r : ReplaceParts) where
+  pub no_hunk_replace : h.path ≡ r.path → ((k : HunkParts) → TurnsHunk r.words h k → ⊥) → (q' p' : Prim) → Commutes (hunk_of h) (replace_of r) q' p' → ⊥
+  no_hunk_replace same n q' p' c = let k = hunk_row_turned same c.row in n (record h { old = k.0; new = k.1 }) (record { path = refl; line = refl; old = k.2; new = k.3 })
+
+  pub no_replace_hunk : r.path ≡ h.path → ((k : HunkParts) → TurnsHunk (words_back r.words) h k → ⊥) → (q' p' : Prim) → Commutes (replace_of r) (hunk_of h) q' p' → ⊥
+  no_replace_hunk same n q' p' c = let k = replace_row_turned same c.row in n (record h { old = k.0; new = k.1 }) (record { path = refl; line = refl; old = k.2; new = k.3 })
+
+  module _ (k : HunkParts) (valid_h : IsValidPrim (hunk_of h)) (valid_k : IsValidPrim (hunk_of k)) (valid_r : IsValidPrim (replace_of r)) where
+    pub hunk_passes : h.path ≡ r.path → TurnsHunk r.words h k → Commutes (hunk_of h) (replace_of r) (replace_of r) (hunk_of k)
+    hunk_passes same t = record {
+      valid_p = valid_h;
+      valid_q = valid_r;
+      valid_q' = valid_r;
+      valid_p' = valid_k;
+      row = rw (t.path, t.line, same) (hunk_replace t.old t.new);
+    }
+
+    pub replace_passes : r.path ≡ h.path → TurnsHunk (words_back r.words) h k → Commutes (replace_of r) (hunk_of h) (hunk_of k) (replace_of r)
+    replace_passes same t = record {
+      valid_p = valid_r;
+      valid_q = valid_h;
+      valid_q' = valid_k;
+      valid_p' = valid_r;
+      row = rw (t.path, t.line, same) (replace_hunk t.old t.new);
+    }
+
+-- two replaces of one file
+replaces_row : {f g : Path} {set1 o1 n1 set2 o2 n2 : List ℕ} {q' p' : Prim} → f ≡ g → TableRow (At f (Replace set1 o1 n1)) (At g (Replace set2 o2 n2)) q' p' → (set1 ≡ set2) × ShareNoToken o1 n1 o2 n2
+replaces_row e (two_replaces s) = (refl, s)
+replaces_row e (two_works s) = absurd (s.differ e)
+
+module _ (r s : ReplaceParts) (same : r.path ≡ s.path) where
+  pub replaces_stay : ((r.words.set ≡ s.words.set) × ShareNoToken r.words.old r.words.new s.words.old s.words.new → ⊥) → (q' p' : Prim) → Commutes (replace_of r) (replace_of s) q' p' → ⊥
+  replaces_stay n q' p' c = n (replaces_row same c.row)
+
+  pub replaces_pass : IsValidPrim (replace_of r) → IsValidPrim (replace_of s) → (r.words.set ≡ s.words.set) × ShareNoToken r.words.old r.words.new s.words.old s.words.new →
+      Commutes (replace_of r) (replace_of s) (replace_of s) (replace_of r)
+  replaces_pass g k (e, n) = record { valid_p = g; valid_q = k; valid_q' = k; valid_p' = g; row = rw (same, e) (two_replaces n) }
+
+-- work and work
 module _ (p q : Prim) (ip : IsWork p) (iq : IsWork q) where
-  no_works : (IsHunk (work_of p) → IsHunk (work_of q) → path_of p ≡ path_of q → ⊥) → (WorkAndWork (path_of p) (work_of p) (path_of q) (work_of q) → ⊥) →
-      (q' p' : Prim) → Commutes p q q' p' → ⊥
-  no_works n s q' p' r = let h : TableRow (At (path_of p) (work_of p)) (At (path_of q) (work_of q)) q' p' = rw (← as_work p ip, ← as_work q iq) r.row in
-      s (on_two_paths (path_of p) (path_of q) (work_of p) (work_of q) q' p' n (answer_from h))
+  as_works : {q' p' : Prim} → TableRow p q q' p' → Both (path_of p) (work_of p) (path_of q) (work_of q) q' p'
+  as_works {q'} {p'} r = let h : TableRow (At (path_of p) (work_of p)) (At (path_of q) (work_of q)) q' p' = rw (← as_work p ip, ← as_work q iq) r in answer_from h
 
   -- on two paths that may not change places
   pub no_two_paths : (path_of p ≡ path_of q → ⊥) → (WorkAndWork (path_of p) (work_of p) (path_of q) (work_of q) → ⊥) → (q' p' : Prim) → Commutes p q q' p' → ⊥
-  no_two_paths d = no_works (λ i j e. d e)
+  no_two_paths d n q' p' c = go (as_works c.row)
+    where
+      go : Both (path_of p) (work_of p) (path_of q) (work_of q) q' p' → ⊥
+      go (apart s i j) = n s
+      go (at_one e h i j) = d e
 
-  -- on one path, where one isn't a hunk
-  pub no_first_hunk : path_of p ≡ path_of q → (IsHunk (work_of p) → ⊥) → (q' p' : Prim) → Commutes p q q' p' → ⊥
-  no_first_hunk e n = no_works (λ i j k. n i) (λ s. s.differ e)
-
-  pub no_second_hunk : path_of p ≡ path_of q → (IsHunk (work_of q) → ⊥) → (q' p' : Prim) → Commutes p q q' p' → ⊥
-  no_second_hunk e n = no_works (λ i j k. n j) (λ s. s.differ e)
+  -- on one path, where one is neither a hunk nor a replace
+  pub no_one_path : path_of p ≡ path_of q → ((v w : Work) → AtOnePath (work_of p) (work_of q) v w → ⊥) → (q' p' : Prim) → Commutes p q q' p' → ⊥
+  no_one_path e n q' p' c = go (as_works c.row)
+    where
+      go : Both (path_of p) (work_of p) (path_of q) (work_of q) q' p' → ⊥
+      go (apart s i j) = s.differ e
+      go (at_one {v' = v} {w' = w} _ h i j) = n v w h
 
   pub change_places : WorkAndWork (path_of p) (work_of p) (path_of q) (work_of q) → IsValidPrim p → IsValidPrim q → Commutes p q q p
   change_places s gp gq =
       let h : TableRow p q q p = rw (as_work p ip, as_work q iq) (two_works s) in
       record { valid_p = gp; valid_q = gq; valid_q' = gq; valid_p' = gp; row = h }
+
+-- work that passes nothing at its path
+pub neither_first : (w v : Work) → (IsHunk w → ⊥) → (IsReplace w → ⊥) → (v' w' : Work) → AtOnePath w v v' w' → ⊥
+neither_first (Hunk l o n) v h r v' w' a = h tt
+neither_first (Replace s o n) v h r v' w' a = r tt
+neither_first w v h r v' w' a = a
+
+pub neither_second : (w v : Work) → (IsHunk v → ⊥) → (IsReplace v → ⊥) → (v' w' : Work) → AtOnePath w v v' w' → ⊥
+neither_second w (Hunk l o n) h r v' w' a = h tt
+neither_second w (Replace s o n) h r v' w' a = r tt
+neither_second (Hunk l old new) v h r v' w' a = a
+neither_second (Replace s old new) v h r v' w' a = a
+neither_second w v h r v' w' a = a
+
+pub no_before : (p q : Prim) → IsWork p → IsWork q → path_of p ≡ path_of q → (IsHunk (work_of p) → ⊥) → (IsReplace (work_of p) → ⊥) → (q' p' : Prim) → Commutes p q q' p' → ⊥
+no_before p q ip iq e h r = no_one_path p q ip iq e (neither_first (work_of p) (work_of q) h r)
+
+pub no_after : (p q : Prim) → IsWork p → IsWork q → path_of p ≡ path_of q → (IsHunk (work_of q) → ⊥) → (IsReplace (work_of q) → ⊥) → (q' p' : Prim) → Commutes p q q' p' → ⊥
+no_after p q ip iq e h r = no_one_path p q ip iq e (neither_second (work_of p) (work_of q) h r)
 
 -- a change of a preference, and any primitive
 preference_row : (p q : Prim) → (NamesAPath p → ⊥) ⊎ (NamesAPath q → ⊥) → MovesOutside p → MovesOutside q → TableRow p q q p
@@ -159,6 +236,9 @@ preference_row (Move a b) (Move c d) n hp hq = absurd (elim n [ inl k ↦ k tt |
 both_outside : {p q q' p' : Prim} → TableRow p q q' p' → MovesOutside p × MovesOutside q
 both_outside (first_above c e) = (tt, tt)
 both_outside (second_above c e) = (tt, tt)
+both_outside (hunk_replace a b) = (tt, tt)
+both_outside (replace_hunk a b) = (tt, tt)
+both_outside (two_replaces s) = (tt, tt)
 both_outside (two_works s) = (tt, tt)
 both_outside (work_move c e) = (tt, c.move_apart)
 both_outside (move_work c e) = (apart_sym c.move_apart, tt)

@@ -1,10 +1,11 @@
 -- The table and the squares say the same.
 use Rattle.std.proofs.Common.{◌≡◌, ◌≢◌, length, inl, inr, sym, ◌∙◌}
 use Rattle.dm_tree.proofs.Paths.{apart_sym, inside_or_is, swap, swap_forward}
-use Rattle.dm_prim.proofs.Squares.{Beside, Passing, Square, hunk_down, hunk_up, free, then_move, move_then, moves, pref_then, then_pref, clears_moved, clears_back, beside_moved, not_inside, inside_to_under, same_under, passing_moved, swap_back, square_turn, square_inv}
+use Rattle.dm_prim.proofs.Squares.{Beside, Passing, Square, hunk_down, hunk_up, hunk_turned, turned_hunk, replaces, free, then_move, move_then, moves, pref_then, then_pref, clears_moved, clears_back, beside_moved, not_inside, inside_to_under, same_under, passing_moved, swap_back, square_turn, square_inv}
+use Rattle.dm_prim.proofs.TurnedLines.{part_back}
 use Rattle.dm_tree.specs.Paths.{Path, Under, Inside}
 use Rattle.dm_prim.specs.Primitives.{Work, Prim, inv}
-use Rattle.dm_prim.specs.Table.{WorkThenMove, MoveThenMove, TableRow, first_above, second_above, two_works, work_move, move_work, two_moves, preference_first, preference_second}
+use Rattle.dm_prim.specs.Table.{WorkThenMove, MoveThenMove, TableRow, first_above, second_above, hunk_replace, replace_hunk, two_replaces, two_works, work_move, move_work, two_moves, preference_first, preference_second}
 
 -- neither it nor inside it
 pub not_under : (p a : Path) → p ≢ a → (Inside p a → ⊥) → Under p a → ⊥
@@ -60,6 +61,9 @@ moves_then_from a b c d p = record {
 pub square_from : {p q q' p' : Prim} → TableRow p q q' p' → Square p q q' p'
 square_from (first_above {l1 = l1} {l2 = l2} {l2' = m} {o1 = o1} {n1 = n1} {o2 = o2} {n2 = n2} c e) = hunk_down (clears_back l1 l2 m (length o1) (length n1) (length o2) (length n2) c e) e
 square_from (second_above c e) = hunk_up c e
+square_from (hunk_replace a b) = hunk_turned a b
+square_from (replace_hunk {old = old} {new = new} {old' = old'} {new' = new'} {set = set} {o = o} {n = n} a b) = turned_hunk (part_back set n o old old' a) (part_back set n o new new' b)
+square_from (two_replaces s) = replaces s
 square_from (two_works s) = free s
 square_from (work_move {f} {f'} {a} {b} {w} c e) = let h = beside_of f w a b c in then_move h (e ∙ sym (swap_forward a b f h.target.left))
 square_from (move_work {f} {f'} {a} {b} {w} c e) = let h = beside_of f w b a c in let k : f' ≡ swap b a f = e ∙ sym (swap_forward b a f h.target.left) in
@@ -77,6 +81,9 @@ square_from (preference_second h) = then_pref h
 pub row_from : {p q q' p' : Prim} → Square p q q' p' → TableRow p q q' p'
 row_from (hunk_down {l1 = l1} {l2 = l2} {l2' = m} {o1 = o1} {n1 = n1} {o2 = o2} {n2 = n2} c e) = first_above (clears_moved l1 l2 m (length o1) (length n1) (length o2) (length n2) c e) e
 row_from (hunk_up c e) = second_above c e
+row_from (hunk_turned a b) = hunk_replace a b
+row_from (turned_hunk {old = old} {new = new} {old' = old'} {new' = new'} {set = set} {o = o} {n = n} a b) = replace_hunk (part_back set o n old old' a) (part_back set o n new new' b)
+row_from (replaces s) = two_replaces s
 row_from (free s) = two_works s
 row_from (pref_then h) = preference_first h
 row_from (then_pref h) = preference_second h

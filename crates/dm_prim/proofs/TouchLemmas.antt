@@ -8,7 +8,7 @@ use Rattle.dm_tree.specs.Paths.{Path, Apart}
 use Rattle.dm_tree.proofs.Paths.{forward-other, apart_sym}
 use Rattle.dm_prim.specs.Primitives.{Work, Prim, At, Move, ChangePref, inv, inv_all}
 use Rattle.dm_prim.specs.Rectangles.{CellRow, none, next, empty, row}
-use Rattle.dm_prim.specs.Table.{TableRow, first_above, second_above, two_works, work_move, move_work, two_moves, preference_first, preference_second, WorkThenMove, MoveThenMove, MovesOutside}
+use Rattle.dm_prim.specs.Table.{TableRow, first_above, second_above, hunk_replace, replace_hunk, two_replaces, two_works, work_move, move_work, two_moves, preference_first, preference_second, WorkThenMove, MoveThenMove, MovesOutside}
 use Rattle.dm_prim.specs.Commuting.{IsValidPrim, Commutes, ListsCommute}
 use Rattle.std.proofs.lemmas.List.{take_all}
 use Rattle.dm_prim.specs.Prims.{prim_of, prims_of, path_of, IsWork, NamesAPath, MovesNothing}
@@ -255,6 +255,9 @@ record KeptOne (p p' : Prim) : Type 0 where
 row_kept : {p q q' p' : Prim} → TableRow p q q' p' → MovesNothing p → MovesNothing q → ((MovesNothing p' × (paths_of p' ≡ paths_of p)) × (MovesNothing q' × (paths_of q' ≡ paths_of q)))
 row_kept (first_above a e) h k = ((tt, refl), (tt, refl))
 row_kept (second_above a e) h k = ((tt, refl), (tt, refl))
+row_kept (hunk_replace a b) h k = ((tt, refl), (tt, refl))
+row_kept (replace_hunk a b) h k = ((tt, refl), (tt, refl))
+row_kept (two_replaces s) h k = ((tt, refl), (tt, refl))
 row_kept (two_works a) h k = ((tt, refl), (tt, refl))
 row_kept (work_move a e) h k = elim k [ ]
 row_kept (move_work a e) h k = elim h [ ]

@@ -1,8 +1,9 @@
 -- Lines that turn: in one way, and back.
-use Rattle.std.proofs.Common.{◌≡◌, ◌≢◌, ℕ, suc, ◌+◌, ◌-◌, ◌<◌, ◌≤◌, Bool, true, false, List, [], ◌∷◌, ◌++◌, length, Some, Contains, get_or, arith, refl, sym, ap, ◌∙◌, subst, append_assoc, length-append}
+use Rattle.std.proofs.Common.{◌≡◌, ◌≢◌, ℕ, suc, ◌+◌, ◌-◌, ◌<◌, ◌≤◌, Bool, true, false, List, [], ◌∷◌, ◌++◌, length, Some, Contains, get_or, take, drop, slice_index_or, arith, refl, sym, ap, ◌∙◌, subst, append_assoc, length-append}
 use Rattle.std.specs.Prelude.{sum_by}
 use Rattle.std.specs.List.{AllZip}
 use Rattle.std.proofs.lemmas.List.Elements.{AllZip-get_or, Contains-append_left, Contains-append_right}
+use Rattle.std.proofs.lemmas.List.{take_more, drop_more}
 use Rattle.std.proofs.lemmas.List.Sums.{sum_by-append}
 use Rattle.dm_tree.specs.Trees.{Lines}
 use Rattle.dm_tree.specs.Listings.{file_size}
@@ -15,13 +16,15 @@ use Rattle.dm_tokens.specs.Walks.{has, turned}
 use Rattle.dm_tokens.specs.declared.turning.Turned.{Turned}
 use Rattle.dm_tokens.specs.declared.turning.Turned.TheVariants.{Same, Other, Nothing}
 use Rattle.dm_tokens.proofs.PieceLemmas.{has_piece, piece_from}
-use Rattle.dm_tokens.proofs.TurnLemmas.{line_stays, lines_one_answer, lines_turn_back, no_turn, turns_to}
-use Rattle.dm_prim.specs.Primitives.{TurnsLines, most_turned}
+use Rattle.dm_tokens.proofs.TurnLemmas.{line_stays, lines_stay, lines_one_answer, lines_turn_back, no_turn, turns_to}
+use Rattle.dm_prim.specs.Primitives.{TurnsLines}
+use Rattle.dm_prim.specs.Limits.{most_turned}
+use Rattle.dm_prim.specs.Table.{TurnsPart, lines_size, most_passed}
 use Rattle.dm_prim.specs.Applying.{HasNewToken, GrowsTooLarge}
 use Rattle.dm_prim.specs.Turning.{LinesTurnAs, TurnsBy}
 
 -- a text means one set
-one_set : (text : List ℕ) (s s' : ByteSet) → set_of text ≡ Some s → set_of text ≡ Some s' → s ≡ s'
+pub one_set : (text : List ℕ) (s s' : ByteSet) → set_of text ≡ Some s → set_of text ≡ Some s' → s ≡ s'
 one_set text s s' h k = cc
 
 pub turned_one : (set old new : List ℕ) (ls one other : Lines) → TurnsLines set old new ls one → TurnsLines set old new ls other → one ≡ other
@@ -37,9 +40,26 @@ turned_back set old new ls ls' h some = record {
   tokens = tokens_back set old new h.tokens;
   turned = lines_turn_back h.tokens.set old new ls ls' h.tokens.old_token h.tokens.new_token h.turned;
   left = some;
+}
+
+-- lines of a hunk turn back
+pub part_back : (set old new : List ℕ) (ls ls' : Lines) → TurnsPart set old new ls ls' → TurnsPart set new old ls' ls
+part_back set old new ls ls' h = record {
+  tokens = tokens_back set old new h.tokens;
+  turned = lines_turn_back h.tokens.set old new ls ls' h.tokens.old_token h.tokens.new_token h.turned;
   was_small = h.is_small;
   is_small = h.was_small;
 }
+
+-- and stay plain
+pub part_plain : (set old new : List ℕ) (ls ls' : Lines) → TurnsPart set old new ls ls' → ArePlain ls → ArePlain ls'
+part_plain set old new ls ls' h plain = lines_stay h.tokens.set old new ls ls' h.tokens.no_newline h.tokens.new_token plain h.turned
+
+-- they turn in one way
+pub part_one : (set old new : List ℕ) (ls one other : Lines) → TurnsPart set old new ls one → TurnsPart set old new ls other → one ≡ other
+part_one set old new ls one other h k =
+    let same = one_set set h.tokens.set k.tokens.set h.tokens.means k.tokens.means in
+    lines_one_answer h.tokens.set old new ls one other h.turned (subst (λ s. TurnAll s old new ls other) (sym same) k.turned)
 
 -- valid tokens are valid the other way round
 pub tokens_turned : (set old new : List ℕ) → AreTokens (record { set = set; old = old; new = new }) → AreTokens (record { set = set; old = new; new = old })
@@ -57,13 +77,13 @@ no_new_token set old new ls ls' h k =
     let turned = some_turn h.set old new ls ls' h.line (subst (λ s. TurnAll s old new ls ls') (sym same) k.turned) h.among in
     no_turn h.set old new h.line turned.0 h.differ (has_piece h.set h.line new h.there) turned.1
 
--- nor do lines that would be too large
-pub no_growth : (set old new : List ℕ) (ls ls' : Lines) → GrowsTooLarge set old new ls → TurnsLines set old new ls ls' → ⊥
-no_growth set old new ls ls' h k =
+-- lines that grow too large turn to lines that are
+pub grown : (set old new : List ℕ) (ls ls' : Lines) → GrowsTooLarge set old new ls → TurnsLines set old new ls ls' → most_turned < file_size ls'
+grown set old new ls ls' h k =
     let same = one_set set h.set k.tokens.set h.means k.tokens.means in
     let one = lines_one_answer h.set old new ls h.lines ls' h.turned (subst (λ s. TurnAll s old new ls ls') (sym same) k.turned) in
     let size : file_size h.lines ≡ file_size ls' = ap file_size one in
-    omega (arith, size, h.large, k.is_small)
+    omega (arith, size, h.large)
 
 -- lines with the new token don't grow
 pub there_is_no_growth : (set old new : List ℕ) (ls : Lines) → HasNewToken set old new ls → GrowsTooLarge set old new ls → ⊥
@@ -78,6 +98,29 @@ zip_more R [] [] x y h k = (k, tt)
 zip_more R [] (b ∷ ys) x y h k = absurd h
 zip_more R (a ∷ xs) [] x y h k = absurd h
 zip_more R (a ∷ xs) (b ∷ ys) x y h k = (h.0, zip_more R xs ys x y h.1 k)
+
+-- lists that go together: in two parts, both parts of them, us many, and none of something
+pub zip_apart : {X Y : Type 0} (R : X → Y → Type 0) (us bs : List X) (zs : List Y) → AllZip R (us ++ bs) zs → (xs : List Y) × (ys : List Y) × (zs ≡ xs ++ ys) × AllZip R us xs × AllZip R bs ys
+zip_apart R [] bs zs h = ([], zs, refl, tt, h)
+zip_apart R (a ∷ us) bs [] h = absurd h
+zip_apart R (a ∷ us) bs (z ∷ zs) h = let r = zip_apart R us bs zs h.1 in (z ∷ r.0, r.1, ap (λ v. z ∷ v) r.2, (h.0, r.3), r.4)
+
+pub zip_both : {X Y : Type 0} (R : X → Y → Type 0) (us : List X) (xs : List Y) (bs : List X) (ys : List Y) → AllZip R us xs → AllZip R bs ys → AllZip R (us ++ bs) (xs ++ ys)
+zip_both R [] [] bs ys h k = k
+zip_both R [] (x ∷ xs) bs ys h k = absurd h
+zip_both R (a ∷ us) [] bs ys h k = absurd h
+zip_both R (a ∷ us) (x ∷ xs) bs ys h k = (h.0, zip_both R us xs bs ys h.1 k)
+
+pub zip_length : {X Y : Type 0} (R : X → Y → Type 0) (us : List X) (xs : List Y) → AllZip R us xs → length xs ≡ length us
+zip_length R [] [] h = refl
+zip_length R [] (x ∷ xs) h = absurd h
+zip_length R (a ∷ us) [] h = absurd h
+zip_length R (a ∷ us) (x ∷ xs) h = ap suc (zip_length R us xs h.1)
+
+pub zip_left : {X Y : Type 0} (R : X → Y → Type 0) (us : List X) (xs : List Y) → AllZip R us xs → us ≢ [] → xs ≢ []
+zip_left R [] xs h some e = some refl
+zip_left R (a ∷ us) [] h some e = h
+zip_left R (a ∷ us) (x ∷ xs) h some e = cc
 
 -- those before a line, the line, and those after it
 zip_at : {X Y : Type 0} (R : X → Y → Type 0) (done : List X) (x : X) (rest : List X) (zs : List Y) → AllZip R (done ++ x ∷ rest) zs →
@@ -121,9 +164,9 @@ module _ (file done rest was : Lines) (x : List ℕ) (all : done ++ was ≡ file
     turned_plain y plain none token h = line_stays s old new x y none token (plain_line plain) h
 
     -- the turned lines are too large if those up to this one are
-    pub grows_past : (room : ℕ) → ((ys : Lines) → TurnAll s old new done ys → room + (sum_by length ys + length ys) ≡ most_turned + 1) →
-        ((y : List ℕ) → Turns s old new x y → room ≤ length y) → (zs : Lines) → TurnAll s old new file zs → most_turned < file_size zs
-    grows_past room sum past zs h =
+    pub size_past : (most room : ℕ) → ((ys : Lines) → TurnAll s old new done ys → room + (sum_by length ys + length ys) ≡ most) →
+        ((y : List ℕ) → Turns s old new x y → room ≤ length y) → (zs : Lines) → TurnAll s old new file zs → most < sum_by length zs + length zs
+    size_past most room sum past zs h =
         let k = zip_at (Turns s old new) done x rest zs (subst (λ (z : Lines). TurnAll s old new z zs) (sym placed) h) in
         let before = sum k.0 k.4 in
         let line = past k.1 k.5 in
@@ -132,16 +175,20 @@ module _ (file done rest was : Lines) (x : List ℕ) (all : done ++ was ≡ file
         let count : length zs ≡ length k.0 + suc (length k.2) = ap length k.3 ∙ length-append k.0 (k.1 ∷ k.2) in
         omega (arith, before, line, bytes, one, count)
 
+    pub grows_past : (room : ℕ) → ((ys : Lines) → TurnAll s old new done ys → room + (sum_by length ys + length ys) ≡ most_turned + 1) →
+        ((y : List ℕ) → Turns s old new x y → room ≤ length y) → (zs : Lines) → TurnAll s old new file zs → most_turned < file_size zs
+    grows_past room sum past zs h = let k = size_past (most_turned + 1) room sum past zs h in omega (arith, k)
+
 -- no line turns to none
 pub none_left : (s : ByteSet) (old new : List ℕ) (ws : Lines) → TurnAll s old new [] ws → (length ws ≡ 0) × (sum_by length ws ≡ 0)
 none_left s old new [] h = (refl, refl)
 none_left s old new (w ∷ ws) h = absurd h
 
 -- so much room is left behind one line more
-pub less_room : (s : ByteSet) (old new : List ℕ) (done : Lines) (x : List ℕ) (room left : ℕ) →
-    ((ys : Lines) → TurnAll s old new done ys → room + (sum_by length ys + length ys) ≡ most_turned + 1) → ((y : List ℕ) → Turns s old new x y → left + length y ≡ room) → 0 < left →
-    (zs : Lines) → TurnAll s old new (done ++ x ∷ []) zs → (left - 1) + (sum_by length zs + length zs) ≡ most_turned + 1
-less_room s old new done x room left sum line some zs h =
+pub less_room : (s : ByteSet) (old new : List ℕ) (done : Lines) (x : List ℕ) (most room left : ℕ) →
+    ((ys : Lines) → TurnAll s old new done ys → room + (sum_by length ys + length ys) ≡ most) → ((y : List ℕ) → Turns s old new x y → left + length y ≡ room) → 0 < left →
+    (zs : Lines) → TurnAll s old new (done ++ x ∷ []) zs → (left - 1) + (sum_by length zs + length zs) ≡ most
+less_room s old new done x most room left sum line some zs h =
     let k = zip_at (Turns s old new) done x [] zs h in
     let none = none_left s old new k.2 k.6 in
     let before = sum k.0 k.4 in
@@ -193,6 +240,14 @@ module _ (s : ByteSet) (old new : List ℕ) where
           (before.0 ++ y.0 ∷ [], zip_more (Turns s old new) done before.0 x y.0 before.1 y.1),
         )
 
+-- the next line of a list, by its place
+module _ (file : Lines) (i : ℕ) (x : List ℕ) (there : i < length file) (is : x ≡ slice_index_or file i []) where
+  pub next_line : take (i + 1) file ≡ take i file ++ x ∷ []
+  next_line = take_more file i [] there ∙ ap (λ z. take i file ++ z ∷ []) (sym is)
+
+  pub lines_behind : drop i file ≡ x ∷ drop (i + 1) file
+  lines_behind = drop_more file i [] there ∙ ap (λ z. z ∷ drop (i + 1) file) (sym is)
+
 -- tokens with the set that was read from its text
 module _ (w : TokenWords) (s : ByteSet) (tokens : AreTokens w) (read : set_of w.set ≡ Some s) where
   set_is : tokens.of_set.set ≡ s
@@ -211,12 +266,32 @@ module _ (w : TokenWords) (s : ByteSet) (tokens : AreTokens w) (read : set_of w.
 
   pub turned_by : (ls ls' : Lines) → TurnAll s w.old w.new ls ls' → 0 < length ls → file_size ls ≤ most_turned → file_size ls' ≤ most_turned → TurnsBy w ls ls'
   turned_by ls ls' h some was is = record {
-    tokens = record { set = s; means = read; no_newline = no_newline_in; old_token = subst (λ z. IsToken z w.old) set_is tokens.of_set.old_token; new_token = new_is_token };
-    turned = h;
-    left = some_left ls ls' h some;
+    turns = record {
+      tokens = record { set = s; means = read; no_newline = no_newline_in; old_token = subst (λ z. IsToken z w.old) set_is tokens.of_set.old_token; new_token = new_is_token };
+      turned = h;
+      left = some_left ls ls' h some;
+    };
     was_small = was;
     is_small = is;
   }
+
+  pub part_by : (ls ls' : Lines) → TurnAll s w.old w.new ls ls' → lines_size ls ≤ most_passed → lines_size ls' ≤ most_passed → TurnsPart w.set w.old w.new ls ls'
+  part_by ls ls' h was is = record {
+    tokens = record { set = s; means = read; no_newline = no_newline_in; old_token = subst (λ z. IsToken z w.old) set_is tokens.of_set.old_token; new_token = new_is_token };
+    turned = h;
+    was_small = was;
+    is_small = is;
+  }
+
+  -- so they turn where a part does
+  pub part_turned : (ls ls' : Lines) → TurnsPart w.set w.old w.new ls ls' → TurnAll s w.old w.new ls ls'
+  part_turned ls ls' h = subst (λ z. TurnAll z w.old w.new ls ls') (one_set w.set h.tokens.set s h.tokens.means read) h.turned
+
+  -- lines in one of which the new token stands turn to none
+  pub no_part : (ls : Lines) → LinesTurnAs s w.old w.new ls Nothing → (ls' : Lines) → TurnsPart w.set w.old w.new ls ls' → ⊥
+  no_part ls h ls' k =
+      let turned = some_turn s w.old w.new ls ls' h.1.0 (part_turned ls ls' k) h.1.1 in
+      no_turn s w.old w.new h.1.0 turned.0 h.0 (has_piece s h.1.0 w.new h.1.2) turned.1
 
   pub token_there : (ls : Lines) → LinesTurnAs s w.old w.new ls Nothing → HasNewToken w.set w.old w.new ls
   token_there ls h = record { set = s; means = read; differ = h.0; line = h.1.0; among = h.1.1; there = h.1.2 }

@@ -11,12 +11,15 @@ use Rattle.dm_tokens.specs.Turning.{TurnAll}
 use Rattle.dm_tokens.specs.Sets.{ByteSet, set_of}
 use Rattle.dm_tokens.specs.Pieces.{HasPiece}
 use Rattle.dm_prim.specs.InTurn.{InTurn}
-use Rattle.dm_prim.specs.Primitives.{AddFile, RmFile, AddDir, RmDir, Hunk, Binary, Replace, Prim, At, Move, ChangePref, Applies, TurnsLines, most_turned}
+use Rattle.dm_prim.specs.Primitives.{AddFile, RmFile, AddDir, RmDir, Hunk, Binary, Replace, Prim, At, Move, ChangePref, Applies, TurnsLines}
+use Rattle.dm_prim.specs.Limits.{most_turned, TurnsLarge, IsPastLimits}
 
--- when a fault may come: the primitive does not apply, or it does and what it makes is too deep; memory may run out at any time
+-- when a fault may come: the primitive does not apply, or it does and what it makes is too deep; where a file is too large, a replace in it may
+-- apply all the same; memory may run out at any time
 abbrev pub AdmitsFault : Prim → Map → TreeFault → Type 0
 AdmitsFault p m NoMemory = Unit {0}
 AdmitsFault p m TooDeep = (m' : Map) × Applies p m m' × Deep m'
+AdmitsFault p m TooLarge = (m' : Map) → Applies p m m' → TurnsLarge p m m'
 AdmitsFault p m e = (m' : Map) → Applies p m m' → ⊥
 
 -- the tree t became t' as the primitive says; after a fault it is as it was
@@ -50,15 +53,21 @@ pub record GrowsTooLarge (set_text old new : List ℕ) (ls : Lines) : Type 0 whe
   pub turned : TurnAll set old new ls lines
   pub large : most_turned < file_size lines
 
+-- the lines turn, and aren't too large, before and after
+pub record TurnsWithin (set_text old new : List ℕ) (ls ls' : Lines) : Type 0 where
+  pub turns : TurnsLines set_text old new ls ls'
+  pub was_small : file_size ls ≤ most_turned
+  pub is_small : file_size ls' ≤ most_turned
+
 -- what a replace at p may answer: the file may not be too large, no line may have the new token unless it is the old one, and the turned file may
 -- not be too large
 abbrev pub ReplaceAnswers : {T : Type 0} → Map → Path → List ℕ → List ℕ → List ℕ → Result T TreeFault → Type 0
-ReplaceAnswers m p set old new (Ok x) = (ls : Lines) × (ls' : Lines) × (m p ≡ Some (File ls)) × TurnsLines set old new ls ls'
+ReplaceAnswers m p set old new (Ok x) = (ls : Lines) × (ls' : Lines) × (m p ≡ Some (File ls)) × TurnsWithin set old new ls ls'
 ReplaceAnswers m p set old new (Err Missing) = m p ≡ None
 ReplaceAnswers m p set old new (Err NotFile) = m p ≡ Some Dir
 ReplaceAnswers m p set old new (Err TokenThere) = (ls : Lines) × (m p ≡ Some (File ls)) × (file_size ls ≤ most_turned) × HasNewToken set old new ls
 ReplaceAnswers m p set old new (Err TooLarge) = (ls : Lines) × (m p ≡ Some (File ls)) × ((most_turned < file_size ls) ⊎ ((file_size ls ≤ most_turned) × GrowsTooLarge set old new ls))
-ReplaceAnswers m p set old new (Err NoMemory) = (ls : Lines) × (ls' : Lines) × (m p ≡ Some (File ls)) × TurnsLines set old new ls ls'
+ReplaceAnswers m p set old new (Err NoMemory) = (ls : Lines) × (ls' : Lines) × (m p ≡ Some (File ls)) × TurnsWithin set old new ls ls'
 ReplaceAnswers m p set old new (Err e) = ⊥
 
 -- which fault comes, by what stood there before: that of the tree's call which the primitive is; a change of a preference has none
@@ -74,11 +83,11 @@ FaultsAs (Move a b) m r = RenameAnswers m a b r
 FaultsAs (ChangePref name old new) m (Ok x) = Unit {0}
 FaultsAs (ChangePref name old new) m (Err e) = ⊥
 
--- a primitive makes one tree of another, in which no path has too many names
+-- a primitive makes one tree of another, past no limit
 abbrev pub AppliesToTree : Prim → Tree → Tree → Type 0
-AppliesToTree p t t' = Applies p (map.get t) (map.get t') × (Deep (map.get t') → ⊥)
+AppliesToTree p t t' = Applies p (map.get t) (map.get t') × (IsPastLimits p (map.get t) (map.get t') → ⊥)
 
--- the tree t became t' by all of ps in turn, no tree on the way being too deep; after a fault at place k, by the first k of them, and the next is the first with a fault, which is this one
+-- the tree t became t' by all of ps in turn, none of which went past a limit; after a fault at place k, by the first k of them, and the next is the first with a fault, which is this one
 abbrev pub AppliedAll : {T : Type 0} → List Prim → Tree → Tree → Result T (ℕ × TreeFault) → Type 0
 AppliedAll ps t t' (Ok x) = InTurn AppliesToTree ps t t'
 AppliedAll {T} ps t t' (Err r) = (p : Prim) × (rest : List Prim) × (ps ≡ take r.0 ps ++ p ∷ rest) × InTurn AppliesToTree (take r.0 ps) t t' ×

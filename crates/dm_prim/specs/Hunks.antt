@@ -1,9 +1,10 @@
--- A hunk as contracts see it, and the lines of two hunks of one file that changed places.
+-- A hunk as contracts see it, with its lines turned, and the lines of two hunks of one file that changed places.
 use Rattle.std.specs.Prelude.{◌≡◌, ℕ, ◌+◌, ◌<◌, ◌⊎◌, length, Result, Ok, Err}
 use Rattle.dm_tree.specs.Paths.{Path}
 use Rattle.dm_tree.specs.Trees.{Lines}
+use Rattle.dm_tokens.specs.Validity.{TokenWords}
 use Rattle.dm_prim.specs.Primitives.{Prim, At, Hunk}
-use Rattle.dm_prim.specs.Table.{LiesAbove}
+use Rattle.dm_prim.specs.Table.{LiesAbove, TurnsPart}
 use Rattle.dm_prim.specs.Commuting.{IsValidPrim}
 use Rattle.dm_prim.specs.declared.hunk.HunkFault.{HunkFault}
 use Rattle.dm_prim.specs.declared.hunk.HunkFault.TheVariants.{BadLine, NoChange}
@@ -18,6 +19,13 @@ pub record HunkParts : Type 0 where
 -- the primitive that a hunk is
 abbrev pub hunk_of : HunkParts → Prim
 hunk_of h = At h.path (Hunk h.line h.old h.new)
+
+-- with its lines turned by these words, a hunk becomes another one
+pub record TurnsHunk (w : TokenWords) (h h' : HunkParts) : Type 0 where
+  pub path : h'.path ≡ h.path
+  pub line : h'.line ≡ h.line
+  pub old : TurnsPart w.set w.old w.new h.old h'.old
+  pub new : TurnsPart w.set w.old w.new h.new h'.new
 
 -- a hunk is what it was made of, and valid; at line 0, or with neither old nor new lines, it is refused
 abbrev pub MakesHunk : HunkParts → Result HunkParts HunkFault → Type 0

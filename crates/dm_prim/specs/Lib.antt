@@ -1,6 +1,7 @@
 pub mod InTurn
 pub mod Rectangles
 pub mod Primitives
+pub mod Limits
 pub mod Table
 pub mod Commuting
 pub mod Laws

@@ -4,6 +4,7 @@ use Rattle.dm_tree.specs.Paths.{Path}
 use Rattle.dm_tree.specs.Trees.{Map, IsLawful, Deep}
 use Rattle.dm_tree.specs.Reach.{IsPart, Puts}
 use Rattle.dm_prim.specs.Primitives.{Prim, Applies}
+use Rattle.dm_prim.specs.Limits.{TurnsLarge}
 use Rattle.dm_prim.specs.Parts.{NamesUnder, IsSameOutside, IsSameBut}
 
 -- the part of a lawful map is lawful
@@ -23,6 +24,10 @@ ChangesUnderPaths = (ps : List Path) (p : Prim) (s t : Map) → NamesUnder ps p 
 -- then the one is too deep exactly where its part is, if what it was made from wasn't
 abbrev pub PartIsAsDeep : Type 0
 PartIsAsDeep = (ps : List Path) (s t v : Map) → (Deep s → ⊥) → IsSameOutside ps s t → IsPart ps t v → Deep t ↔ Deep v
+
+-- a replace's file is too large exactly where it is in the part
+abbrev pub PartIsAsLarge : Type 0
+PartIsAsLarge = (ps : List Path) (p : Prim) (s t u v : Map) → NamesUnder ps p → IsPart ps s u → IsPart ps t v → TurnsLarge p s t ↔ TurnsLarge p u v
 
 -- the whole after is the whole before with what the part after has at and under these paths
 abbrev pub PartIsPutBack : Type 0

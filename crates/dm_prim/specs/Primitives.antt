@@ -1,9 +1,8 @@
 -- Primitive patches, their inverses, and what each does to a tree (Darcs.Patch.Prim.V1; this profile's own: `rmfile` wants an empty file, `rmdir` an empty directory, and a hunk, a binary or a replace leaves at least one line).
-use Rattle.std.specs.Prelude.{◌≡◌, ◌≢◌, ◌≤◌, ℕ, List, [], ◌∷◌, ◌++◌, Option, Some, None}
+use Rattle.std.specs.Prelude.{◌≡◌, ◌≢◌, ℕ, List, [], ◌∷◌, ◌++◌, Option, Some, None}
 use Rattle.dm_tree.specs.Paths.{Name, Path}
 use Rattle.dm_tree.specs.Trees.{Lines, Entry, Dir, File, Map, HasParent, IsLawful, empty_file}
 use Rattle.dm_tree.specs.Changes.{MayMove, Renamed, ReplacesLines}
-use Rattle.dm_tree.specs.Listings.{file_size}
 use Rattle.dm_tokens.specs.Turning.{TurnAll}
 use Rattle.dm_tokens.specs.Validity.{AreOfSet}
 use Rattle.dm_prim.specs.InTurn.{InTurn}
@@ -46,17 +45,11 @@ abbrev pub inv_all : List Prim → List Prim
 inv_all [] = []
 inv_all (p ∷ ps) = inv_all ps ++ inv p ∷ []
 
--- the most bytes of a file in which tokens are replaced
-abbrev pub most_turned : ℕ
-most_turned = 1048576
-
--- each line turns, by the set that the text means, of which both are tokens; a line is left; and the file isn't too large, before and after
+-- each line turns, by the set that the text means, of which both are tokens; and a line is left
 pub record TurnsLines (set_text old new : List ℕ) (ls ls' : Lines) : Type 0 where
   pub tokens : AreOfSet set_text old new
   pub turned : TurnAll tokens.set old new ls ls'
   pub left : ls' ≢ []
-  pub was_small : file_size ls ≤ most_turned
-  pub is_small : file_size ls' ≤ most_turned
 
 -- what work finds at its path, and what it leaves there
 abbrev pub Changes : Work → Option Entry → Option Entry → Type 0

@@ -8,6 +8,10 @@ pub record ReplaceParts : Type 0 where
   pub path : Path
   pub words : TokenWords
 
+-- the words for the way back
+abbrev pub words_back : TokenWords → TokenWords
+words_back w = record w { old = w.new; new = w.old }
+
 -- the primitive that a replace is
 abbrev pub replace_of : ReplaceParts → Prim
 replace_of r = At r.path (Replace r.words.set r.words.old r.words.new)

@@ -1,8 +1,10 @@
 -- When two primitives change places: this project's table, made after Darcs.Patch.Prim.V1.Commute, row by row.
 -- File work is adding or removing a file, a hunk, a binary and a replace; directory work is adding or removing a directory.
-use Rattle.std.specs.Prelude.{◌≡◌, ◌≢◌, ℕ, ◌+◌, ◌<◌, List, length, ◌⊎◌}
+use Rattle.std.specs.Prelude.{◌≡◌, ◌≢◌, ℕ, ◌+◌, ◌<◌, ◌≤◌, List, length, sum_by, ◌⊎◌}
 use Rattle.dm_tree.specs.Paths.{Path, Inside, Apart, forward}
 use Rattle.dm_tree.specs.Trees.{Lines}
+use Rattle.dm_tokens.specs.Turning.{TurnAll}
+use Rattle.dm_tokens.specs.Validity.{AreOfSet}
 use Rattle.dm_prim.specs.Primitives.{Work, AddFile, RmFile, AddDir, RmDir, Hunk, Binary, Replace, Prim, At, Move, ChangePref}
 
 -- directory work; all other work is file work
@@ -34,6 +36,15 @@ IsHunk (Hunk l old new) = Unit {0}
 IsHunk (Binary old new) = ⊥
 IsHunk (Replace set old new) = ⊥
 
+abbrev pub IsReplace : Work → Type 0
+IsReplace AddFile = ⊥
+IsReplace RmFile = ⊥
+IsReplace AddDir = ⊥
+IsReplace RmDir = ⊥
+IsReplace (Hunk l old new) = ⊥
+IsReplace (Binary old new) = ⊥
+IsReplace (Replace set old new) = Unit {0}
+
 -- of two hunks with o1 and o2 old lines, n1 and n2 new ones, the one that ends before line e lies above line m:
 -- a line stands between them, or they touch and none of the four counts is zero
 abbrev pub LiesAbove : ℕ → ℕ → ℕ → ℕ → ℕ → ℕ → Type 0
@@ -52,6 +63,28 @@ pub record WorkThenMove (f : Path) (w : Work) (a b : Path) : Type 0 where
   pub a_not_in_f : Inside a f → ⊥
   pub b_not_in_f : Inside b f → ⊥
   pub keeps_at_a : f ≡ a → KeepsFile w
+
+-- the most bytes of the old lines of a hunk that passes a replace, and of its new lines, before and after
+abbrev pub most_passed : ℕ
+most_passed = 65536
+
+-- the bytes of lines, each of which has one more at its end
+abbrev pub lines_size : Lines → ℕ
+lines_size ls = sum_by length ls + length ls
+
+-- lines of a hunk turn, by the set that the text means, of which both are tokens, and they aren't too large, before and after
+pub record TurnsPart (set_text old new : List ℕ) (ls ls' : Lines) : Type 0 where
+  pub tokens : AreOfSet set_text old new
+  pub turned : TurnAll tokens.set old new ls ls'
+  pub was_small : lines_size ls ≤ most_passed
+  pub is_small : lines_size ls' ≤ most_passed
+
+-- two replaces have no token in common
+pub record ShareNoToken (old1 new1 old2 new2 : List ℕ) : Type 0 where
+  pub olds : old1 ≢ old2
+  pub old_new : old1 ≢ new2
+  pub new_old : new1 ≢ old2
+  pub news : new1 ≢ new2
 
 -- it is no move one of whose paths is, or contains, the other
 abbrev pub MovesOutside : Prim → Type 0
@@ -83,6 +116,15 @@ pub data TableRow : Prim → Prim → Prim → Prim → Type 0 where
   second_above : {f : Path} {l1 l2 l1' : ℕ} {o1 n1 o2 n2 : Lines} →
       LiesAbove (l2 + length o2) l1 (length o1) (length n1) (length o2) (length n2) → l1' + length o2 ≡ l1 + length n2 →
       TableRow (At f (Hunk l1 o1 n1)) (At f (Hunk l2 o2 n2)) (At f (Hunk l2 o2 n2)) (At f (Hunk l1' o1 n1))
+  -- a hunk, then a replace of its file: the replace as it was, the hunk with its lines turned
+  hunk_replace : {f : Path} {l : ℕ} {old new old' new' : Lines} {set o n : List ℕ} → TurnsPart set o n old old' → TurnsPart set o n new new' →
+      TableRow (At f (Hunk l old new)) (At f (Replace set o n)) (At f (Replace set o n)) (At f (Hunk l old' new'))
+  -- a replace, then a hunk of its file: the hunk with its lines turned back, the replace as it was
+  replace_hunk : {f : Path} {l : ℕ} {old new old' new' : Lines} {set o n : List ℕ} → TurnsPart set n o old old' → TurnsPart set n o new new' →
+      TableRow (At f (Replace set o n)) (At f (Hunk l old new)) (At f (Hunk l old' new')) (At f (Replace set o n))
+  -- two replaces of one file, by the same set: both as they were
+  two_replaces : {f : Path} {set o1 n1 o2 n2 : List ℕ} → ShareNoToken o1 n1 o2 n2 →
+      TableRow (At f (Replace set o1 n1)) (At f (Replace set o2 n2)) (At f (Replace set o2 n2)) (At f (Replace set o1 n1))
   -- work on f, then work on g: both as they were
   two_works : {f g : Path} {w v : Work} → WorkAndWork f w g v →
       TableRow (At f w) (At g v) (At g v) (At f w)

@@ -10,12 +10,12 @@ use Rattle.dm_tokens.specs.Turning.{TurnAll}
 use Rattle.dm_tokens.specs.Validity.{TokenWords}
 use Rattle.dm_tokens.specs.declared.turning.Turned.{Turned}
 use Rattle.dm_tokens.specs.declared.turning.Turned.TheVariants.{Same, Other, Nothing}
-use Rattle.dm_prim.specs.Primitives.{TurnsLines, most_turned}
-use Rattle.dm_prim.specs.Applying.{HasNewToken, GrowsTooLarge}
+use Rattle.dm_prim.specs.Limits.{most_turned}
+use Rattle.dm_prim.specs.Applying.{HasNewToken, GrowsTooLarge, TurnsWithin}
 
--- lines turn to others by these words
+-- lines turn to others by these words, and neither are too large
 abbrev pub TurnsBy : TokenWords → Lines → Lines → Type 0
-TurnsBy w ls ls' = TurnsLines w.set w.old w.new ls ls'
+TurnsBy w ls ls' = TurnsWithin w.set w.old w.new ls ls'
 
 -- what lines turn to: themselves; others, since the old token stands in one of them; nothing, since the new token does
 abbrev pub LinesTurnAs : ByteSet → List ℕ → List ℕ → Lines → Turned → Type 0

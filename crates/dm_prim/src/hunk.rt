@@ -1,9 +1,11 @@
 //! Hunks: at a line of a file, old lines are replaced by new.
-ghost use Rattle.std.specs.Prelude.{◌≡◌, IfOk, length};
+ghost use Rattle.std.specs.Prelude.{◌≡◌, IfOk, IfSome, MatchOption, length};
 ghost use Rattle.dm_prim.specs.Commuting.{IsValidPrim, IsLineNumber};
-ghost use Rattle.dm_prim.specs.Hunks.{MakesHunk, hunk_of};
+ghost use Rattle.dm_prim.specs.Hunks.{HunkParts, MakesHunk, TurnsHunk, hunk_of};
 
+use crate::passing::turn_part;
 use crate::places::Span;
+use dm_tokens::Tokens;
 use dm_tree::{Lines, Path};
 use std::alloc::{AllocError, Allocator};
 use std::marker::Model;
@@ -49,6 +51,38 @@ pub enum HunkFault {
     /// There are neither old nor new lines.
     #[error("there are neither old nor new lines")]
     NoChange,
+}
+
+impl<A: Allocator + Copy> Hunk<A> {
+    /// The same change with its lines turned; none where one of them doesn't turn, or they are too large. Only lines that change take memory.
+    pub(crate) fn turned<B: Allocator>(
+        self,
+        alloc: A,
+        tokens: &Tokens<B>,
+    ) -> Result<Option<Hunk<A>>, AllocError>
+        ensures turned { IfOk result (λ answer. MatchOption answer ((h : HunkParts) → TurnsHunk tokens.now self h → ⊥) (TurnsHunk tokens.now self)) }
+        ensures valid { IfOk result (λ answer. IfSome answer (λ h. IsValidPrim (hunk_of h))) }
+        ensures was_valid { IsValidPrim (hunk_of self) }
+    {
+        let Hunk {
+            path,
+            line,
+            old,
+            new,
+        } = self;
+        let Some(old) = turn_part(alloc, old, tokens)? else {
+            return Ok(None);
+        };
+        let Some(new) = turn_part(alloc, new, tokens)? else {
+            return Ok(None);
+        };
+        Ok(Some(Hunk {
+            path,
+            line,
+            old,
+            new,
+        }))
+    }
 }
 
 impl<A: Allocator> Hunk<A> {

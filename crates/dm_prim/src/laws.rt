@@ -2,7 +2,7 @@
 //! Each call does nothing; whoever calls it knows the law from there on.
 ghost use Rattle.dm_prim.specs.Laws.{CommutedPairsEndAlike, PairsCommuteBack, PairsCommutePastAnInverse, CommutedListsEndAlike, ListsCommuteBack, ListsCommutePastAnInverse, RectanglesTurn, InversesLeadBack, ListInversesLeadBack, OneWayToApply, OneWayToCommute, OneWayToCommuteLists, ApplyingHasOneAnswer, ApplyingAListHasOneAnswer, HunkHasOneAnswer, BinaryHasOneAnswer, PreferenceHasOneAnswer};
 ghost use Rattle.dm_prim.specs.Touch.{InversesTouchTheSame};
-ghost use Rattle.dm_prim.specs.PartLaws.{AppliesToPart, ChangesUnderPaths, PartIsAsDeep, PartIsLawful, PartIsPutBack, PutIsOne};
+ghost use Rattle.dm_prim.specs.PartLaws.{AppliesToPart, ChangesUnderPaths, PartIsAsDeep, PartIsAsLarge, PartIsLawful, PartIsPutBack, PutIsOne};
 
 /// Every lawful map on which two primitives apply in turn has the same end by those that they
 /// commute to.
@@ -116,6 +116,11 @@ pub fn changes_are_under_paths()
 /// A map is as deep as its part.
 pub fn a_part_is_as_deep()
     ensures { PartIsAsDeep }
+{}
+
+/// A replace's file is as large in a part.
+pub fn a_part_is_as_large()
+    ensures { PartIsAsLarge }
 {}
 
 /// What comes of a part can be put back.

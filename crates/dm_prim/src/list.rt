@@ -23,7 +23,7 @@ pub fn commute_lists<A: Allocator, B: Allocator, C: Allocator + Copy>(
 }
 
 /// As `commute_lists`, of lists that are given up, in as many steps as the product of their
-/// lengths. What does not change is moved: only a path that a move changes takes memory.
+/// lengths. What does not change is moved: only a path that a move changes, and lines that a replace changes, take memory.
 pub fn commute_lists_owned<A: Allocator + Copy>(
     alloc: A,
     xs: Vec<Primitive<A>, A>,

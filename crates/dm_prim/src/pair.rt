@@ -3,14 +3,17 @@ ghost use Rattle.std.specs.Prelude.{◌≡◌, ◌↔◌, ◌<◌, ◌⊎◌, �
 ghost use Rattle.dm_tree.specs.Limits.{most_names};
 ghost use Rattle.dm_tree.specs.Paths.{Apart, forward};
 ghost use Rattle.dm_prim.specs.Primitives.{Prim, At, Move};
-ghost use Rattle.dm_prim.specs.Table.{LiesAbove, WorkAndWork, WorkThenMove, MoveThenMove, MovesOutside};
+ghost use Rattle.dm_prim.specs.Table.{LiesAbove, ShareNoToken, WorkAndWork, WorkThenMove, MoveThenMove, MovesOutside};
 ghost use Rattle.dm_prim.specs.Commuting.{Commutes, IsValidPrim, IsLineNumber};
 ghost use Rattle.dm_prim.specs.Hunks.{ChangePlaces, hunk_of};
+ghost use Rattle.dm_prim.specs.Replaces.{replace_of};
 ghost use Rattle.dm_prim.specs.Prims.{prim_of, path_of, work_of, IsWork, NamesAPath, CommutesTo, PairLawsHold};
 
 use crate::hunk::Hunk;
 use crate::places::places;
 use crate::primitive::Primitive;
+use crate::replace::Replace;
+use dm_tokens::Tokens;
 use dm_tree::Path;
 use std::alloc::{AllocError, Allocator};
 
@@ -30,7 +33,7 @@ pub fn commute<A: Allocator, B: Allocator, C: Allocator + Copy>(
 }
 
 /// As `commute`, of primitives that are given up. What does not change is moved: only a path that a
-/// move changes takes memory.
+/// move changes, and lines that a replace changes, take memory.
 pub(crate) fn commute_owned<A: Allocator + Copy>(
     alloc: A,
     p: Primitive<A>,
@@ -48,7 +51,7 @@ pub(crate) fn commute_owned<A: Allocator + Copy>(
         },
         Err(first) => match q.into_move() {
             Ok((a, b)) => commute_work_move(alloc, first, a, b),
-            Err(second) => Ok(commute_works(first, second)),
+            Err(second) => commute_works(alloc, first, second),
         },
     }
 }
@@ -104,36 +107,156 @@ pub(crate) fn moves_outside<A: Allocator>(prim: &Primitive<A>) -> bool
 }
 
 /// Work on two paths, or on one.
-fn commute_works<A: Allocator>(
+fn commute_works<A: Allocator + Copy>(
+    alloc: A,
     p: Primitive<A>,
     q: Primitive<A>,
-) -> Option<(Primitive<A>, Primitive<A>)>
+) -> Result<Option<(Primitive<A>, Primitive<A>)>, AllocError>
     requires first { IsWork (prim_of p) }
     requires second { IsWork (prim_of q) }
-    ensures { CommutesTo (prim_of p) (prim_of q) result }
+    ensures { IfOk result (CommutesTo (prim_of p) (prim_of q)) }
 {
     if p.path().same(q.path()) {
-        return commute_at_one_path(p, q);
+        return commute_at_one_path(alloc, p, q);
     }
     p.tells_valid();
     q.tells_valid();
     let change = may_change_places(&p, &q);
-    swapped(p, q, change)
+    Ok(swapped(p, q, change))
 }
 
-/// Work at one path: of it only hunks commute.
-fn commute_at_one_path<A: Allocator>(
+/// Work at one path: of it only hunks and replaces commute.
+fn commute_at_one_path<A: Allocator + Copy>(
+    alloc: A,
     p: Primitive<A>,
     q: Primitive<A>,
-) -> Option<(Primitive<A>, Primitive<A>)>
+) -> Result<Option<(Primitive<A>, Primitive<A>)>, AllocError>
     requires first { IsWork (prim_of p) }
     requires second { IsWork (prim_of q) }
     requires one_path { path_of (prim_of p) ≡ path_of (prim_of q) }
-    ensures { CommutesTo (prim_of p) (prim_of q) result }
+    ensures { IfOk result (CommutesTo (prim_of p) (prim_of q)) }
 {
-    let first = p.into_hunk()?;
-    let second = q.into_hunk()?;
-    commute_hunks(first, second)
+    match p.into_hunk() {
+        Ok(hunk) => commute_hunk(alloc, hunk, q),
+        Err(other) => {
+            let Some(replace) = other.into_replace() else {
+                return Ok(None);
+            };
+            commute_replace(alloc, replace, q)
+        }
+    }
+}
+
+/// A hunk, then work on its file.
+fn commute_hunk<A: Allocator + Copy>(
+    alloc: A,
+    hunk: Hunk<A>,
+    q: Primitive<A>,
+) -> Result<Option<(Primitive<A>, Primitive<A>)>, AllocError>
+    requires second { IsWork (prim_of q) }
+    requires one_path { hunk.path ≡ path_of (prim_of q) }
+    ensures { IfOk result (CommutesTo (hunk_of hunk) (prim_of q)) }
+{
+    match q.into_hunk() {
+        Ok(second) => Ok(commute_hunks(hunk, second)),
+        Err(other) => {
+            let Some(replace) = other.into_replace() else {
+                return Ok(None);
+            };
+            commute_hunk_replace(alloc, hunk, replace)
+        }
+    }
+}
+
+/// A replace, then work on its file.
+fn commute_replace<A: Allocator + Copy>(
+    alloc: A,
+    replace: Replace<A>,
+    q: Primitive<A>,
+) -> Result<Option<(Primitive<A>, Primitive<A>)>, AllocError>
+    requires second { IsWork (prim_of q) }
+    requires one_path { replace.path ≡ path_of (prim_of q) }
+    ensures { IfOk result (CommutesTo (replace_of replace) (prim_of q)) }
+{
+    match q.into_hunk() {
+        Ok(hunk) => commute_replace_hunk(alloc, replace, hunk),
+        Err(other) => {
+            let Some(second) = other.into_replace() else {
+                return Ok(None);
+            };
+            Ok(commute_replaces(replace, second))
+        }
+    }
+}
+
+/// A hunk, then a replace of its file: the replace as it was, the hunk with its lines turned.
+fn commute_hunk_replace<A: Allocator + Copy>(
+    alloc: A,
+    hunk: Hunk<A>,
+    replace: Replace<A>,
+) -> Result<Option<(Primitive<A>, Primitive<A>)>, AllocError>
+    requires { hunk.path ≡ replace.path }
+    ensures { IfOk result (CommutesTo (hunk_of hunk) (replace_of replace)) }
+{
+    replace.tells_valid();
+    let Some(turned) = hunk.turned(alloc, replace.tokens())? else {
+        return Ok(None);
+    };
+    Ok(Some((Primitive::Replace(replace), Primitive::Hunk(turned))))
+}
+
+/// A replace, then a hunk of its file: the hunk with its lines turned back, the replace as it was.
+fn commute_replace_hunk<A: Allocator + Copy>(
+    alloc: A,
+    replace: Replace<A>,
+    hunk: Hunk<A>,
+) -> Result<Option<(Primitive<A>, Primitive<A>)>, AllocError>
+    requires { replace.path ≡ hunk.path }
+    ensures { IfOk result (CommutesTo (replace_of replace) (hunk_of hunk)) }
+{
+    replace.tells_valid();
+    let back = replace.inverse();
+    let Some(turned) = hunk.turned(alloc, back.tokens())? else {
+        return Ok(None);
+    };
+    Ok(Some((Primitive::Hunk(turned), Primitive::Replace(back.inverse()))))
+}
+
+/// Two replaces of one file: both as they were, if they are of one set and have no token in common.
+fn commute_replaces<A: Allocator>(
+    first: Replace<A>,
+    second: Replace<A>,
+) -> Option<(Primitive<A>, Primitive<A>)>
+    requires { first.path ≡ second.path }
+    ensures { CommutesTo (replace_of first) (replace_of second) result }
+{
+    first.tells_valid();
+    second.tells_valid();
+    let change = are_apart_tokens(first.tokens(), second.tokens());
+    swapped(
+        Primitive::Replace(first),
+        Primitive::Replace(second),
+        change,
+    )
+}
+
+/// Whether tokens are of one set, and none of the first is one of the second.
+fn are_apart_tokens<A: Allocator>(a: &Tokens<A>, b: &Tokens<A>) -> bool
+    ensures { IsTrue result ↔ (a.now.set ≡ b.now.set) × ShareNoToken a.now.old a.now.new b.now.old b.now.new }
+{
+    if a.set_text() != b.set_text() {
+        return false;
+    }
+    if a.old() == b.old() {
+        return false;
+    }
+    if a.old() == b.new_token() {
+        return false;
+    }
+    if a.new_token() == b.old() {
+        return false;
+    }
+    a.new_token() != b.new_token()
 }
 
 /// Hunks of one file: both keep their lines, and one of them may get another place.

@@ -1,9 +1,10 @@
 //! Primitive patches, over any allocator.
 ghost use Rattle.std.specs.Prelude.{◌≡◌, ◌↔◌, IfOk, IsTrue, MatchOption, MatchResult};
 ghost use Rattle.dm_prim.specs.Primitives as primitives;
-ghost use Rattle.dm_prim.specs.Table.{IsDirectoryWork, IsHunk, KeepsFile};
+ghost use Rattle.dm_prim.specs.Table.{IsDirectoryWork, IsHunk, IsReplace, KeepsFile};
 ghost use Rattle.dm_prim.specs.Commuting.{IsValidPrim};
 ghost use Rattle.dm_prim.specs.Hunks.{hunk_of};
+ghost use Rattle.dm_prim.specs.Replaces.{replace_of};
 ghost use Rattle.dm_prim.specs.Prims.{prim_of, path_of, work_of, IsWork, NamesAPath, MovesNothing};
 
 use crate::binary::Binary;
@@ -232,11 +233,30 @@ impl<A: Allocator> Primitive<A> {
         }
     }
 
-    /// The hunk, where it is one.
-    pub(crate) fn into_hunk(self) -> Option<Hunk<A>>
+    /// The hunk, where it is one; else it comes back.
+    pub(crate) fn into_hunk(self) -> Result<Hunk<A>, Primitive<A>>
+        ensures { MatchResult result
+            (λ hunk. prim_of self ≡ hunk_of hunk)
+            (λ other. (prim_of other ≡ prim_of self) × (IsHunk (work_of (prim_of self)) → ⊥)) }
+    {
+        match self {
+            Primitive::AddFile(path) => Err(Primitive::AddFile(path)),
+            Primitive::RmFile(path) => Err(Primitive::RmFile(path)),
+            Primitive::AddDir(path) => Err(Primitive::AddDir(path)),
+            Primitive::RmDir(path) => Err(Primitive::RmDir(path)),
+            Primitive::Move(from, to) => Err(Primitive::Move(from, to)),
+            Primitive::Hunk(hunk) => Ok(hunk),
+            Primitive::Binary(binary) => Err(Primitive::Binary(binary)),
+            Primitive::Replace(replace) => Err(Primitive::Replace(replace)),
+            Primitive::ChangePref(change) => Err(Primitive::ChangePref(change)),
+        }
+    }
+
+    /// The replace, where it is one.
+    pub(crate) fn into_replace(self) -> Option<Replace<A>>
         ensures { MatchOption result
-            (IsHunk (work_of (prim_of self)) → ⊥)
-            (λ hunk. prim_of self ≡ hunk_of hunk) }
+            (IsReplace (work_of (prim_of self)) → ⊥)
+            (λ replace. prim_of self ≡ replace_of replace) }
     {
         match self {
             Primitive::AddFile(_path) => None,
@@ -244,9 +264,9 @@ impl<A: Allocator> Primitive<A> {
             Primitive::AddDir(_path) => None,
             Primitive::RmDir(_path) => None,
             Primitive::Move(_from, _to) => None,
-            Primitive::Hunk(hunk) => Some(hunk),
+            Primitive::Hunk(_hunk) => None,
             Primitive::Binary(_binary) => None,
-            Primitive::Replace(_replace) => None,
+            Primitive::Replace(replace) => Some(replace),
             Primitive::ChangePref(_change) => None,
         }
     }

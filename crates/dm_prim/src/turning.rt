@@ -5,7 +5,7 @@ ghost use Rattle.dm_tree.specs.Trees.{Lines as TreeLines};
 ghost use Rattle.dm_tokens.specs.Pieces.{IsToken};
 ghost use Rattle.dm_tokens.specs.Sets.{in_table};
 ghost use Rattle.dm_tokens.specs.Turning.{TurnAll};
-ghost use Rattle.dm_prim.specs.Primitives.{most_turned};
+ghost use Rattle.dm_prim.specs.Limits.{most_turned};
 ghost use Rattle.dm_prim.specs.Turning.{FailsToTurn, LinesTurnAs, TurnsBy};
 
 use dm_tokens::{TokenSet, Tokens, Turned, room_after, turn_into, turns};

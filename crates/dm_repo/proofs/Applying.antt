@@ -4,12 +4,13 @@ use Rattle.std.specs.Prelude.{IfOk}
 use Rattle.std.proofs.lemmas.List.{take_more, take-map, map_push}
 use Rattle.std.proofs.lemmas.Option.{slice_get-map, slice_get_read, slice_get_within, get_or_from_slice_get}
 use Rattle.std.specs.FinMap as finmap
-use Rattle.dm_tree.specs.Trees.{Tree}
+use Rattle.dm_tree.specs.Trees.{Tree, IsLawful, Deep}
 use Rattle.dm_tree.specs.declared.fault.TreeFault.{TreeFault}
 use Rattle.dm_tree.specs.declared.fault.TreeFault.TheVariants.{NoParent, Occupied, Missing, NotFile, NotDir, NotEmpty, IntoItself, LineRange, OldDiffers, NoLines, TokenThere, TooLarge, TooDeep, NoMemory}
 use Rattle.dm_prim.specs.Primitives.{Prim, LawfulMap}
 use Rattle.dm_prim.specs.Applying.{AdmitsFault, Applied, FaultsAs}
 use Rattle.dm_prim.specs.InTurn.{InTurn, done, step}
+use Rattle.dm_prim.proofs.ApplyLemmas.{past_none}
 use Rattle.dm_prim.proofs.Single.{applies_one, same_map}
 use Rattle.dm_named.specs.Patches.{Patch}
 use Rattle.dm_repo.specs.Folds.{LeadsShallowly, PatchLeadsShallowly, IsStopped, PatchStops}
@@ -23,20 +24,20 @@ use Rattle.dm_repo.proofs.RowSteps.{around}
 
 -- a fault other than out of memory stops the primitive
 stopped : (p : Prim) (s : LawfulMap) (e : TreeFault) → e ≢ NoMemory → AdmitsFault p s.map e → IsStopped p s
-stopped p s NoMemory n r = absurd (n refl)
-stopped p s TooDeep n r = inr r
-stopped p s NoParent n r = inl r
-stopped p s Occupied n r = inl r
-stopped p s Missing n r = inl r
-stopped p s NotFile n r = inl r
-stopped p s NotDir n r = inl r
-stopped p s NotEmpty n r = inl r
-stopped p s IntoItself n r = inl r
-stopped p s LineRange n r = inl r
-stopped p s OldDiffers n r = inl r
-stopped p s NoLines n r = inl r
-stopped p s TokenThere n r = inl r
-stopped p s TooLarge n r = inl r
+stopped p s NoMemory n r t h = absurd (n refl)
+stopped p s TooDeep n (m, a, d) t h = inl (subst Deep (same_map m t (applies_one p s.map m t s.lawful a h)) d)
+stopped p s TooLarge n r t h = inr (r t h)
+stopped p s NoParent n r t h = absurd (r t h)
+stopped p s Occupied n r t h = absurd (r t h)
+stopped p s Missing n r t h = absurd (r t h)
+stopped p s NotFile n r t h = absurd (r t h)
+stopped p s NotDir n r t h = absurd (r t h)
+stopped p s NotEmpty n r t h = absurd (r t h)
+stopped p s IntoItself n r t h = absurd (r t h)
+stopped p s LineRange n r t h = absurd (r t h)
+stopped p s OldDiffers n r t h = absurd (r t h)
+stopped p s NoLines n r t h = absurd (r t h)
+stopped p s TokenThere n r t h = absurd (r t h)
 
 -- the primitives up to the one with a fault lead shallowly, and the fault may come there
 pub fault_there : {x : Patch} {s : LawfulMap} {k : ℕ} {t : Tree} {e : TreeFault} → FaultsAt x s k t e → PatchStops (λ p m. AdmitsFault p m.map e) x s
@@ -61,10 +62,21 @@ pub refused_stops : {E : Type 0} (G : Type 0) {x : Patch} {s : LawfulMap} {k : �
 refused_stops G e (Ok leads) a (f, n) = rw f (fault_stops n a)
 refused_stops G e (Err x) a h = tt
 
+-- a primitive that was applied leads on shallowly
+pub leads_within : {T : Type 0} (p : Prim) (t u : Tree) (r : Result T TreeFault) (x : T) (s : LawfulMap) (lawful : IsLawful (finmap.get u)) → IsMapOf t s → r ≡ Ok x → Applied p t u r →
+    FaultsAs p (finmap.get t) r → (Deep (finmap.get u) → ⊥) → LeadsShallowly p s (record { map = finmap.get u; lawful = lawful })
+leads_within {T} p t u r x s lawful is ok change fault few =
+    let made = rw ok at change in
+    let fits = subst (FaultsAs {T = T} p (finmap.get t)) ok fault in
+    record {
+      leads = record { applies = rw is made };
+      shallow = few;
+      small = λ large. past_none p (finmap.get t) (finmap.get u) x fits made few (inr (rw is at large));
+    }
+
 -- what is stopped leads nowhere
 stopped_leads : (p : Prim) (s t : LawfulMap) → IsStopped p s → LeadsShallowly p s t → ⊥
-stopped_leads p s t (inl n) g = n t.map g.leads.applies
-stopped_leads p s t (inr (m, a, d)) g = let e : m ≡ t.map = same_map m t.map (applies_one p s.map m t.map s.lawful a g.leads.applies) in g.shallow (rw e at d)
+stopped_leads p s t h g = elim (h t.map g.leads.applies) [ inl deep ↦ g.shallow deep | inr large ↦ g.small large ]
 
 pub patch_stops_all : {x : Patch} {s t : LawfulMap} → PatchStops IsStopped x s → PatchLeadsShallowly x s t → ⊥
 patch_stops_all {s} {t} q r = go (runs_part q.before (rw q.at at r))

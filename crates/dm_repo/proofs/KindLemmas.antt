@@ -3,7 +3,7 @@ use Rattle.std.proofs.Common.{ℕ, List, [], ◌∷◌}
 use Rattle.std.specs.List.{AllByRecursion}
 use Rattle.dm_prim.specs.Primitives.{Prim}
 use Rattle.dm_prim.specs.Rectangles.{CellRow, none, next, Rectangle, empty, row}
-use Rattle.dm_prim.specs.Table.{TableRow, first_above, second_above, two_works, work_move, move_work, two_moves, preference_first, preference_second}
+use Rattle.dm_prim.specs.Table.{TableRow, first_above, second_above, hunk_replace, replace_hunk, two_replaces, two_works, work_move, move_work, two_moves, preference_first, preference_second}
 use Rattle.dm_prim.specs.Commuting.{Commutes}
 use Rattle.dm_named.specs.Kinds.{IsOf, AreOf}
 use Rattle.dm_named.specs.declared.limits.Kinds.{Kinds}
@@ -51,6 +51,9 @@ row_kinds : (kinds : Kinds) {p q q' p' : Prim} → TableRow p q q' p' → (IsOf 
 row_kinds All r = (λ k. k, λ k. k)
 row_kinds Six (first_above a e) = (λ k. k, λ k. k)
 row_kinds Six (second_above a e) = (λ k. k, λ k. k)
+row_kinds Six (hunk_replace a b) = (λ k. k, λ k. k)
+row_kinds Six (replace_hunk a b) = (λ k. k, λ k. k)
+row_kinds Six (two_replaces s) = (λ k. k, λ k. k)
 row_kinds Six (two_works w) = (λ k. k, λ k. k)
 row_kinds Six (work_move w e) = (λ k. k, λ k. k)
 row_kinds Six (move_work w e) = (λ k. k, λ k. k)

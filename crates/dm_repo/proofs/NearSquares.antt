@@ -7,7 +7,7 @@ use Rattle.dm_tree.specs.Reach.{IsUnder}
 use Rattle.dm_tree.proofs.Paths.{under_dec, under_append, under_trans, forward-under, forward-other, apart_sym}
 use Rattle.dm_prim.specs.Primitives.{Work, Prim, At, Move, ChangePref, inv, inv_all}
 use Rattle.dm_prim.specs.Rectangles.{CellRow, none, next, Rectangle, empty, row}
-use Rattle.dm_prim.specs.Table.{MovesOutside, TableRow, first_above, second_above, two_works, work_move, move_work, two_moves, preference_first, preference_second}
+use Rattle.dm_prim.specs.Table.{MovesOutside, TableRow, first_above, second_above, hunk_replace, replace_hunk, two_replaces, two_works, work_move, move_work, two_moves, preference_first, preference_second}
 use Rattle.dm_prim.specs.Commuting.{IsValidPrim, Commutes, ListsCommute}
 use Rattle.dm_prim.specs.Parts.{NamesUnder}
 use Rattle.dm_prim.proofs.Squares.{outside_inv}
@@ -64,6 +64,9 @@ module _ (ps : List Path) where
   row_under : {p q q' p' : Prim} → TableRow p q q' p' → NamesUnder ps p → NamesUnder ps q → NamesUnder ps q' × NamesUnder ps p'
   row_under (first_above c e) m n = (record { each = n.each }, m)
   row_under (second_above c e) m n = (n, record { each = m.each })
+  row_under (hunk_replace a b) m n = (n, record { each = m.each })
+  row_under (replace_hunk a b) m n = (record { each = n.each }, m)
+  row_under (two_replaces s) m n = (n, m)
   row_under (two_works s) m n = (n, m)
   row_under (work_move {f} {f'} {a} {b} {w} c e) m n = (n, work_under f' w (rw e (forward_in a b f (to_in a b n) (work_in f w m))))
   row_under (move_work {f} {f'} {a} {b} {w} c e) m n = (work_under f' w (rw e (forward_in b a f (from_in a b m) (work_in f w n))), m)
@@ -79,6 +82,9 @@ module _ (ps : List Path) where
   row_outside : {p q q' p' : Prim} → TableRow p q q' p' → MovesOutside p × MovesOutside q
   row_outside (first_above c e) = (tt, tt)
   row_outside (second_above c e) = (tt, tt)
+  row_outside (hunk_replace a b) = (tt, tt)
+  row_outside (replace_hunk a b) = (tt, tt)
+  row_outside (two_replaces s) = (tt, tt)
   row_outside (two_works s) = (tt, tt)
   row_outside (work_move c e) = (tt, c.move_apart)
   row_outside (move_work c e) = (apart_sym c.move_apart, tt)

@@ -2,7 +2,9 @@
 use Rattle.std.proofs.Common.{◌≡◌, ◌≢◌, ℕ, ◌<◌, ◌⊎◌, inl, inr, List, refl, sym, subst, ap, ap₂, ◌∙◌, arith}
 use Rattle.std.proofs.lemmas.List.{length-map}
 use Rattle.dm_prim.specs.InTurn.{InTurn}
-use Rattle.dm_prim.specs.Primitives.{LawfulMap}
+use Rattle.dm_prim.specs.Primitives.{Prim, LawfulMap}
+use Rattle.dm_prim.specs.Limits.{IsPastLimits}
+use Rattle.dm_prim.proofs.Single.{applies_one, same_map}
 use Rattle.dm_named.specs.Patches.{Patch}
 use Rattle.dm_bundle.specs.Bundles.{Contents}
 use Rattle.dm_repo.specs.declared.refusal.Refusal.{Refusal}
@@ -11,9 +13,9 @@ use Rattle.dm_repo.specs.Staircases.{Split, SplitStops}
 use Rattle.dm_repo.specs.declared.policy.Policy.{Policy}
 use Rattle.dm_repo.specs.Sifting.{MergesUnder, ConflictsUnder}
 use Rattle.dm_repo.specs.Squares.{Placed, placed, patches, PlacedCommutes}
-use Rattle.dm_repo.specs.Folds.{IsRoot, PatchLeadsShallowly, MakesTooDeep, IsStopped, ShallowFold}
+use Rattle.dm_repo.specs.Folds.{IsRoot, PatchLeadsShallowly, GoesPastLimits, IsStopped, ShallowFold}
 use Rattle.dm_repo.specs.CommonSets.{KnowsContext, HasAll, HasDependencies, First, LacksAt, LacksDependency, LacksFirst}
-use Rattle.dm_repo.specs.Weighing.{IsCommon, IsHeld, HasPrerequisites, IsRepoSplit, IsBundleSplit, FitStops, GoesTooDeep, Fits, IsFull, RefusesBundle, Appends}
+use Rattle.dm_repo.specs.Weighing.{IsCommon, IsHeld, HasPrerequisites, IsRepoSplit, IsBundleSplit, FitStops, RunsPastLimits, Fits, IsFull, RefusesBundle, Appends}
 use Rattle.dm_repo.specs.Laws.{Answer, Refused, NothingNew, Merged, AnswersWeighing, WeighingHasOneAnswer}
 use Rattle.dm_repo.proofs.Staircases.{split_one, split_stops}
 use Rattle.dm_repo.proofs.SiftLemmas.{under_one, conflicts_one, conflicts_exclude}
@@ -30,15 +32,18 @@ first_one Q j k (q, none) (r, nothing) = same j k (λ l. nothing j l q) (λ l. n
     same : (j k : ℕ) → (j < k → ⊥) → (k < j → ⊥) → j ≡ k
     same j k n m = omega (arith, n, m)
 
--- what goes too deep is stopped
-pub deep_stops : {s : LawfulMap} {xs : List Placed} {x : Placed} → FitStops MakesTooDeep s xs x → FitStops IsStopped s xs x
-deep_stops f = record {
+-- what goes past a limit is stopped
+pub past_stopped : (p : Prim) (s : LawfulMap) → GoesPastLimits p s → IsStopped p s
+past_stopped p s (m, a, d) t h = subst (IsPastLimits p s.map) (same_map m t (applies_one p s.map m t s.lawful a h)) d
+
+pub past_stops : {s : LawfulMap} {xs : List Placed} {x : Placed} → FitStops GoesPastLimits s xs x → FitStops IsStopped s xs x
+past_stops f = record {
   before = f.before;
   after = f.after;
   tree = f.tree;
   at = f.at;
   leads = f.leads;
-  stops = record { before = f.stops.before; prim = f.stops.prim; after = f.stops.after; tree = f.stops.tree; at = f.stops.at; leads = f.stops.leads; stops = inr f.stops.stops };
+  stops = record { before = f.stops.before; prim = f.stops.prim; after = f.stops.after; tree = f.stops.tree; at = f.stops.at; leads = f.stops.leads; stops = past_stopped f.stops.prim f.stops.tree f.stops.stops };
 }
 
 module _ (repo : List Patch) (b : Contents) (policy : Policy) where
@@ -58,7 +63,7 @@ module _ (repo : List Patch) (b : Contents) (policy : Policy) where
 
   abbrev FittingFront : List Placed → List Placed → List Placed → Answer → Type 0
   FittingFront front rest new x =
-      ((start : LawfulMap) × IsRoot start × GoesTooDeep start front × (x ≡ Refused Full)) ⊎
+      ((start : LawfulMap) × IsRoot start × RunsPastLimits start front × (x ≡ Refused Full)) ⊎
       ((base : LawfulMap) × ShallowFold (patches front) base × FittingNew base rest new x)
 
   abbrev SplittingBundle : List Placed → List Placed → Answer → Type 0
@@ -83,7 +88,7 @@ module _ (repo : List Patch) (b : Contents) (policy : Policy) where
   -- what is full isn't appended to
   full_appends : {merged : List Placed} → IsFull repo merged → Appends repo (patches merged) → ⊥
   full_appends {merged} (inl many) a = omega (arith, many, a.few, length-map merged (λ x. x.1))
-  full_appends (inr (s, g, d)) a = let e = grows_one repo a.folds g in fit_stops_all (deep_stops d.1) (rw e at a.leads)
+  full_appends (inr (s, g, d)) a = let e = grows_one repo a.folds g in fit_stops_all (past_stops d.1) (rw e at a.leads)
 
   -- two answers that a step leads to are one
   appending_one : (merged : List Placed) (skipped : ℕ) {x y : Answer} → Appending merged skipped x → Appending merged skipped y → x ≡ y
@@ -111,8 +116,8 @@ module _ (repo : List Patch) (b : Contents) (policy : Policy) where
 
   front_one : (front rest new : List Placed) {x y : Answer} → FittingFront front rest new x → FittingFront front rest new y → x ≡ y
   front_one front rest new (inl (s, r, d, p)) (inl (s1, r1, d1, q)) = p ∙ sym q
-  front_one front rest new (inl (s, r, d, p)) (inr (base, g, m)) = absurd (front_stops r (deep_stops d.1) g)
-  front_one front rest new (inr (base, g, m)) (inl (s, r, d, p)) = absurd (front_stops r (deep_stops d.1) g)
+  front_one front rest new (inl (s, r, d, p)) (inr (base, g, m)) = absurd (front_stops r (past_stops d.1) g)
+  front_one front rest new (inr (base, g, m)) (inl (s, r, d, p)) = absurd (front_stops r (past_stops d.1) g)
   front_one front rest new {x} {y} (inr (base, g, m)) (inr (base1, g1, m1)) =
       let e : base ≡ base1 = grows_one (patches front) g g1 in
       fitting_one base rest new m (subst (λ (t : LawfulMap). FittingNew t rest new y) (sym e) m1)

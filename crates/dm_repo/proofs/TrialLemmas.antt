@@ -7,15 +7,16 @@ use Rattle.dm_tree.specs.Paths.{Path}
 use Rattle.dm_tree.specs.Trees.{Map, Deep}
 use Rattle.dm_prim.specs.InTurn.{InTurn, done, step}
 use Rattle.dm_prim.specs.Primitives.{Prim, Applies, LawfulMap}
+use Rattle.dm_prim.specs.Limits.{IsPastLimits}
 use Rattle.dm_prim.proofs.Undoing.{kept}
 use Rattle.dm_tree.specs.Reach.{AreBelowRoot, IsPart}
 use Rattle.dm_prim.specs.Parts.{NamesUnder, IsSameOutside, IsSameBut}
 use Rattle.dm_named.specs.Patches.{Patch}
-use Rattle.dm_repo.specs.Folds.{LeadsShallowly, PatchLeadsShallowly, MakesTooDeep, IsStopped}
+use Rattle.dm_repo.specs.Folds.{LeadsShallowly, PatchLeadsShallowly, GoesPastLimits, IsStopped}
 use Rattle.dm_repo.specs.Squares.{Placed, patches}
-use Rattle.dm_repo.specs.Weighing.{FitStops, GoesTooDeep}
+use Rattle.dm_repo.specs.Weighing.{FitStops, RunsPastLimits}
 use Rattle.dm_repo.specs.Trials.{PatchNamesUnder, IsTrialOf}
-use Rattle.dm_prim.proofs.PartLemmas.{part_lawful, keeps_outside, keeps_but, but_outside, applies_to_part, as_deep, splice, splice_is, off_root}
+use Rattle.dm_prim.proofs.PartLemmas.{part_lawful, keeps_outside, keeps_but, but_outside, applies_to_part, as_deep, as_large, splice, splice_is, off_root}
 
 -- what is in step is in step along a list of steps
 module _ {P S : Type 0} (Ok : P → Type 0) (Rel : S → S → Type 0) (Step : P → S → S → Type 0)
@@ -76,6 +77,7 @@ module _ (ps : List Path) where
         record {
           leads = record { applies = part_applies p s.map t.map u.map n i.trial.part h.leads.applies };
           shallow = λ d. h.shallow ((as_deep ps s.map t.map v.map i.trial.shallow out (cut_is t.map)).1 d);
+          small = λ l. h.small ((as_large ps p s.map t.map u.map v.map n i.trial.part (cut_is t.map)).1 l);
         },
       )
 
@@ -88,7 +90,7 @@ module _ (ps : List Path) where
       let few : Deep t.map → ⊥ = λ d. h.shallow ((as_deep ps s.map t.map v.map i.trial.shallow out j).0 d) in (
         t,
         record { trial = record { part = j; shallow = few }; rest = onward z.map s.map t.map i.rest (keeps_but ps p s.map t.map n a) },
-        record { leads = record { applies = a }; shallow = few },
+        record { leads = record { applies = a }; shallow = few; small = λ l. h.small ((as_large ps p s.map t.map u.map v.map n i.trial.part j).0 l) },
       )
 
   patch_part : (z : LawfulMap) (x : Patch) (s t u : LawfulMap) → PatchNamesUnder ps x → InStep z s u → PatchLeadsShallowly x s t → (v : LawfulMap) × InStep z t v × PatchLeadsShallowly x u v
@@ -115,21 +117,31 @@ module _ (ps : List Path) where
   whole_follows xs s u v g n i h = let r = patches_whole g s xs u v s n (starts s u i) h in (r.0, r.1.trial, r.1.rest, r.2)
 
   -- a primitive is stopped on the whole exactly where it is on the part
-  deep_part : (p : Prim) (s u : LawfulMap) → NamesUnder ps p → IsTrialOf ps s u → MakesTooDeep p s → MakesTooDeep p u
-  deep_part p s u n i (t, a, d) =
-      (cut t, part_applies p s.map t u.map n i.part a, (as_deep ps s.map t (cut t) i.shallow (keeps_outside ps p s.map t n a) (cut_is t)).0 d)
+  past_to_part : (p : Prim) (s t u v : Map) → NamesUnder ps p → IsPart ps s u → IsPart ps t v → (Deep s → ⊥) → Applies p s t → IsPastLimits p s t → IsPastLimits p u v
+  past_to_part p s t u v n i j few a (inl d) = inl ((as_deep ps s t v few (keeps_outside ps p s t n a) j).0 d)
+  past_to_part p s t u v n i j few a (inr l) = inr ((as_large ps p s t u v n i j).0 l)
 
-  deep_whole : (p : Prim) (s u : LawfulMap) → NamesUnder ps p → IsTrialOf ps s u → MakesTooDeep p u → MakesTooDeep p s
-  deep_whole p s u n i (v, a, d) =
-      (splice ps s.map v, whole_applies p s.map u.map v n i.part a, (as_deep ps s.map (splice ps s.map v) v i.shallow (same_out s.map v) (whole_is p s.map u.map v n i.part a)).1 d)
+  past_to_whole : (p : Prim) (s t u v : Map) → NamesUnder ps p → IsPart ps s u → IsPart ps t v → (Deep s → ⊥) → Applies p s t → IsPastLimits p u v → IsPastLimits p s t
+  past_to_whole p s t u v n i j few a (inl d) = inl ((as_deep ps s t v few (keeps_outside ps p s t n a) j).1 d)
+  past_to_whole p s t u v n i j few a (inr l) = inr ((as_large ps p s t u v n i j).1 l)
+
+  past_part : (p : Prim) (s u : LawfulMap) → NamesUnder ps p → IsTrialOf ps s u → GoesPastLimits p s → GoesPastLimits p u
+  past_part p s u n i (t, a, d) =
+      (cut t, part_applies p s.map t u.map n i.part a, past_to_part p s.map t u.map (cut t) n i.part (cut_is t) i.shallow a d)
+
+  past_whole : (p : Prim) (s u : LawfulMap) → NamesUnder ps p → IsTrialOf ps s u → GoesPastLimits p u → GoesPastLimits p s
+  past_whole p s u n i (v, a, d) =
+      let w = whole_applies p s.map u.map v n i.part a in
+      (splice ps s.map v, w, past_to_whole p s.map (splice ps s.map v) u.map v n i.part (whole_is p s.map u.map v n i.part a) i.shallow w d)
 
   stopped_part : (p : Prim) (s u : LawfulMap) → NamesUnder ps p → IsTrialOf ps s u → IsStopped p s → IsStopped p u
-  stopped_part p s u n i (inl h) = inl (λ v a. h (splice ps s.map v) (whole_applies p s.map u.map v n i.part a))
-  stopped_part p s u n i (inr d) = inr (deep_part p s u n i d)
+  stopped_part p s u n i h = λ v a.
+      let w = whole_applies p s.map u.map v n i.part a in
+      past_to_part p s.map (splice ps s.map v) u.map v n i.part (whole_is p s.map u.map v n i.part a) i.shallow w (h (splice ps s.map v) w)
 
   stopped_whole : (p : Prim) (s u : LawfulMap) → NamesUnder ps p → IsTrialOf ps s u → IsStopped p u → IsStopped p s
-  stopped_whole p s u n i (inl h) = inl (λ t a. h (cut t) (part_applies p s.map t u.map n i.part a))
-  stopped_whole p s u n i (inr d) = inr (deep_whole p s u n i d)
+  stopped_whole p s u n i h = λ t a.
+      past_to_whole p s.map t u.map (cut t) n i.part (cut_is t) i.shallow a (h (cut t) (part_applies p s.map t u.map n i.part a))
 
   module _ (Q : Prim → LawfulMap → Type 0) where
     fit_part : ((p : Prim) (s u : LawfulMap) → NamesUnder ps p → IsTrialOf ps s u → Q p s → Q p u) →
@@ -167,5 +179,5 @@ module _ (ps : List Path) where
   pub stops_alike : (xs : List Placed) (x : Placed) (s u : LawfulMap) → AreBelowRoot ps → All (PatchNamesUnder ps) (patches xs) → IsTrialOf ps s u → FitStops IsStopped s xs x ↔ FitStops IsStopped u xs x
   stops_alike xs x s u g n i = (fit_part IsStopped stopped_part xs x s u n i, fit_whole IsStopped g stopped_whole xs x s u n i)
 
-  pub too_deep_alike : (xs : List Placed) (s u : LawfulMap) → AreBelowRoot ps → All (PatchNamesUnder ps) (patches xs) → IsTrialOf ps s u → GoesTooDeep s xs ↔ GoesTooDeep u xs
-  too_deep_alike xs s u g n i = (λ d. (d.0, fit_part MakesTooDeep deep_part xs d.0 s u n i d.1), λ d. (d.0, fit_whole MakesTooDeep g deep_whole xs d.0 s u n i d.1))
+  pub past_alike : (xs : List Placed) (s u : LawfulMap) → AreBelowRoot ps → All (PatchNamesUnder ps) (patches xs) → IsTrialOf ps s u → RunsPastLimits s xs ↔ RunsPastLimits u xs
+  past_alike xs s u g n i = (λ d. (d.0, fit_part GoesPastLimits past_part xs d.0 s u n i d.1), λ d. (d.0, fit_whole GoesPastLimits g past_whole xs d.0 s u n i d.1))

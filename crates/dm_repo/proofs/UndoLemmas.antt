@@ -1,9 +1,10 @@
 -- Patches that are undone one after the other, the last one first.
-use Rattle.std.proofs.Common.{◌≡◌, ◌++◌, ℕ, ◌+◌, ◌-◌, ◌<◌, ◌≤◌, length, drop, get_or, List, [], ◌∷◌, sym, ap, ◌∙◌, arith}
+use Rattle.std.proofs.Common.{inl, inr, ◌≡◌, ◌++◌, ℕ, ◌+◌, ◌-◌, ◌<◌, ◌≤◌, length, drop, get_or, List, [], ◌∷◌, sym, ap, ◌∙◌, arith}
 use Rattle.std.proofs.lemmas.List.{drop_more, map-append}
-use Rattle.dm_tree.specs.Trees.{Deep}
+use Rattle.dm_tree.specs.Trees.{Map, Deep}
 use Rattle.dm_prim.specs.InTurn.{InTurn, done, step}
-use Rattle.dm_prim.specs.Primitives.{Prim, LawfulMap, inv_all}
+use Rattle.dm_prim.specs.Primitives.{AddFile, RmFile, AddDir, RmDir, Hunk, Binary, Replace, Prim, At, Move, ChangePref, LawfulMap, inv, inv_all}
+use Rattle.dm_prim.specs.Limits.{TurnsLarge}
 use Rattle.dm_prim.proofs.LawProofs.{inverses_lead_back}
 use Rattle.dm_named.specs.Patches.{Patch}
 use Rattle.dm_repo.specs.Folds.{IsRoot, LeadsShallowly, PatchLeadsShallowly}
@@ -25,9 +26,21 @@ pub patches_shallow : (xs : List Patch) (s t : LawfulMap) → (Deep s.map → �
 patches_shallow [] s t d done = d
 patches_shallow (x ∷ xs) s t d (step {u = u} h r) = patches_shallow xs u t (prims_shallow x.prims s u d h) r
 
+-- a replace's file is as large on the way back
+large_back : (p : Prim) (s t : Map) → TurnsLarge (inv p) t s → TurnsLarge p s t
+large_back (At f (Replace set old new)) s t h = elim h [ inl l ↦ inr l | inr l ↦ inl l ]
+large_back (At f AddFile) s t h = absurd h
+large_back (At f RmFile) s t h = absurd h
+large_back (At f AddDir) s t h = absurd h
+large_back (At f RmDir) s t h = absurd h
+large_back (At f (Hunk l old new)) s t h = absurd h
+large_back (At f (Binary old new)) s t h = absurd h
+large_back (Move a b) s t h = absurd h
+large_back (ChangePref name old new) s t h = absurd h
+
 prims_back : (ps : List Prim) (s t : LawfulMap) → (Deep s.map → ⊥) → InTurn LeadsShallowly ps s t → InTurn LeadsShallowly (inv_all ps) t s
 prims_back [] s t d done = done
-prims_back (p ∷ ps) s t d (step {u = u} h r) = runs_on (prims_back ps u t h.shallow r) (step (record { leads = (inverses_lead_back p s u).0 h.leads; shallow = d }) done)
+prims_back (p ∷ ps) s t d (step {u = u} h r) = runs_on (prims_back ps u t h.shallow r) (step (record { leads = (inverses_lead_back p s u).0 h.leads; shallow = d; small = λ l. h.small (large_back p s.map u.map l) }) done)
 
 pub undoing : UndoingLeadsBack
 undoing [] s t d done = done

@@ -13,7 +13,7 @@ use Rattle.dm_named.specs.Patches.{Patch}
 use Rattle.dm_repo.specs.Folds.{PatchLeadsShallowly, IsStopped, ShallowFold}
 use Rattle.dm_repo.specs.Squares.{Placed, patches}
 use Rattle.dm_repo.specs.Repositories.{IsMapOf, IsRepo, IsTreeOf}
-use Rattle.dm_repo.specs.Weighing.{FitStops, GoesTooDeep}
+use Rattle.dm_repo.specs.Weighing.{FitStops, RunsPastLimits}
 
 -- all that the patch names is among these paths
 pub record PatchNamesAmong (ps : List Path) (x : Patch) : Type 0 where
@@ -107,10 +107,10 @@ abbrev pub PartStopsAlike : Type 0
 PartStopsAlike = (ps : List Path) (xs : List Placed) (x : Placed) (s u : LawfulMap) → AreBelowRoot ps → All (PatchNamesUnder ps) (patches xs) → IsTrialOf ps s u →
     FitStops IsStopped s xs x ↔ FitStops IsStopped u xs x
 
--- and get too deep on the whole exactly where they do on the part
-abbrev pub PartGoesTooDeepAlike : Type 0
-PartGoesTooDeepAlike = (ps : List Path) (xs : List Placed) (s u : LawfulMap) → AreBelowRoot ps → All (PatchNamesUnder ps) (patches xs) → IsTrialOf ps s u →
-    GoesTooDeep s xs ↔ GoesTooDeep u xs
+-- and go past a limit on the whole exactly where they do on the part
+abbrev pub PartRunsPastLimitsAlike : Type 0
+PartRunsPastLimitsAlike = (ps : List Path) (xs : List Placed) (s u : LawfulMap) → AreBelowRoot ps → All (PatchNamesUnder ps) (patches xs) → IsTrialOf ps s u →
+    RunsPastLimits s xs ↔ RunsPastLimits u xs
 
 -- a part that is put into the repository's tree leaves the tree of the repository with the patches
 abbrev pub PutMakesTree : Type 0

@@ -14,7 +14,7 @@ use Rattle.dm_repo.specs.Staircases.{Split, SplitStops}
 use Rattle.dm_repo.specs.Sifting.{MergesUnder, ConflictsUnder}
 use Rattle.dm_repo.specs.Squares.{Placed, placed, patches, PlacedCommutes}
 use Rattle.dm_repo.specs.Stops.{AtPlaces}
-use Rattle.dm_repo.specs.Folds.{IsRoot, PatchLeadsShallowly, MakesTooDeep, IsStopped, PatchStops, ShallowFold}
+use Rattle.dm_repo.specs.Folds.{IsRoot, PatchLeadsShallowly, GoesPastLimits, IsStopped, PatchStops, ShallowFold}
 use Rattle.dm_repo.specs.Repositories.{Holds}
 use Rattle.dm_repo.specs.CommonSets.{Common, KnowsContext, HasAll, HasDependencies, First, LacksAt, LacksFirst}
 
@@ -56,9 +56,9 @@ pub record FitStops (Q : Prim → LawfulMap → Type 0) (s : LawfulMap) (xs : Li
   pub leads : InTurn PatchLeadsShallowly (patches before) s tree
   pub stops : PatchStops Q x.1 tree
 
--- the patches are applied from s on, and a path has more than 32 names on the way
-abbrev pub GoesTooDeep : LawfulMap → List Placed → Type 0
-GoesTooDeep s xs = (x : Placed) × FitStops MakesTooDeep s xs x
+-- the patches are applied from s on, and one of their primitives goes past a limit
+abbrev pub RunsPastLimits : LawfulMap → List Placed → Type 0
+RunsPastLimits s xs = (x : Placed) × FitStops GoesPastLimits s xs x
 
 -- and the front makes a tree to which the patches to merge apply
 pub record Fits (repo : List Patch) (b : Contents) (rest new : List Placed) : Type 0 where
@@ -69,15 +69,15 @@ pub record Fits (repo : List Patch) (b : Contents) (rest new : List Placed) : Ty
   pub fitted : LawfulMap
   pub leads : InTurn PatchLeadsShallowly (patches new) base fitted
 
--- there would be too many patches, or a path has more than 32 names while the merged ones are applied to the repository's tree
+-- there would be too many patches, or one goes past a limit while the merged ones are applied to the repository's tree
 abbrev pub IsFull : List Patch → List Placed → Type 0
-IsFull repo merged = (most_patches < length repo + length merged) ⊎ ((tree : LawfulMap) × ShallowFold repo tree × GoesTooDeep tree merged)
+IsFull repo merged = (most_patches < length repo + length merged) ⊎ ((tree : LawfulMap) × ShallowFold repo tree × RunsPastLimits tree merged)
 
--- a path has more than 32 names while the front is applied from the root alone
+-- a patch goes past a limit while the front is applied from the root alone
 abbrev pub FrontIsFull : List Patch → Contents → Type 0
 FrontIsFull repo b =
     (front : List Placed) × (rest : List Placed) × (new : List Placed) ×
-    IsBundleSplit repo b front rest new × ((start : LawfulMap) × IsRoot start × GoesTooDeep start front)
+    IsBundleSplit repo b front rest new × ((start : LawfulMap) × IsRoot start × RunsPastLimits start front)
 
 -- the bundle is merged, and then the repository is too full for it
 abbrev pub MergeIsFull : List Patch → Contents → Policy → Type 0

@@ -1,4 +1,4 @@
-//! Applying patches to a tree, up to the first that leads nowhere, or to a path that is too deep.
+//! Applying patches to a tree, up to the first that leads nowhere, or past a limit.
 ghost use Rattle.std.specs.Prelude.{◌≡◌, ◌≢◌, ◌++◌, false, IfOk, MatchBool, MatchResult};
 ghost use Rattle.dm_prim.specs.Primitives.{LawfulMap};
 ghost use Rattle.dm_prim.specs.InTurn.{InTurn};
@@ -26,8 +26,8 @@ pub(crate) fn refused(fault: TreeFault) -> Result<bool, AllocError>
     }
 }
 
-/// Applies the primitives of a patch in turn. Where one doesn't apply, or makes a path that is too deep, its place and the
-/// tree's fault are returned; the tree is then the one that it was applied to.
+/// Applies the primitives of a patch in turn. Where one doesn't apply, or goes past a limit, its place and the tree's fault
+/// are returned; the tree is then the one that it was applied to.
 pub(crate) fn apply_prims<A: Allocator, B: Allocator + Copy>(
     patch: &Named<A>,
     tree: &mut Tree<B>,

@@ -1,7 +1,7 @@
 //! Laws of the definitions alone. A call of them does nothing.
 
 ghost use Rattle.dm_repo.specs.Laws.{FoldIsOne, SplitFolds, SplitIsOne, SplitStopsOnce};
-ghost use Rattle.dm_repo.specs.Trials.{PartFollows, PartGoesTooDeepAlike, PartStopsAlike, PutMakesTree, UndoingLeadsBack, WholeFollows};
+ghost use Rattle.dm_repo.specs.Trials.{PartFollows, PartRunsPastLimitsAlike, PartStopsAlike, PutMakesTree, UndoingLeadsBack, WholeFollows};
 ghost use Rattle.dm_repo.specs.Laws.{MergeApplies, MergeIsOne, MergeStopsOnce, MergeIsRepo, MergeKeepsKinds, PoliciesAgree, EachIsMergedOrSkipped, WeighingHasOneAnswer, BothOrdersHaveOneAnswer};
 
 /// A list of patches makes at most one tree.
@@ -40,7 +40,7 @@ pub fn trial()
     ensures part { PartFollows }
     ensures whole { WholeFollows }
     ensures stops { PartStopsAlike }
-    ensures too_deep { PartGoesTooDeepAlike }
+    ensures past { PartRunsPastLimitsAlike }
     ensures put { PutMakesTree }
     ensures undone { UndoingLeadsBack }
 {}

@@ -6,7 +6,7 @@
 //! tried on the part of the tree that the patches reach, and the patches of the repository that have nothing to do with the bundle
 //! are neither copied nor undone, where they can be told from the others. What they answer is appended by [`Repo::append`], or copied by
 //! [`Repo::prepare`], which makes all room, and appended by [`Repo::commit`], which can't fail.
-//! For people [`find_misfit`] tells where a new patch doesn't fit, and why; [`find_overflow`] where a path gets too many names;
+//! For people [`find_misfit`] tells where a new patch doesn't fit, and why; [`find_overflow`] where one goes past a limit;
 //! [`find_clash`] which primitives of a new patch and of a held one can't pass each other; [`find_skips`] which patches are
 //! skipped where conflicts are, and what stops each of them.
 //!

@@ -27,7 +27,7 @@ pub struct Misfit<A: Allocator> {
     pub place: usize,
     /// The patch as it was tried: new patches that are held already stand in front of it.
     pub patch: Named<A>,
-    /// The place of the primitive in it that doesn't apply, or makes a path that is too deep.
+    /// The place of the primitive in it that doesn't apply, or goes past a limit.
     pub prim: usize,
     /// What the tree answers to it.
     pub fault: TreeFault,

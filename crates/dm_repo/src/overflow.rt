@@ -1,4 +1,4 @@
-//! Where a path gets too many names as a bundle is weighed, told so that people can be shown it.
+//! Where a patch goes past a limit as a bundle is weighed, told so that people can be shown it.
 ghost use Rattle.std.specs.Prelude.{◌≢◌, IfErr, IfNone, IfOk, IfSome, List, MatchOption, MatchResult};
 ghost use Rattle.dm_bundle.specs.Bundles.{Contents};
 ghost use Rattle.dm_repo.specs.declared.policy.Policy.{Policy};
@@ -22,7 +22,8 @@ use dm_tree::Tree;
 use dm_tree::laws::tree_is_lawful;
 use std::alloc::Allocator;
 
-/// Where a path gets more than 32 names; the fault is [`TooDeep`](dm_tree::TreeFault::TooDeep).
+/// Where a path gets more than 32 names, with the fault [`TooDeep`](dm_tree::TreeFault::TooDeep), or a replace finds or leaves a file
+/// that is too large, with [`TooLarge`](dm_tree::TreeFault::TooLarge).
 #[derive(Drop)]
 pub enum Overflow<A: Allocator> {
     /// By a common patch, where the front is applied from the root alone; its place is in the repository.
@@ -52,7 +53,7 @@ fn find_front<A: Allocator + Copy, B: Allocator + Copy>(
     Ok(Some(parted.front))
 }
 
-/// The first common patch that makes a path of more than 32 names, where the front is applied from the root alone.
+/// The first common patch that goes past a limit, where the front is applied from the root alone.
 fn front_overflow<A: Allocator + Copy, B: Allocator + Copy>(
     alloc: B,
     repo: &Repo<A>,
@@ -74,7 +75,7 @@ fn front_overflow<A: Allocator + Copy, B: Allocator + Copy>(
     Ok(found)
 }
 
-/// The first new patch that makes a path of more than 32 names, where the merged ones are applied to the repository's tree.
+/// The first new patch that goes past a limit, where the merged ones are applied to the repository's tree.
 fn merged_overflow<A: Allocator + Copy, B: Allocator + Copy>(
     alloc: B,
     repo: &Repo<A>,
@@ -96,8 +97,7 @@ fn merged_overflow<A: Allocator + Copy, B: Allocator + Copy>(
     Ok(found)
 }
 
-/// The first patch that makes a path of more than 32 names, with its primitive that does and the tree that this was applied
-/// to: where the common patches are applied from the root alone, or where the merged ones are applied to the repository's
+/// The first patch that goes past a limit, with its primitive that does and the tree that this was applied to: where the common patches are applied from the root alone, or where the merged ones are applied to the repository's
 /// tree. Then [`weigh`](crate::weigh) refuses with [`Refusal::Full`]. Where nothing is told, `weigh` refuses so only if there
 /// would be too many patches. A refusal is one of a step before.
 pub fn find_overflow<A: Allocator + Copy, B: Allocator + Copy>(

@@ -46,7 +46,7 @@ impl Stop {
         }
     }
 
-    /// Where patches that must lead on from a tree are stopped: a path is too deep on the way.
+    /// Where patches that must lead on from a tree are stopped: one goes past a limit.
     pub(crate) fn full(self) -> Refusal
         ensures { result ≡ refusal_of (λ _. Full) self }
     {

@@ -29,7 +29,7 @@ pub struct Obliterated<A: Allocator> {
 /// these need (`darcs obliterate -o` does so). What stays takes the bundle.
 ///
 /// It refuses with [`Refusal::Full`] where a repository of what stays can't be made, or refuses the bundle. The contract doesn't
-/// say why it would; the one cause that we know is a path of too many names.
+/// say why it would; the causes that we know are a path of too many names, and a replace in a file that is too large.
 pub fn obliterate<A: Allocator, B: Allocator + Copy>(
     alloc: B,
     repo: &Repo<A>,

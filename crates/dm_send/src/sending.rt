@@ -134,7 +134,7 @@ pub(crate) fn accepted<B: Allocator + Copy>(
 /// What both hold are the patches of these names, and what those name as dependencies; a name that isn't held is passed over.
 /// It refuses with [`Refusal::ContextDepends`] where such a patch can't do without one that they don't hold, and with
 /// [`Refusal::Full`] where a repository of what both hold can't be made, or refuses the bundle. The contract doesn't say why it
-/// would; the one cause that we know is a path of too many names.
+/// would; the causes that we know are a path of too many names, and a replace in a file that is too large.
 pub fn send<A: Allocator + Copy, B: Allocator + Copy>(
     alloc: B,
     repo: &Repo<A>,

@@ -1,6 +1,6 @@
 use Rattle.std.proofs.lemmas.Bool.{false≢true}
 use Rattle.dm_repo.specs.declared.refusal.Refusal.TheVariants.{Full}
-use Rattle.dm_explain.proofs.AccountLemmas.{excluded, overflow_moves}
+use Rattle.dm_explain.proofs.AccountLemmas.{excluded, overflow_past}
 use Rattle.dm_explain.proofs.PlaceLemmas.{overflow_named}
 use Rattle.dm_explain.proofs.depth.depth_of.Goals as goal
 
@@ -9,10 +9,10 @@ unreachable-requires c =
     let overflow = c.in-Ok-Some.overflow in
     overflow_named c.args.repo.now.patches c.args.bundle.now c.args.policy overflow (rw c.in-Ok-Some.field-0-is at c.in-Ok-Some.ensures.told) (rw c.in_default.is at c.name_of.ensures)
 
-pub moved_too_deep-requires : goal.moved_too_deep-requires
-moved_too_deep-requires c =
+pub path_of-requires : goal.path_of-requires
+path_of-requires c =
     let overflow = c.in-Ok-Some.overflow in
-    rw c.misfit_in.ensures (overflow_moves c.args.repo.now.patches c.args.bundle.now c.args.policy overflow (rw c.in-Ok-Some.field-0-is at c.in-Ok-Some.ensures.told))
+    rw c.misfit_in.ensures (overflow_past c.args.repo.now.patches c.args.bundle.now c.args.policy overflow (rw c.in-Ok-Some.field-0-is at c.in-Ok-Some.ensures.told))
 
 pub returns-else-eq : goal.returns-else-eq
 returns-else-eq c = λ full.

@@ -2,7 +2,7 @@ use Rattle.std.proofs.Common.{◌≤◌, inl, inr, arith}
 use Rattle.std.proofs.lemmas.Result.{err_from_is_err_and}
 use Rattle.dm_tree.specs.Listings.{file_size}
 use Rattle.dm_tokens.specs.Sets.{in_table}
-use Rattle.dm_prim.specs.Primitives.{most_turned}
+use Rattle.dm_prim.specs.Limits.{most_turned}
 use Rattle.dm_prim.proofs.TurnedLines.{no_newline_in, new_is_token, token_there, too_large, turned_by}
 use Rattle.dm_prim.proofs.turning.turn_lines.Goals as goal
 

@@ -3,7 +3,7 @@ use Rattle.std.specs.Prelude.{sum_by}
 use Rattle.dm_tree.specs.Trees.{Lines}
 use Rattle.dm_tokens.specs.Sets.{in_table}
 use Rattle.dm_tokens.specs.Turning.{TurnAll}
-use Rattle.dm_prim.specs.Primitives.{most_turned}
+use Rattle.dm_prim.specs.Limits.{most_turned}
 use Rattle.dm_prim.proofs.TurnedLines.{all_fit, grows_past, less_room, none_left, one_more}
 use Rattle.dm_prim.proofs.turning.turned_room.Goals as goal
 
@@ -27,7 +27,7 @@ loop-line-preserved g c =
     let some : 0 < c.in-Some-room_after.left = omega (arith, c.if-left-eq0.false) in (
       done ++ x ∷ [],
       one_more c.args.file.now done c.next.new.self c.loop-line.lines x c.loop-line.invariant.1 c.in-Some.ensures.line,
-      less_room (in_table c.args.set.now) c.args.old.now c.args.new.now done x c.loop-line.room c.in-Some-room_after.left c.loop-line.invariant.2 c.in-Some-room_after.ensures some,
+      less_room (in_table c.args.set.now) c.args.old.now c.args.new.now done x (most_turned + 1) c.loop-line.room c.in-Some-room_after.left c.loop-line.invariant.2 c.in-Some-room_after.ensures some,
     )
 
 pub returns : goal.returns

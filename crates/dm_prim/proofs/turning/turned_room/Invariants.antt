@@ -3,7 +3,7 @@ use Rattle.std.specs.Prelude.{sum_by}
 use Rattle.dm_tree.specs.Trees.{Lines}
 use Rattle.dm_tokens.specs.Sets.{in_table}
 use Rattle.dm_tokens.specs.Turning.{TurnAll}
-use Rattle.dm_prim.specs.Primitives.{most_turned}
+use Rattle.dm_prim.specs.Limits.{most_turned}
 use Rattle.dm_prim.proofs.turning.turned_room.Given as goal
 
 abbrev pub invariant-loop-line : goal.invariant-loop-line

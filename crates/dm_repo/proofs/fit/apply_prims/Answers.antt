@@ -4,7 +4,7 @@ use Rattle.std.specs.FinMap as map
 use Rattle.dm_prim.specs.InTurn.{done}
 use Rattle.dm_prim.specs.Prims.{prim_of}
 use Rattle.dm_repo.specs.Folds.{LeadsShallowly}
-use Rattle.dm_repo.proofs.Applying.{faults_there, run_step}
+use Rattle.dm_repo.proofs.Applying.{faults_there, leads_within, run_step}
 use Rattle.dm_repo.proofs.fit.apply_prims.Goals as goal
 
 pub loop-k-init : goal.loop-k-init
@@ -21,7 +21,7 @@ loop-k-preserved g c = λ s e.
       record { map = map.get c.apply.new.tree; lawful = c.tree_is_lawful.ensures.lawful },
       refl,
       run_step prim_of LeadsShallowly c.prims-prims.result.now c.loop-k.k c.index-prims-k.result c.loop-k-test.true c.index-prims-k.is r.2
-          (record { leads = record { applies = rw (← r.1) at (rw c.in_default.is at c.apply.ensures.change) }; shallow = c.tree_is_lawful.ensures.shallow }),
+          (leads_within (prim_of c.index-prims-k.result) c.loop-k.tree c.apply.new.tree c.apply.result c.in_default.field-0 r.0 c.tree_is_lawful.ensures.lawful r.1 c.in_default.is c.apply.ensures.change c.apply.ensures.fault c.tree_is_lawful.ensures.shallow),
     )
 
 pub returns : goal.returns
