@@ -1,8 +1,9 @@
 -- Texts that were delivered, and one more.
-use Rattle.std.proofs.Common.{◌≡◌, ◌≢◌, ◌∙◌, ◌⊎◌, ◌↔◌, ◌<◌, ◌^◌, inl, inr, length, map, ℕ, Bool, true, false, All, IsTrue, List, [], ◌∷◌, ◌++◌, Some, refl, sym, subst, ap, ap₂, append_assoc, append-nil, true≢false}
+use Rattle.std.proofs.Common.{◌≡◌, ◌≢◌, ◌∙◌, ◌⊎◌, ◌↔◌, ◌≤◌, ◌<◌, ◌^◌, ◌+◌, suc, arith, ⊎_elim, inl, inr, length, take, drop, map, ℕ, Bool, true, false, All, IsTrue, List, [], ◌∷◌, ◌++◌, Some, refl, sym, subst, ap, ap₂, append_assoc, append-nil, true≢false}
 use Rattle.std.proofs.KnownBytes.{Appends-nil, Appends-trans}
 use Rattle.std.proofs.lemmas.Grind.{flat_map-append}
-use Rattle.std.proofs.lemmas.List.{map-append}
+use Rattle.std.proofs.lemmas.Bool.{cases_lt}
+use Rattle.std.proofs.lemmas.List.{map-append, take-append-le, drop-append-le, take_all, drop_all, length-append}
 use Rattle.std.proofs.lemmas.List.Elements.{All-nil, All-push, All-pop}
 use Rattle.std.specs.Io.KnownBytes.{Appends}
 use Rattle.dm_named.specs.declared.limits.Kinds.{Kinds}
@@ -24,7 +25,7 @@ use Rattle.dm_deliver.specs.declared.fault.AnswerError.{AnswerError}
 use Rattle.dm_deliver.specs.declared.fault.AnswerError.TheVariants.{Store as OfStore}
 use Rattle.dm_deliver.specs.declared.bundle_rule.BundleRule.{BundleRule}
 use Rattle.dm_deliver.specs.Answering.{answer_line, Answers, AnswersEach, IsAcceptedAnswer, KeepsEither, KeepsAnswered, LeavesUnanswered}
-use Rattle.dm_deliver.specs.Delivering.{lines_of, KeepsFirst, KeepsSome, Delivers, DeliversAllBut, DeliversButLast}
+use Rattle.dm_deliver.specs.Delivering.{lines_of, KeepsBehind, KeepsFirst, KeepsSome, Delivers, DeliversAllBut, DeliversButLast}
 use Rattle.dm_deliver.specs.Outputs.{Output, Puts, PutsEach}
 use Rattle.dm_deliver.proofs.AnswerLemmas.{takes_of_entry}
 
@@ -40,6 +41,14 @@ answers_more kinds repo (t ∷ ts) policy rule (v ∷ vs) mid text answer after 
 puts_more : (old : Output) (lines : List (List ℕ)) (mid : Output) (line : List ℕ) (new : Output) → PutsEach old lines mid → Puts mid new line → PutsEach old (lines ++ line ∷ []) new
 puts_more old [] mid line new so_far last = (new, rw so_far at last, refl)
 puts_more old (l ∷ ls) mid line new so_far last = (so_far.0, so_far.1, puts_more so_far.0 ls mid line new so_far.2 last)
+
+-- there are as many answers as texts
+as_many : (kinds : Kinds) (repo : Kept) (texts : List (List ℕ)) (policy : Policy) (rule : BundleRule) (answers : List Answer) (after : Kept) →
+    AnswersEach kinds repo texts policy rule answers after → length answers ≡ length texts
+as_many kinds repo [] policy rule [] after each = refl
+as_many kinds repo [] policy rule (v ∷ vs) after each = absurd each
+as_many kinds repo (t ∷ ts) policy rule [] after each = absurd each
+as_many kinds repo (t ∷ ts) policy rule (v ∷ vs) after each = ap suc (as_many kinds each.0 ts policy rule vs after each.2)
 
 -- the last of the answers has its line at the end
 lines_more : (vs : List Answer) (v : Answer) → lines_of (vs ++ v ∷ []) ≡ lines_of vs ++ answer_line v
@@ -120,6 +129,75 @@ all_more P all more vs v so_far (inr x) = (
 abbrev pub Accepts : {D : Type 0} → (D → ℕ) → (D → ℕ → List ℕ → Type 0) → (List (List ℕ) → Type 0) → Policy → BundleRule → Store D → Store D → Output → Output → Bool → Type 0
 Accepts moment left_since Gave policy rule old new before now all = (d : Delivers moment left_since Gave policy rule old new before now) × (IsTrue all ↔ All IsAcceptedAnswer d.answers)
 
+module _ {D : Type 0} (moment : D → ℕ) (left_since : D → ℕ → List ℕ → Type 0) (policy : Policy) (rule : BundleRule) (old : Store D) (before : Output) where
+  -- behind the last line
+  behind_all : (may_leave : D → List ℕ → Type 0) (only_now : (device : D) (c : List ℕ) → left_since device (moment device) c → may_leave device c) (new : Store D) (now : Output)
+      (texts : List (List ℕ)) (answers : List Answer) (count : ℕ) → length texts ≤ count → kinds_in new ≡ kinds_in old →
+      AnswersEach (kinds_in old) (kept_in old) texts policy rule answers (kept_in new) → PutsEach before (map answer_line answers) now →
+      CrashesKeep (kinds_in new) may_leave new.journal.device (kept_in new) → KeepsBehind moment left_since policy rule old new before now texts answers count
+  behind_all may_leave only_now new now texts answers count le kinds takes put keeps =
+      let many : length answers ≡ length texts = as_many (kinds_in old) (kept_in old) texts policy rule answers (kept_in new) takes in
+      let few : length answers ≤ count = omega (arith, many, le) in
+      let all_texts : take count texts ≡ texts = take_all count texts le in
+      let all_answers : take count answers ≡ answers = take_all count answers few in
+      let no_text : drop count texts ≡ [] = drop_all count texts le in
+      let no_answer : drop count answers ≡ [] = drop_all count answers few in
+      record {
+        mid = new;
+        written = now;
+        takes = rw (all_texts, all_answers) takes;
+        put = rw all_answers put;
+        rest = rw (no_text, no_answer) refl;
+        to_put = rw no_answer refl;
+        any_moment = rw (no_text, no_answer) (at_rest moment left_since new.journal.device (KeepsFirst (kinds_in old) (kept_in new) [] policy rule [])
+            (λ c left. all_are_first (kinds_in old) (kept_in new) [] policy rule [] (kept_in new) c refl
+            (subst (λ (k : Kinds). KeepsRepo k c (kept_in new)) kinds (keeps c (only_now new.journal.device c left)))));
+      }
+
+  -- behind an earlier line, where one text more was answered
+  behind_more : (mid new : Store D) (out now : Output) (texts : List (List ℕ)) (answers : List Answer) (text : List ℕ) (v : Answer) (count : ℕ) → count ≤ length texts → length answers ≡ length texts →
+      KeepsBehind moment left_since policy rule old mid before out texts answers count → Answers (kinds_in old) (kept_in mid) text policy rule v (kept_in new) → Puts out now (answer_line v) →
+      LeavesOnly moment left_since mid.journal.device new.journal.device (KeepsEither (kinds_in old) (kept_in mid) (kept_in new)) →
+      KeepsBehind moment left_since policy rule old new before now (texts ++ text ∷ []) (answers ++ v ∷ []) count
+  behind_more mid new out now texts answers text v count le many b last line run =
+      let few : count ≤ length answers = omega (arith, many, le) in
+      let first_texts : take count (texts ++ text ∷ []) ≡ take count texts = take-append-le count texts (text ∷ []) le in
+      let first_answers : take count (answers ++ v ∷ []) ≡ take count answers = take-append-le count answers (v ∷ []) few in
+      let other_texts : drop count (texts ++ text ∷ []) ≡ drop count texts ++ text ∷ [] = drop-append-le count texts (text ∷ []) le in
+      let other_answers : drop count (answers ++ v ∷ []) ≡ drop count answers ++ v ∷ [] = drop-append-le count answers (v ∷ []) few in
+      record {
+        mid = b.mid;
+        written = b.written;
+        takes = rw (first_texts, first_answers) b.takes;
+        put = rw first_answers b.put;
+        rest = rw (other_texts, other_answers) (answers_more (kinds_in old) (kept_in b.mid) (drop count texts) policy rule (drop count answers) (kept_in mid) text v (kept_in new) b.rest last);
+        to_put = rw other_answers (subst (λ (l : List (List ℕ)). PutsEach b.written l now) (sym (map-append answer_line (drop count answers) (v ∷ [])))
+            (puts_more b.written (map answer_line (drop count answers)) out (answer_line v) now b.to_put line));
+        any_moment = rw (other_texts, other_answers) (followed moment left_since b.mid.journal.device mid.journal.device new.journal.device
+            (KeepsFirst (kinds_in old) (kept_in b.mid) (drop count texts ++ text ∷ []) policy rule (drop count answers ++ v ∷ []))
+            (weakened moment left_since b.mid.journal.device mid.journal.device _ _ (first_of_more (kinds_in old) (kept_in b.mid) (drop count texts) policy rule (drop count answers) text v) b.any_moment)
+            (weakened moment left_since mid.journal.device new.journal.device _ _
+            (either_is_first (kinds_in old) (kept_in b.mid) (drop count texts) policy rule (drop count answers) (kept_in mid) text v (kept_in new) b.rest last) run));
+      }
+
+  -- behind a line, where a checkpoint was made, or tried
+  behind_settled : (mid new : Store D) (now : Output) (texts : List (List ℕ)) (answers : List Answer) (count : ℕ) → kept_in new ≡ kept_in mid →
+      KeepsBehind moment left_since policy rule old mid before now texts answers count →
+      LeavesOnly moment left_since mid.journal.device new.journal.device (λ file. KeepsRepo (kinds_in old) file (kept_in mid)) →
+      KeepsBehind moment left_since policy rule old new before now texts answers count
+  behind_settled mid new now texts answers count same b run = record {
+    mid = b.mid;
+    written = b.written;
+    takes = b.takes;
+    put = b.put;
+    rest = subst (λ (r : Kept). AnswersEach (kinds_in old) (kept_in b.mid) (drop count texts) policy rule (drop count answers) r) (sym same) b.rest;
+    to_put = b.to_put;
+    any_moment = followed moment left_since b.mid.journal.device mid.journal.device new.journal.device (KeepsFirst (kinds_in old) (kept_in b.mid) (drop count texts) policy rule (drop count answers))
+        b.any_moment
+        (weakened moment left_since mid.journal.device new.journal.device _ _
+        (λ c keeps. all_are_first (kinds_in old) (kept_in b.mid) (drop count texts) policy rule (drop count answers) (kept_in mid) c b.rest keeps) run);
+  }
+
 module _ {D : Type 0} (moment : D → ℕ) (left_since : D → ℕ → List ℕ → Type 0) where
   -- nothing came yet
   pub begun : (may_leave : D → List ℕ → Type 0) (only_now : (device : D) (c : List ℕ) → left_since device (moment device) c → may_leave device c)
@@ -136,33 +214,44 @@ module _ {D : Type 0} (moment : D → ℕ) (left_since : D → ℕ → List ℕ 
       flushed = refl;
       any_moment = at_rest moment left_since store.journal.device (KeepsFirst (kinds_in store) (kept_in store) [] policy rule [])
           (λ c left. all_are_first (kinds_in store) (kept_in store) [] policy rule [] (kept_in store) c refl (keeps c (only_now store.journal.device c left)));
+      behind = λ count le. behind_all moment left_since policy rule store out may_leave only_now store out [] [] count (omega arith) refl refl refl keeps;
     },
     (λ t. All-nil IsAcceptedAnswer, λ h. refl),
   )
 
   -- one text more was answered, and its line written
-  pub one_more : (Gave Gives : List (List ℕ) → Type 0) (policy : Policy) (rule : BundleRule) (old mid new : Store D) (before out now : Output) (all more : Bool)
+  pub one_more : (may_leave : D → List ℕ → Type 0) (only_now : (device : D) (c : List ℕ) → left_since device (moment device) c → may_leave device c)
+      (Gave Gives : List (List ℕ) → Type 0) (policy : Policy) (rule : BundleRule) (old mid new : Store D) (before out now : Output) (all more : Bool)
       (s : Accepts moment left_since Gave policy rule old mid before out all) (text : List ℕ) (v : Answer) → Gives (s.0.texts ++ text ∷ []) →
+      CrashesKeep (kinds_in new) may_leave new.journal.device (kept_in new) →
       kinds_in new ≡ kinds_in mid → Answers (kinds_in mid) (kept_in mid) text policy rule v (kept_in new) → Puts out now (answer_line v) →
       LeavesOnly moment left_since mid.journal.device new.journal.device (KeepsEither (kinds_in mid) (kept_in mid) (kept_in new)) →
       ((all ≡ true) × (IsTrue more ↔ IsAcceptedAnswer v)) ⊎ ((all ≡ false) × (more ≡ all)) →
       Accepts moment left_since Gives policy rule old new before now more
-  one_more Gave Gives policy rule old mid new before out now all more s text v came same takes' line run' both =
+  one_more may_leave only_now Gave Gives policy rule old mid new before out now all more s text v came keeps same takes' line run' both =
       let d = s.0 in
+      let many : length d.answers ≡ length d.texts = as_many (kinds_in old) (kept_in old) d.texts policy rule d.answers (kept_in mid) d.takes in
+      let longer : length (d.texts ++ text ∷ []) ≡ length d.texts + 1 = length-append d.texts (text ∷ []) in
       let takes = subst (λ (k : Kinds). Answers k (kept_in mid) text policy rule v (kept_in new)) d.kinds takes' in
-      let run = subst (λ (k : Kinds). LeavesOnly moment left_since mid.journal.device new.journal.device (KeepsEither k (kept_in mid) (kept_in new))) d.kinds run' in (
+      let run = subst (λ (k : Kinds). LeavesOnly moment left_since mid.journal.device new.journal.device (KeepsEither k (kept_in mid) (kept_in new))) d.kinds run' in
+      let each = answers_more (kinds_in old) (kept_in old) d.texts policy rule d.answers (kept_in mid) text v (kept_in new) d.takes takes in
+      let written = subst (λ (l : List (List ℕ)). PutsEach before l now) (sym (map-append answer_line d.answers (v ∷ []))) (puts_more before (map answer_line d.answers) out (answer_line v) now d.flushed line) in (
         record {
           texts = d.texts ++ text ∷ [];
           answers = d.answers ++ v ∷ [];
           came = came;
           kinds = same ∙ d.kinds;
-          takes = answers_more (kinds_in old) (kept_in old) d.texts policy rule d.answers (kept_in mid) text v (kept_in new) d.takes takes;
+          takes = each;
           lines = subst (λ (l : List ℕ). Appends before.contents now.contents l) (sym (lines_more d.answers v))
               (Appends-trans before.contents out.contents now.contents (lines_of d.answers) (answer_line v) d.lines line.bytes);
-          flushed = subst (λ (l : List (List ℕ)). PutsEach before l now) (sym (map-append answer_line d.answers (v ∷ []))) (puts_more before (map answer_line d.answers) out (answer_line v) now d.flushed line);
+          flushed = written;
           any_moment = followed moment left_since old.journal.device mid.journal.device new.journal.device (KeepsFirst (kinds_in old) (kept_in old) (d.texts ++ text ∷ []) policy rule (d.answers ++ v ∷ []))
               (weakened moment left_since old.journal.device mid.journal.device _ _ (first_of_more (kinds_in old) (kept_in old) d.texts policy rule d.answers text v) d.any_moment)
               (weakened moment left_since mid.journal.device new.journal.device _ _ (either_is_first (kinds_in old) (kept_in old) d.texts policy rule d.answers (kept_in mid) text v (kept_in new) d.takes takes) run);
+          behind = λ count le. ⊎_elim
+              (λ more_than. behind_all moment left_since policy rule old before may_leave only_now new now (d.texts ++ text ∷ []) (d.answers ++ v ∷ []) count (omega (arith, longer, more_than)) (same ∙ d.kinds) each written keeps)
+              (λ most. behind_more moment left_since policy rule old before mid new out now d.texts d.answers text v count most many (d.behind count most) takes line run)
+              (cases_lt (length d.texts) count);
         },
         all_more IsAcceptedAnswer all more d.answers v s.1 both,
       )
@@ -186,6 +275,7 @@ module _ {D : Type 0} (moment : D → ℕ) (left_since : D → ℕ → List ℕ 
           any_moment = followed moment left_since old.journal.device mid.journal.device new.journal.device (KeepsFirst (kinds_in old) (kept_in old) d.texts policy rule d.answers)
               d.any_moment
               (weakened moment left_since mid.journal.device new.journal.device _ _ (λ c keeps. all_are_first (kinds_in old) (kept_in old) d.texts policy rule d.answers (kept_in mid) c d.takes keeps) run);
+          behind = λ count le. behind_settled moment left_since policy rule old before mid new now d.texts d.answers count (ap₂ kept_as base (ap (λ r. r.patches) same)) (d.behind count le) run;
         },
         s.1,
       )
@@ -203,6 +293,7 @@ module _ {D : Type 0} (moment : D → ℕ) (left_since : D → ℕ → List ℕ 
       lines = s.0.lines;
       flushed = s.0.flushed;
       any_moment = s.0.any_moment;
+      behind = s.0.behind;
     },
     s.1,
   )
@@ -237,7 +328,7 @@ module _ {D : Type 0} (moment : D → ℕ) (left_since : D → ℕ → List ℕ 
     last = text;
     mid = mid;
     written = out;
-    delivered = record { texts = d.texts; answers = d.answers; came = came; kinds = d.kinds; takes = d.takes; lines = d.lines; flushed = d.flushed; any_moment = d.any_moment };
+    delivered = record { texts = d.texts; answers = d.answers; came = came; kinds = d.kinds; takes = d.takes; lines = d.lines; flushed = d.flushed; any_moment = d.any_moment; behind = d.behind };
     kinds = kinds;
     unanswered = unanswered;
     any_moment = run;
@@ -255,7 +346,7 @@ module _ {D : Type 0} (moment : D → ℕ) (left_since : D → ℕ → List ℕ 
   checkpoint_failed faults Gave Gives policy rule error old mid new before now d text came same base kinds run failed kind = record {
     last = text;
     mid = mid;
-    delivered = record { texts = d.texts; answers = d.answers; came = came; kinds = d.kinds; takes = d.takes; lines = d.lines; flushed = d.flushed; any_moment = d.any_moment };
+    delivered = record { texts = d.texts; answers = d.answers; came = came; kinds = d.kinds; takes = d.takes; lines = d.lines; flushed = d.flushed; any_moment = d.any_moment; behind = d.behind };
     same = same;
     base = base;
     kinds = kinds;

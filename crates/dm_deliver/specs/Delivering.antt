@@ -1,5 +1,5 @@
 -- How texts that come one after the other are delivered.
-use Rattle.std.specs.Prelude.{◌≡◌, ◌≢◌, ◌<◌, ◌^◌, ℕ, List, [], ◌∷◌, ◌++◌, length, flat_map, map}
+use Rattle.std.specs.Prelude.{◌≡◌, ◌≢◌, ◌≤◌, ◌<◌, ◌^◌, ℕ, List, [], ◌∷◌, ◌++◌, length, flat_map, map, take, drop}
 use Rattle.std.specs.Io.KnownBytes.{Appends}
 use Rattle.dm_named.specs.declared.limits.Kinds.{Kinds}
 use Rattle.dm_repo.specs.declared.policy.Policy.{Policy}
@@ -36,8 +36,21 @@ pub record KeepsFirst (kinds : Kinds) (kept : Kept) (texts : List (List ℕ)) (p
   pub takes : AnswersEach kinds kept first policy rule made after
   pub keeps : KeepsRepo kinds file after
 
+-- Behind the first so many lines: the store as it was when they were written, and what was written. Every crash since then left a file that keeps what
+-- they say: the repository after their texts, or after more of the texts.
+pub record KeepsBehind {D : Type 0} (moment : D → ℕ) (left_since : D → ℕ → List ℕ → Type 0) (policy : Policy) (rule : BundleRule) (old new : Store D)
+    (before now : Output) (texts : List (List ℕ)) (answers : List Reply) (count : ℕ) : Type 0 where
+  pub mid : Store D
+  pub written : Output
+  pub takes : AnswersEach (kinds_in old) (kept_in old) (take count texts) policy rule (take count answers) (kept_in mid)
+  pub put : PutsEach before (map answer_line (take count answers)) written
+  pub rest : AnswersEach (kinds_in old) (kept_in mid) (drop count texts) policy rule (drop count answers) (kept_in new)
+  pub to_put : PutsEach written (map answer_line (drop count answers)) now
+  pub any_moment : LeavesOnly moment left_since mid.journal.device new.journal.device
+      (KeepsFirst (kinds_in old) (kept_in mid) (drop count texts) policy rule (drop count answers))
+
 -- These texts came, each was answered by the repository that the one before it left, and the line of its answer written, and flushed before the next
--- was begun. A crash at any moment of it left a file that keeps the repository after the first of them.
+-- was begun. A crash at any moment of it left a file that keeps the repository after the first of them; behind each line, after its text at least.
 pub record Delivers {D : Type 0} (moment : D → ℕ) (left_since : D → ℕ → List ℕ → Type 0) (Gave : List (List ℕ) → Type 0) (policy : Policy)
     (rule : BundleRule) (old new : Store D) (before now : Output) : Type 0 where
   pub texts : List (List ℕ)
@@ -48,6 +61,7 @@ pub record Delivers {D : Type 0} (moment : D → ℕ) (left_since : D → ℕ �
   pub lines : Appends before.contents now.contents (lines_of answers)
   pub flushed : PutsEach before (map answer_line answers) now
   pub any_moment : LeavesOnly moment left_since old.journal.device new.journal.device (KeepsFirst (kinds_in old) (kept_in old) texts policy rule answers)
+  pub behind : (count : ℕ) → count ≤ length texts → KeepsBehind moment left_since policy rule old new before now texts answers count
 
 -- One text more came after those that were delivered, and isn't answered: what was done of it, and why, by the store as it was before it.
 pub record DeliversButLast {D : Type 0} (seen : D → List ℕ) (moment : D → ℕ) (left_since : D → ℕ → List ℕ → Type 0) (faults : D → ℕ) (Gave : List (List ℕ) → Type 0) (policy : Policy)

@@ -1,5 +1,5 @@
 -- What a mirror's file keeps where patches go, or where they stay.
-use Rattle.std.proofs.Common.{◌≡◌, ◌⊎◌, inl, inr, ⊎_elim, ℕ, List, length, sym, subst}
+use Rattle.std.proofs.Common.{◌≡◌, ◌⊎◌, inl, ⊎_elim, ℕ, List, length, sym, subst}
 use Rattle.dm_named.specs.declared.limits.Kinds.{Kinds}
 use Rattle.dm_named.specs.Patches.{Patch}
 use Rattle.dm_journal.specs.Device.{LeavesOnly}
@@ -9,7 +9,7 @@ use Rattle.dm_store.specs.declared.store.Store.{Store}
 use Rattle.dm_store.specs.Keeping.{CrashesKeep, IsStored, KeepsEither, KeepsRepo, Kept, kept_as, kept_in}
 use Rattle.dm_store.specs.Kinds.{kinds_in}
 use Rattle.dm_store.specs.LettingGo.{LosesNothing}
-use Rattle.dm_store.proofs.StoredLemmas.{at_rest, crashes_keep, weakened}
+use Rattle.dm_store.proofs.StoredLemmas.{at_rest, crashes_keep}
 
 -- no call of the file
 pub still_keeps : (store : Store (List Event)) (P : List ℕ → Type 0) → ((file : List ℕ) → KeepsRepo (kinds_in store) file (kept_in store) → P file) → IsStored seen may_leave file_may_leave store →
@@ -21,17 +21,14 @@ still_keeps store P to stored =
 pub stays_either : (store : Store (List Event)) (other : Kept) → IsStored seen may_leave file_may_leave store → LeavesOnly length left_since store.journal.device store.journal.device (KeepsEither (kinds_in store) (kept_in store) other)
 stays_either store other stored = still_keeps store (KeepsEither (kinds_in store) (kept_in store) other) (λ file keeps. inl keeps) stored
 
-either_of : (kinds : Kinds) (kept other : Kept) (others : List ℕ → Type 0) (file : List ℕ) → LosesNothing kinds kept other others file → KeepsEither kinds kept other file
-either_of kinds kept other others file (inl keeps) = inl keeps
-either_of kinds kept other others file (inr keeps) = inr keeps.0
-
--- the mirror wasn't touched, or it loses nothing
-pub kept_or_gone : (old new : Store (List Event)) (left : List Patch) (others : List ℕ → Type 0) → IsStored seen may_leave file_may_leave old →
+-- the mirror wasn't touched, or it loses nothing: so it loses nothing
+pub loses_nothing : (old new : Store (List Event)) (left : List Patch) (others : List ℕ → Type 0) → IsStored seen may_leave file_may_leave old →
     (new ≡ old) ⊎ LeavesOnly length left_since old.journal.device new.journal.device (LosesNothing (kinds_in old) (kept_in old) (kept_as old.base left) others) →
-    LeavesOnly length left_since old.journal.device new.journal.device (KeepsEither (kinds_in old) (kept_in old) (kept_as old.base left))
-kept_or_gone old new left others stored changes =
-    ⊎_elim (λ same. subst (λ (s : Store (List Event)). LeavesOnly length left_since old.journal.device s.journal.device (KeepsEither (kinds_in old) (kept_in old) (kept_as old.base left))) (sym same) (stays_either old (kept_as old.base left) stored))
-    (λ run. weakened length left_since old.journal.device new.journal.device _ _ (either_of (kinds_in old) (kept_in old) (kept_as old.base left) others) run)
+    LeavesOnly length left_since old.journal.device new.journal.device (LosesNothing (kinds_in old) (kept_in old) (kept_as old.base left) others)
+loses_nothing old new left others stored changes =
+    ⊎_elim (λ same. subst (λ (s : Store (List Event)). LeavesOnly length left_since old.journal.device s.journal.device (LosesNothing (kinds_in old) (kept_in old) (kept_as old.base left) others)) (sym same)
+    (still_keeps old (LosesNothing (kinds_in old) (kept_in old) (kept_as old.base left) others) (λ file keeps. inl keeps) stored))
+    (λ run. run)
     changes
 
 -- what a crash may leave now, it may have left at any moment since

@@ -34,6 +34,7 @@ module _ {D : Type 0} {moment : D → ℕ} {left_since : D → ℕ → List ℕ 
     lines = d.lines;
     flushed = d.flushed;
     any_moment = d.any_moment;
+    behind = d.behind;
   }
 
   pub told_less : {Gave Told : List (List ℕ) → Type 0} {old new : Store D} {before now : Output} (all : Bool) → ((texts : List (List ℕ)) → Gave texts → Told texts)

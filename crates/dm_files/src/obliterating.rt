@@ -7,6 +7,7 @@ ghost use Rattle.dm_named.specs.Limits.{standard};
 ghost use Rattle.dm_scratch.specs.Taking.{ReadsWithin};
 ghost use Rattle.dm_store.specs.Keeping.{IsStored, KeepsEither, kept_as, kept_in};
 ghost use Rattle.dm_store.specs.Kinds.{kinds_in};
+ghost use Rattle.dm_store.specs.LettingGo.{LosesNothing};
 ghost use Rattle.dm_commands.specs.Obliterating.{ObliteratesBehind, TakesOut};
 
 use crate::base_tag::refuse_before_base;
@@ -82,26 +83,28 @@ fn say_count(rt: &HostRuntime, count: usize) {
     };
 }
 
-/// Keeps the bundle in the file of this name, and has the mirror let go of what it has.
+/// Keeps the bundle in a file, which has this name, and has the mirror let go of what it has.
 fn keep_in_file<'a>(
     rt: &HostRuntime,
     path: &'a str,
     store: &mut Store<DiskFile>,
     name: &'a str,
+    file: &mut DiskFile,
     text: &[u8],
     stays: Repo<Global>,
 ) -> Result<(), WordFault<'a>>
     requires stored { IsStored seen may_leave file_may_leave store.old }
+    requires durable { IsDurable seen may_leave file_may_leave file.old }
     requires takes_out { TakesOut (kinds_in store.old) store.old.repo.patches stays.patches text.now }
     ensures done { OnOk result (store.new.repo ≡ stays) }
-    // A crash at any moment of it leaves a file that keeps the repository, or what stays.
+    // A crash at any moment of it loses no patch: the mirror's file keeps the repository, or what stays, and then the bundle's gives back
+    // the rest.
     ensures any_moment { LeavesOnly length left_since store.old.journal.device store.new.journal.device
-        (KeepsEither (kinds_in store.old) (kept_in store.old) (kept_as store.old.base stays.patches)) }
+        (LosesNothing (kinds_in store.old) (kept_in store.old) (kept_as store.old.base stays.patches) (may_leave file.new)) }
 {
-    let mut file = open_kept(rt, name)?;
-    match keep_and_let_go(rt.alloc(), store, &mut file, text, stays) {
+    match keep_and_let_go(rt.alloc(), store, file, text, stays) {
         Ok(done) => finish(done, path),
-        Err(Unkept::Bundle(fault)) => Err(blame(WordFault::Unwritten(name, fault), &file)),
+        Err(Unkept::Bundle(fault)) => Err(blame(WordFault::Unwritten(name, fault), file)),
         Err(Unkept::Mirror(fault)) => Err(WordFault::Unwritten(path, fault)),
     }
 }
@@ -225,7 +228,8 @@ fn keep_where_said<'a>(
 {
     match words.get_str("output") {
         Some(name) => {
-            keep_in_file(rt, path, store, name, text, stays)?;
+            let mut file = open_kept(rt, name)?;
+            keep_in_file(rt, path, store, name, &mut file, text, stays)?;
             print_count(rt, count)?;
         }
         None => {

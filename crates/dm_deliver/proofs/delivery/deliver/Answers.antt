@@ -117,9 +117,9 @@ loop-text-preserved g c =
       | then-all_accepted w ↦ inl (w.if-all_accepted.true, subst (λ (b : Bool). IsTrue b ↔ IsAcceptedAnswer v) (sym w.all_accepted-is) w.is_accepted-all_accepted.ensures)
       | else-all_accepted w ↦ inr (w.if-all_accepted.false, w.all_accepted-is)
     ] in (
-      one_more d.moment d.left_since (λ (texts : List (List ℕ)). g.S.Source.gave source texts c.loop-text.source) (λ (texts : List (List ℕ)). g.S.Source.gave source texts c.next_text.new.self)
+      one_more d.moment d.left_since d.may_leave g.met.D.Device.only_now (λ (texts : List (List ℕ)). g.S.Source.gave source texts c.loop-text.source) (λ (texts : List (List ℕ)). g.S.Source.gave source texts c.next_text.new.self)
           c.args.policy c.args.rule c.args.store.now c.settle.new.store c.answer.new.store (output g.W.Write.contents c.args.writer.now) (output g.W.Write.contents c.loop-text.writer) (output g.W.Write.contents c.answer.new.writer)
-          c.loop-text.all_accepted c.if-all_accepted.all_accepted ready text v came c.answer.ensures.kinds answered.answers answered.line answered.either both,
+          c.loop-text.all_accepted c.if-all_accepted.all_accepted ready text v came answered.kept c.answer.ensures.kinds answered.answers answered.line answered.either both,
       answered.stored,
       answered.kept,
       c.answer.ensures.base ∙ c.settle.ensures.base ∙ c.loop-text.invariant.3,
