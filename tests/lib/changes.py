@@ -14,8 +14,6 @@ PREFERENCES = ("test", "predist", "boringfile", "binariesfile")
 CLASS = re.compile(rb"(taken|nothing new|refused conflicts|refused|malformed).*", re.S)
 # `dm` says that two patches conflict that make one change at one place. A darcs-2 repository takes the second as a duplicate.
 TWINS = "twins"
-# `dm` lets a replace pass nothing of its own file. Darcs lets it pass hunks and replaces of other tokens.
-BESIDE = "a replace beside a change of its file, which darcs merges"
 
 
 class Changes(Repositories):

@@ -100,13 +100,13 @@ class Repositories(Place):
         self.darcs("", "clone", "-q", aside, folder)
 
 
-def side_by_side(work, form, count):
-    """So many of this form in both formats of darcs."""
+def side_by_side(work, form, count, *more):
+    """So many of this form in both formats of darcs, each made with these words more."""
 
     def one(job):
         kind, number = job
         place = os.path.join(work, "%s %s %d" % (form.__name__, kind, number))
-        unless_broken(place, lambda: form(kind, place, random.Random("%s %s %d" % (SEED, kind, number))).run())
+        unless_broken(place, lambda: form(kind, place, random.Random("%s %s %d" % (SEED, kind, number)), *more).run())
         shutil.rmtree(place, ignore_errors=True)
 
     with ThreadPoolExecutor(os.cpu_count()) as pool:
