@@ -25,7 +25,7 @@ SETS = (
 )
 # Words that are tokens of some sets, and parts of tokens of others.
 WORDS = ("a", "b", "c", "ab", "ba", "a-b", "b-a", "a.b", "b.", "A", "x_1", "a b", "-")
-BETWEEN = (" ", " ", "-", ".", ":", "")
+BETWEEN = (" ", " ", "-", ".", ":", "", "\u00e9")
 BOTH = ("hunk then replace", "replace then hunk", "two replaces")
 
 
@@ -116,6 +116,9 @@ class Passing(Repositories):
         self.said("init", "--mirror", "m", "--all-kinds")
         self.said("apply", "--mirror", "m", "--quiet", "start.dpatch")
 
+    def sees(self, what, count=1):
+        sees("%s: %s" % (self.kind, what), count)
+
     def take(self, folder, bundle, *words):
         self.darcs(folder, "apply", "-q", "-a", "--no-test", *words, self.path(bundle))
 
@@ -134,7 +137,7 @@ class Passing(Repositories):
         """Whether mirror and repository have the same names, files and texts of patches."""
         held, names = self.names_held(), self.names_of(folder)
         for name in sorted(set(held) ^ set(names)):
-            sees("differ")
+            self.sees("differ")
             holds("%s: %s: only %s has %s of %r" % (self.what, what, folder if name in names else "the mirror", name, self.pairs.get(name)), False)
         holds("%s: %s: the files" % (self.what, what), self.tree("m"), tree(self.path(folder)))
         self.send(folder, self.path("nothing"), self.path("theirs.dpatch"))
@@ -142,7 +145,7 @@ class Passing(Repositories):
         # Darcs leaves the braces of the start out.
         for name in sorted(set(ours) & set(theirs) - {b"start"}):
             if not holds("%s: %s: %s of %r" % (self.what, what, name.decode(), self.pairs.get(name.decode())), ours[name], theirs[name]):
-                sees("differ")
+                self.sees("differ")
         holds("%s: %s: texts of all" % (self.what, what), (len(ours), len(theirs)), (len(held), len(names)))
         return set(names)
 
@@ -162,8 +165,8 @@ class Commuting(Passing):
         self.darcs("moved", "pull", "-q", "-a", "--no-deps", "-p", "^second", "--no-set-default", self.path("whole"), ends=(0, 1))
         self.said("obliterate", "--mirror", "m", "--with-dependents", "-o", "gone.dpatch", *self.firsts)
         commute = self.holds_all_of("moved", "in front")
-        sees("commute", len(commute) - 1)
-        sees("don't commute", self.count + 1 - len(commute))
+        self.sees("commute", len(commute) - 1)
+        self.sees("don't commute", self.count + 1 - len(commute))
         # And the first ones behind them.
         self.darcs("moved", "pull", "-q", "-a", "--no-set-default", self.path("whole"))
         self.said("apply", "--mirror", "m", "--quiet", "gone.dpatch")
@@ -185,6 +188,6 @@ class Merging(Passing):
         _, out, said = self.dm("apply", "--mirror", "m", "--quiet", "--skip", "second.dpatch")
         merge = self.holds_all_of("merged", "merged")
         holds("%s: what is said" % self.what, said, b"")
-        sees("merge", len(merge) - 1 - self.count)
-        sees("conflict", 2 * self.count + 1 - len(merge))
+        self.sees("merge", len(merge) - 1 - self.count)
+        self.sees("conflict", 2 * self.count + 1 - len(merge))
         holds("%s: the verdict" % self.what, out.split()[:2], [b"taken", b"%d" % (len(merge) - 1 - self.count)])
