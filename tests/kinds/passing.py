@@ -2,12 +2,11 @@
 
 So many pairs are in one repository, each in a file of its own, that a call of darcs judges all of them.
 """
-import os
 import re
 
 from bundles import bundle, hunk, new_file, patch
 from counting import holds, sees
-from repositories import NO_CONTEXT, Repositories, hashes
+from repositories import NO_CONTEXT, Repositories
 from trees import read, tree, write
 
 # How many pairs one repository has.

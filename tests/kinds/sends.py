@@ -1,8 +1,4 @@
 """Histories of one author who sends each patch, or each few, with the context that darcs leaves, and now and then replaces a word."""
-import os
-import re
-
-from bundles import NOTHING
 from counting import holds, sees
 from repositories import Repositories
 from trees import read, tree, write
