@@ -66,26 +66,64 @@ addfile ./g
 replace ./f [a-z] x y
 }
 
-[a replace passes no hunk of its file
+[a replace passes a hunk of its file
+p**d] {
+replace ./f [a-z] x y
+hunk ./f 1
+-y
++b-y
+hunk ./f 1
+-x
++b-x
+replace ./f [a-z] x y
+}
+
+[a replace passes no hunk with its old token
 p**d] {
 replace ./f [a-z] x y
 hunk ./f 1
 -a
-+b
++x
 }
 
-[no hunk passes a replace of its file
+[a hunk passes a replace of its file
+p**d] {
+hunk ./f 1
+-a x
++xx
+replace ./f [a-z] x yy
+replace ./f [a-z] x yy
+hunk ./f 1
+-a yy
++xx
+}
+
+[no hunk with the new token passes a replace of its file
 p**d] {
 hunk ./f 1
 -a
-+b
++y
 replace ./f [a-z] x y
 }
 
-[a replace passes no replace of its file
+[replaces of one set pass each other
 p**d] {
 replace ./f [a-z] x y
 replace ./f [a-z] v w
+replace ./f [a-z] v w
+replace ./f [a-z] x y
+}
+
+[no replaces with one token pass each other
+p**d] {
+replace ./f [a-z] x y
+replace ./f [a-z] y z
+}
+
+[no replaces of two sets pass each other
+p**d] {
+replace ./f [a-z] x y
+replace ./f [a-z_] v w
 }
 
 [no work that adds its file passes a replace
