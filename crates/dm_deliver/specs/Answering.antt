@@ -78,6 +78,16 @@ AnswersEach kinds kept (text ∷ texts) policy rule (answer ∷ answers) after =
     (next : Kept) × Answers kinds kept text policy rule answer next × AnswersEach kinds next texts policy rule answers after
 AnswersEach kinds kept texts policy rule answers after = ⊥
 
+-- some text was answered so, and left this repository
+abbrev pub WasAnswered : Kinds → Answer → Kept → Type 0
+WasAnswered kinds answer after = (kept : Kept) × (text : List ℕ) × (policy : Policy) × (rule : BundleRule) × Answers kinds kept text policy rule answer after
+
+-- a line wasn't written: memory ran out, and no call of the writer was made; or a part of it was, and then a call failed
+abbrev pub BreaksOff : AnswerError → List ℕ → Output → Output → Type 0
+BreaksOff (Store why) line before now = ⊥
+BreaksOff NoMemory line before now = now ≡ before
+BreaksOff Write line before now = Breaks before now line
+
 -- the error is the store's own
 abbrev pub IsOfStore : AnswerError → Type 0
 IsOfStore (Store why) = Unit {0}

@@ -8,7 +8,7 @@ ghost use Rattle.dm_store.specs.Kinds.{kinds_in};
 ghost use Rattle.dm_store.specs.Keeping.{CrashesKeep, IsStored, KeepsRepo, kept_as, kept_in};
 ghost use Rattle.dm_deliver.specs.declared.answers.Answer.{Answer as Reply};
 ghost use Rattle.dm_deliver.specs.declared.fault.AnswerError.TheVariants.{Store as OfStore, NoMemory as NoRoom, Write as Unwritten};
-ghost use Rattle.dm_deliver.specs.Answering.{Answers, PassesRules, answer_line, IsAcceptedAnswer, IsOfStore, LeavesUnanswered, KeepsEither, KeepsAnswered};
+ghost use Rattle.dm_deliver.specs.Answering.{Answers, BreaksOff, PassesRules, WasAnswered, answer_line, IsAcceptedAnswer, IsOfStore, LeavesUnanswered, KeepsEither, KeepsAnswered};
 ghost use Rattle.dm_deliver.specs.Delivering.{Delivers, DeliversUntil, EndsStore, KeepsSome};
 ghost use Rattle.dm_deliver.specs.Outputs.{output, Puts};
 
@@ -101,6 +101,24 @@ fn take_text<D: Device>(
     Ok(Answer::Verdict(verdict))
 }
 
+// Writes the line of an answer, and flushes the writer. It asks that each crash leaves a file that keeps what the answer says.
+fn tell<D: Device, W: Write>(
+    alloc: Global,
+    store: &Store<D>,
+    reply: Answer,
+    writer: &mut Watched<W>,
+) -> Result<(), AnswerError>
+    requires answered { WasAnswered (kinds_in store.now) reply (kept_in store.now) }
+    requires kept { CrashesKeep (kinds_in store.now) D.may_leave store.now.journal.device (kept_in store.now) }
+    ensures line { OnOk result (Puts (output W.contents writer.old) (output W.contents writer.new) (answer_line reply)) }
+    ensures broken { IfErr result (λ e. BreaksOff e (answer_line reply) (output W.contents writer.old) (output W.contents writer.new)) }
+{
+    let _ = store;
+    let mut line = Vec::new(alloc);
+    push_answer(reply, &mut line)?;
+    write_line(&line, writer)
+}
+
 /// Takes a text into a store, and then writes the line of its answer and flushes the writer: a byte of the line is written only
 /// once each crash leaves a file that keeps what was taken. A bundle whose hash or date the rule refuses is answered by that, and not
 /// taken; nor is one that doesn't rest on the whole base with which the repository begins. A refused bundle is answered too,
@@ -144,9 +162,7 @@ pub fn answer<D: Device, W: Write>(
     ensures full { IfErr result (λ e. e ≡ OfStore Full → 2 ^ 62 < length (D.seen store.old.journal.device)) }
 {
     let reply = take_text(alloc, store, text, policy, rule)?;
-    let mut line = Vec::new(alloc);
-    push_answer(reply, &mut line)?;
-    write_line(&line, writer)?;
+    tell(alloc, store, reply, writer)?;
     Ok(reply)
 }
 
