@@ -1,4 +1,5 @@
 pub mod CheckLemmas
+pub mod TellLemmas
 pub mod AnswerLemmas
 pub mod RunLemmas
 pub mod AlikeLemmas

@@ -1,6 +1,7 @@
 pub mod Streams
 pub mod Printing
 pub mod Checking
+pub mod Telling
 pub mod Applying
 pub mod Running
 pub mod Alike

@@ -29,6 +29,7 @@ mod send;
 mod status;
 mod streams;
 mod tag;
+mod telling;
 mod undoing;
 
 pub use alike::{Mirrors, run_mirrors};
@@ -47,4 +48,5 @@ pub use running::{Bases, Ran, run_over};
 pub use send::{Sent, refusal_line, send_over, text_of};
 pub use streams::{read_within, write_text};
 pub use tag::{BaseTag, base_tag, before_base_line, names_base};
+pub use telling::{sent_line, tell_within};
 pub use undoing::undo_chosen;

@@ -16,11 +16,7 @@ use Rattle.dm_store.specs.Entries.{entry_of}
 use Rattle.dm_store.specs.Keeping.{HasTaken, TakesText, KeepsRepo, KeepsWithOrWithout, Kept, CrashesKeep, kept_as}
 use Rattle.dm_store.proofs.EntryLemmas.{one_entry}
 use Rattle.dm_deliver.specs.declared.bundle_rule.BundleRule.{BundleRule}
-use Rattle.dm_deliver.specs.declared.answers.Answer.{Answer}
-use Rattle.dm_deliver.specs.declared.fault.AnswerError.{AnswerError}
-use Rattle.dm_deliver.specs.declared.fault.AnswerError.TheVariants.{Store as OfStore, NoMemory as NoRoom, Write as Unwritten}
-use Rattle.dm_deliver.specs.Answering.{PassesRules, Answers, KeepsEither, KeepsAnswered, LeavesUnanswered}
-use Rattle.dm_deliver.specs.Outputs.{Output}
+use Rattle.dm_deliver.specs.Answering.{PassesRules, Answers, KeepsEither, KeepsAnswered}
 
 has_memory : (v : Verdict) → HasTaken v → v ≢ Refused NoMemory
 has_memory v taken e = absurd (subst (λ (w : Verdict). HasTaken w) e taken)
@@ -48,13 +44,6 @@ either_of : (kinds : Kinds) (kept : Kept) (text : List ℕ) (policy : Policy) (v
     (c : List ℕ) → KeepsWithOrWithout kinds kept text policy c → KeepsEither kinds kept after c
 either_of kinds kept text policy v after taken takes same c (inl k) = inl k
 either_of kinds kept text policy v after taken takes same c (inr k) = inr (subst (λ (r : Kept). KeepsRepo kinds c r) (one_after kinds kept text policy v after k.0 taken takes same k.1) k.2)
-
--- why a text has no answer, before a line of it
-pub not_answered : (kinds : Kinds) (e : AnswerError) (kept : Kept) (text : List ℕ) (policy : Policy) (rule : BundleRule) (after : Kept) (out : Output) →
-    (e ≡ NoRoom → (after ≡ kept) ⊎ ((answer : Answer) × Answers kinds kept text policy rule answer after)) → e ≢ Unwritten → LeavesUnanswered e kinds kept text policy rule after out out
-not_answered kinds (OfStore why) kept text policy rule after out none only = refl
-not_answered kinds NoRoom kept text policy rule after out none only = (none refl, refl)
-not_answered kinds Unwritten kept text policy rule after out none only = absurd (only refl)
 
 module _ {D : Type 0} (moment : D → ℕ) (left_since : D → ℕ → List ℕ → Type 0) (may_leave : D → List ℕ → Type 0)
     (only_now : (device : D) (c : List ℕ) → left_since device (moment device) c → may_leave device c) where

@@ -1,9 +1,10 @@
 -- Texts that were delivered, and one more.
-use Rattle.std.proofs.Common.{◌≡◌, ◌≢◌, ◌∙◌, ◌⊎◌, ◌↔◌, ◌≤◌, ◌<◌, ◌^◌, ◌+◌, suc, arith, ⊎_elim, inl, inr, length, take, drop, map, ℕ, Bool, true, false, All, IsTrue, List, [], ◌∷◌, ◌++◌, Some, refl, sym, subst, ap, ap₂, append_assoc, append-nil, true≢false}
+use Rattle.std.proofs.Common.{◌≡◌, ◌≢◌, ◌∙◌, ◌⊎◌, ◌↔◌, ◌≤◌, ◌<◌, ◌^◌, ◌+◌, suc, arith, ⊎_elim, inl, inr, length, take, drop, ℕ, Bool, true, false, All, IsTrue, List, [], ◌∷◌, ◌++◌, Some, refl, sym, subst, ap, ap₂, append_assoc, append-nil, true≢false}
 use Rattle.std.proofs.KnownBytes.{Appends-nil, Appends-trans}
-use Rattle.std.proofs.lemmas.Grind.{flat_map-append}
+use Rattle.std.specs.List.{concat}
+use Rattle.std.proofs.lemmas.List.Folds.{concat-append}
 use Rattle.std.proofs.lemmas.Bool.{cases_lt}
-use Rattle.std.proofs.lemmas.List.{map-append, take-append-le, drop-append-le, take_all, drop_all, length-append}
+use Rattle.std.proofs.lemmas.List.{take-append-le, drop-append-le, take_all, drop_all, length-append}
 use Rattle.std.proofs.lemmas.List.Elements.{All-nil, All-push, All-pop}
 use Rattle.std.specs.Io.KnownBytes.{Appends}
 use Rattle.dm_named.specs.declared.limits.Kinds.{Kinds}
@@ -24,8 +25,8 @@ use Rattle.dm_deliver.specs.declared.answers.Answer.TheVariants.{Verdict}
 use Rattle.dm_deliver.specs.declared.fault.AnswerError.{AnswerError}
 use Rattle.dm_deliver.specs.declared.fault.AnswerError.TheVariants.{Store as OfStore}
 use Rattle.dm_deliver.specs.declared.bundle_rule.BundleRule.{BundleRule}
-use Rattle.dm_deliver.specs.Answering.{answer_line, Answers, AnswersEach, IsAcceptedAnswer, KeepsEither, KeepsAnswered, LeavesUnanswered}
-use Rattle.dm_deliver.specs.Delivering.{lines_of, KeepsBehind, KeepsFirst, KeepsSome, Delivers, DeliversAllBut, DeliversButLast}
+use Rattle.dm_deliver.specs.Answering.{Answers, AnswersEach, IsAcceptedAnswer, IsTold, KeepsEither, KeepsAnswered, LeavesUnanswered, Saying}
+use Rattle.dm_deliver.specs.Delivering.{KeepsBehind, KeepsFirst, KeepsSome, Delivers, DeliversAllBut, DeliversButLast, SaysEach}
 use Rattle.dm_deliver.specs.Outputs.{Output, Puts, PutsEach}
 use Rattle.dm_deliver.proofs.AnswerLemmas.{takes_of_entry}
 
@@ -50,9 +51,31 @@ as_many kinds repo [] policy rule (v ∷ vs) after each = absurd each
 as_many kinds repo (t ∷ ts) policy rule [] after each = absurd each
 as_many kinds repo (t ∷ ts) policy rule (v ∷ vs) after each = ap suc (as_many kinds each.0 ts policy rule vs after each.2)
 
--- the last of the answers has its line at the end
-lines_more : (vs : List Answer) (v : Answer) → lines_of (vs ++ v ∷ []) ≡ lines_of vs ++ answer_line v
-lines_more vs v = flat_map-append answer_line vs (v ∷ []) ∙ ap (λ (l : List ℕ). lines_of vs ++ l) (append-nil (answer_line v))
+-- and as many lines
+lines_as_many : (Says : Saying) (kinds : Kinds) (repo : Kept) (texts : List (List ℕ)) (policy : Policy) (rule : BundleRule) (answers : List Answer) (lines : List (List ℕ)) (after : Kept) →
+    SaysEach Says kinds repo texts policy rule answers lines after → length lines ≡ length texts
+lines_as_many Says kinds repo [] policy rule [] [] after each = refl
+lines_as_many Says kinds repo [] policy rule [] (l ∷ ls) after each = absurd each
+lines_as_many Says kinds repo [] policy rule (v ∷ vs) ls after each = absurd each
+lines_as_many Says kinds repo (t ∷ ts) policy rule [] ls after each = absurd each
+lines_as_many Says kinds repo (t ∷ ts) policy rule (v ∷ vs) [] after each = absurd each
+lines_as_many Says kinds repo (t ∷ ts) policy rule (v ∷ vs) (l ∷ ls) after each = ap suc (lines_as_many Says kinds each.0 ts policy rule vs ls after each.3)
+
+-- one line more says an answer
+says_more : (Says : Saying) (kinds : Kinds) (repo : Kept) (texts : List (List ℕ)) (policy : Policy) (rule : BundleRule) (answers : List Answer) (lines : List (List ℕ)) (mid : Kept) (text : List ℕ) (answer : Answer) (line : List ℕ) (after : Kept) →
+    SaysEach Says kinds repo texts policy rule answers lines mid → Answers kinds mid text policy rule answer after → Says after.patches text answer line →
+    SaysEach Says kinds repo (texts ++ text ∷ []) policy rule (answers ++ answer ∷ []) (lines ++ line ∷ []) after
+says_more Says kinds repo [] policy rule [] [] mid text answer line after so_far last says = (after, rw so_far at last, says, refl)
+says_more Says kinds repo [] policy rule [] (l ∷ ls) mid text answer line after so_far last says = absurd so_far
+says_more Says kinds repo [] policy rule (v ∷ vs) ls mid text answer line after so_far last says = absurd so_far
+says_more Says kinds repo (t ∷ ts) policy rule [] ls mid text answer line after so_far last says = absurd so_far
+says_more Says kinds repo (t ∷ ts) policy rule (v ∷ vs) [] mid text answer line after so_far last says = absurd so_far
+says_more Says kinds repo (t ∷ ts) policy rule (v ∷ vs) (l ∷ ls) mid text answer line after so_far last says =
+    (so_far.0, so_far.1, so_far.2, says_more Says kinds so_far.0 ts policy rule vs ls mid text answer line after so_far.3 last says)
+
+-- the last of the lines stands at the end
+lines_more : (ls : List (List ℕ)) (l : List ℕ) → concat (ls ++ l ∷ []) ≡ concat ls ++ l
+lines_more ls l = concat-append ls (l ∷ []) ∙ ap (λ (x : List ℕ). concat ls ++ x) (append-nil l)
 
 -- the first of them are the first of more
 first_of_more : (kinds : Kinds) (repo : Kept) (texts : List (List ℕ)) (policy : Policy) (rule : BundleRule) (answers : List Answer) (text : List ℕ) (v : Answer) (c : List ℕ) → KeepsFirst kinds repo texts policy rule answers c → KeepsFirst kinds repo (texts ++ text ∷ []) policy rule (answers ++ v ∷ []) c
@@ -126,18 +149,21 @@ all_more P all more vs v so_far (inr x) = (
 )
 
 -- texts were delivered, and this says whether all were accepted
-abbrev pub Accepts : {D : Type 0} → (D → ℕ) → (D → ℕ → List ℕ → Type 0) → (List (List ℕ) → Type 0) → Policy → BundleRule → Store D → Store D → Output → Output → Bool → Type 0
-Accepts moment left_since Gave policy rule old new before now all = (d : Delivers moment left_since Gave policy rule old new before now) × (IsTrue all ↔ All IsAcceptedAnswer d.answers)
+abbrev pub Accepts : {D : Type 0} → (D → ℕ) → (D → ℕ → List ℕ → Type 0) → Saying → (List (List ℕ) → Type 0) → Policy → BundleRule → Store D → Store D → Output → Output → Bool → Type 0
+Accepts moment left_since Says Gave policy rule old new before now all = (d : Delivers moment left_since Says Gave policy rule old new before now) × (IsTrue all ↔ All IsAcceptedAnswer d.answers)
 
 module _ {D : Type 0} (moment : D → ℕ) (left_since : D → ℕ → List ℕ → Type 0) (policy : Policy) (rule : BundleRule) (old : Store D) (before : Output) where
   -- behind the last line
   behind_all : (may_leave : D → List ℕ → Type 0) (only_now : (device : D) (c : List ℕ) → left_since device (moment device) c → may_leave device c) (new : Store D) (now : Output)
-      (texts : List (List ℕ)) (answers : List Answer) (count : ℕ) → length texts ≤ count → kinds_in new ≡ kinds_in old →
-      AnswersEach (kinds_in old) (kept_in old) texts policy rule answers (kept_in new) → PutsEach before (map answer_line answers) now →
-      CrashesKeep (kinds_in new) may_leave new.journal.device (kept_in new) → KeepsBehind moment left_since policy rule old new before now texts answers count
-  behind_all may_leave only_now new now texts answers count le kinds takes put keeps =
+      (texts : List (List ℕ)) (answers : List Answer) (lines : List (List ℕ)) (count : ℕ) → length lines ≡ length texts → length texts ≤ count → kinds_in new ≡ kinds_in old →
+      AnswersEach (kinds_in old) (kept_in old) texts policy rule answers (kept_in new) → PutsEach before lines now →
+      CrashesKeep (kinds_in new) may_leave new.journal.device (kept_in new) → KeepsBehind moment left_since policy rule old new before now texts answers lines count
+  behind_all may_leave only_now new now texts answers lines count as_lines le kinds takes put keeps =
       let many : length answers ≡ length texts = as_many (kinds_in old) (kept_in old) texts policy rule answers (kept_in new) takes in
       let few : length answers ≤ count = omega (arith, many, le) in
+      let short : length lines ≤ count = omega (arith, as_lines, le) in
+      let all_lines : take count lines ≡ lines = take_all count lines short in
+      let no_line : drop count lines ≡ [] = drop_all count lines short in
       let all_texts : take count texts ≡ texts = take_all count texts le in
       let all_answers : take count answers ≡ answers = take_all count answers few in
       let no_text : drop count texts ≡ [] = drop_all count texts le in
@@ -146,21 +172,25 @@ module _ {D : Type 0} (moment : D → ℕ) (left_since : D → ℕ → List ℕ 
         mid = new;
         written = now;
         takes = rw (all_texts, all_answers) takes;
-        put = rw all_answers put;
+        put = rw all_lines put;
         rest = rw (no_text, no_answer) refl;
-        to_put = rw no_answer refl;
+        to_put = rw no_line refl;
         any_moment = rw (no_text, no_answer) (at_rest moment left_since new.journal.device (KeepsFirst (kinds_in old) (kept_in new) [] policy rule [])
             (λ c left. all_are_first (kinds_in old) (kept_in new) [] policy rule [] (kept_in new) c refl
             (subst (λ (k : Kinds). KeepsRepo k c (kept_in new)) kinds (keeps c (only_now new.journal.device c left)))));
       }
 
   -- behind an earlier line, where one text more was answered
-  behind_more : (mid new : Store D) (out now : Output) (texts : List (List ℕ)) (answers : List Answer) (text : List ℕ) (v : Answer) (count : ℕ) → count ≤ length texts → length answers ≡ length texts →
-      KeepsBehind moment left_since policy rule old mid before out texts answers count → Answers (kinds_in old) (kept_in mid) text policy rule v (kept_in new) → Puts out now (answer_line v) →
+  behind_more : (mid new : Store D) (out now : Output) (texts : List (List ℕ)) (answers : List Answer) (lines : List (List ℕ)) (text : List ℕ) (v : Answer) (line : List ℕ) (count : ℕ) →
+      count ≤ length texts → length answers ≡ length texts → length lines ≡ length texts →
+      KeepsBehind moment left_since policy rule old mid before out texts answers lines count → Answers (kinds_in old) (kept_in mid) text policy rule v (kept_in new) → Puts out now line →
       LeavesOnly moment left_since mid.journal.device new.journal.device (KeepsEither (kinds_in old) (kept_in mid) (kept_in new)) →
-      KeepsBehind moment left_since policy rule old new before now (texts ++ text ∷ []) (answers ++ v ∷ []) count
-  behind_more mid new out now texts answers text v count le many b last line run =
+      KeepsBehind moment left_since policy rule old new before now (texts ++ text ∷ []) (answers ++ v ∷ []) (lines ++ line ∷ []) count
+  behind_more mid new out now texts answers lines text v line count le many as_lines b last put run =
       let few : count ≤ length answers = omega (arith, many, le) in
+      let short : count ≤ length lines = omega (arith, as_lines, le) in
+      let first_lines : take count (lines ++ line ∷ []) ≡ take count lines = take-append-le count lines (line ∷ []) short in
+      let other_lines : drop count (lines ++ line ∷ []) ≡ drop count lines ++ line ∷ [] = drop-append-le count lines (line ∷ []) short in
       let first_texts : take count (texts ++ text ∷ []) ≡ take count texts = take-append-le count texts (text ∷ []) le in
       let first_answers : take count (answers ++ v ∷ []) ≡ take count answers = take-append-le count answers (v ∷ []) few in
       let other_texts : drop count (texts ++ text ∷ []) ≡ drop count texts ++ text ∷ [] = drop-append-le count texts (text ∷ []) le in
@@ -169,10 +199,9 @@ module _ {D : Type 0} (moment : D → ℕ) (left_since : D → ℕ → List ℕ 
         mid = b.mid;
         written = b.written;
         takes = rw (first_texts, first_answers) b.takes;
-        put = rw first_answers b.put;
+        put = rw first_lines b.put;
         rest = rw (other_texts, other_answers) (answers_more (kinds_in old) (kept_in b.mid) (drop count texts) policy rule (drop count answers) (kept_in mid) text v (kept_in new) b.rest last);
-        to_put = rw other_answers (subst (λ (l : List (List ℕ)). PutsEach b.written l now) (sym (map-append answer_line (drop count answers) (v ∷ [])))
-            (puts_more b.written (map answer_line (drop count answers)) out (answer_line v) now b.to_put line));
+        to_put = rw other_lines (puts_more b.written (drop count lines) out line now b.to_put put);
         any_moment = rw (other_texts, other_answers) (followed moment left_since b.mid.journal.device mid.journal.device new.journal.device
             (KeepsFirst (kinds_in old) (kept_in b.mid) (drop count texts ++ text ∷ []) policy rule (drop count answers ++ v ∷ []))
             (weakened moment left_since b.mid.journal.device mid.journal.device _ _ (first_of_more (kinds_in old) (kept_in b.mid) (drop count texts) policy rule (drop count answers) text v) b.any_moment)
@@ -181,11 +210,11 @@ module _ {D : Type 0} (moment : D → ℕ) (left_since : D → ℕ → List ℕ 
       }
 
   -- behind a line, where a checkpoint was made, or tried
-  behind_settled : (mid new : Store D) (now : Output) (texts : List (List ℕ)) (answers : List Answer) (count : ℕ) → kept_in new ≡ kept_in mid →
-      KeepsBehind moment left_since policy rule old mid before now texts answers count →
+  behind_settled : (mid new : Store D) (now : Output) (texts : List (List ℕ)) (answers : List Answer) (lines : List (List ℕ)) (count : ℕ) → kept_in new ≡ kept_in mid →
+      KeepsBehind moment left_since policy rule old mid before now texts answers lines count →
       LeavesOnly moment left_since mid.journal.device new.journal.device (λ file. KeepsRepo (kinds_in old) file (kept_in mid)) →
-      KeepsBehind moment left_since policy rule old new before now texts answers count
-  behind_settled mid new now texts answers count same b run = record {
+      KeepsBehind moment left_since policy rule old new before now texts answers lines count
+  behind_settled mid new now texts answers lines count same b run = record {
     mid = b.mid;
     written = b.written;
     takes = b.takes;
@@ -198,23 +227,25 @@ module _ {D : Type 0} (moment : D → ℕ) (left_since : D → ℕ → List ℕ 
         (λ c keeps. all_are_first (kinds_in old) (kept_in b.mid) (drop count texts) policy rule (drop count answers) (kept_in mid) c b.rest keeps) run);
   }
 
-module _ {D : Type 0} (moment : D → ℕ) (left_since : D → ℕ → List ℕ → Type 0) where
+module _ {D : Type 0} (moment : D → ℕ) (left_since : D → ℕ → List ℕ → Type 0) (Says : Saying) where
   -- nothing came yet
   pub begun : (may_leave : D → List ℕ → Type 0) (only_now : (device : D) (c : List ℕ) → left_since device (moment device) c → may_leave device c)
       (Gave : List (List ℕ) → Type 0) (policy : Policy) (rule : BundleRule) (store : Store D) (out : Output) → Gave [] → CrashesKeep (kinds_in store) may_leave store.journal.device (kept_in store) →
-      Accepts moment left_since Gave policy rule store store out out true
+      Accepts moment left_since Says Gave policy rule store store out out true
   begun may_leave only_now Gave policy rule store out none keeps = (
     record {
       texts = [];
       answers = [];
+      lines = [];
       came = none;
       kinds = refl;
       takes = refl;
-      lines = Appends-nil out.contents;
+      says = refl;
+      bytes = Appends-nil out.contents;
       flushed = refl;
       any_moment = at_rest moment left_since store.journal.device (KeepsFirst (kinds_in store) (kept_in store) [] policy rule [])
           (λ c left. all_are_first (kinds_in store) (kept_in store) [] policy rule [] (kept_in store) c refl (keeps c (only_now store.journal.device c left)));
-      behind = λ count le. behind_all moment left_since policy rule store out may_leave only_now store out [] [] count (omega arith) refl refl refl keeps;
+      behind = λ count le. behind_all moment left_since policy rule store out may_leave only_now store out [] [] [] count refl (omega arith) refl refl refl keeps;
     },
     (λ t. All-nil IsAcceptedAnswer, λ h. refl),
   )
@@ -222,35 +253,40 @@ module _ {D : Type 0} (moment : D → ℕ) (left_since : D → ℕ → List ℕ 
   -- one text more was answered, and its line written
   pub one_more : (may_leave : D → List ℕ → Type 0) (only_now : (device : D) (c : List ℕ) → left_since device (moment device) c → may_leave device c)
       (Gave Gives : List (List ℕ) → Type 0) (policy : Policy) (rule : BundleRule) (old mid new : Store D) (before out now : Output) (all more : Bool)
-      (s : Accepts moment left_since Gave policy rule old mid before out all) (text : List ℕ) (v : Answer) → Gives (s.0.texts ++ text ∷ []) →
+      (s : Accepts moment left_since Says Gave policy rule old mid before out all) (text : List ℕ) (v : Answer) → Gives (s.0.texts ++ text ∷ []) →
       CrashesKeep (kinds_in new) may_leave new.journal.device (kept_in new) →
-      kinds_in new ≡ kinds_in mid → Answers (kinds_in mid) (kept_in mid) text policy rule v (kept_in new) → Puts out now (answer_line v) →
+      kinds_in new ≡ kinds_in mid → Answers (kinds_in mid) (kept_in mid) text policy rule v (kept_in new) → IsTold Says (kept_in new).patches text v out now →
       LeavesOnly moment left_since mid.journal.device new.journal.device (KeepsEither (kinds_in mid) (kept_in mid) (kept_in new)) →
       ((all ≡ true) × (IsTrue more ↔ IsAcceptedAnswer v)) ⊎ ((all ≡ false) × (more ≡ all)) →
-      Accepts moment left_since Gives policy rule old new before now more
-  one_more may_leave only_now Gave Gives policy rule old mid new before out now all more s text v came keeps same takes' line run' both =
+      Accepts moment left_since Says Gives policy rule old new before now more
+  one_more may_leave only_now Gave Gives policy rule old mid new before out now all more s text v came keeps same takes' (line, said, put) run' both =
       let d = s.0 in
       let many : length d.answers ≡ length d.texts = as_many (kinds_in old) (kept_in old) d.texts policy rule d.answers (kept_in mid) d.takes in
       let longer : length (d.texts ++ text ∷ []) ≡ length d.texts + 1 = length-append d.texts (text ∷ []) in
       let takes = subst (λ (k : Kinds). Answers k (kept_in mid) text policy rule v (kept_in new)) d.kinds takes' in
       let run = subst (λ (k : Kinds). LeavesOnly moment left_since mid.journal.device new.journal.device (KeepsEither k (kept_in mid) (kept_in new))) d.kinds run' in
       let each = answers_more (kinds_in old) (kept_in old) d.texts policy rule d.answers (kept_in mid) text v (kept_in new) d.takes takes in
-      let written = subst (λ (l : List (List ℕ)). PutsEach before l now) (sym (map-append answer_line d.answers (v ∷ []))) (puts_more before (map answer_line d.answers) out (answer_line v) now d.flushed line) in (
+      let as_lines : length d.lines ≡ length d.texts = lines_as_many Says (kinds_in old) (kept_in old) d.texts policy rule d.answers d.lines (kept_in mid) d.says in
+      let more_lines : length (d.lines ++ line ∷ []) ≡ length d.lines + 1 = length-append d.lines (line ∷ []) in
+      let written = puts_more before d.lines out line now d.flushed put in (
         record {
           texts = d.texts ++ text ∷ [];
           answers = d.answers ++ v ∷ [];
+          lines = d.lines ++ line ∷ [];
           came = came;
           kinds = same ∙ d.kinds;
           takes = each;
-          lines = subst (λ (l : List ℕ). Appends before.contents now.contents l) (sym (lines_more d.answers v))
-              (Appends-trans before.contents out.contents now.contents (lines_of d.answers) (answer_line v) d.lines line.bytes);
+          says = says_more Says (kinds_in old) (kept_in old) d.texts policy rule d.answers d.lines (kept_in mid) text v line (kept_in new) d.says takes said;
+          bytes = subst (λ (l : List ℕ). Appends before.contents now.contents l) (sym (lines_more d.lines line))
+              (Appends-trans before.contents out.contents now.contents (concat d.lines) line d.bytes put.bytes);
           flushed = written;
           any_moment = followed moment left_since old.journal.device mid.journal.device new.journal.device (KeepsFirst (kinds_in old) (kept_in old) (d.texts ++ text ∷ []) policy rule (d.answers ++ v ∷ []))
               (weakened moment left_since old.journal.device mid.journal.device _ _ (first_of_more (kinds_in old) (kept_in old) d.texts policy rule d.answers text v) d.any_moment)
               (weakened moment left_since mid.journal.device new.journal.device _ _ (either_is_first (kinds_in old) (kept_in old) d.texts policy rule d.answers (kept_in mid) text v (kept_in new) d.takes takes) run);
           behind = λ count le. ⊎_elim
-              (λ more_than. behind_all moment left_since policy rule old before may_leave only_now new now (d.texts ++ text ∷ []) (d.answers ++ v ∷ []) count (omega (arith, longer, more_than)) (same ∙ d.kinds) each written keeps)
-              (λ most. behind_more moment left_since policy rule old before mid new out now d.texts d.answers text v count most many (d.behind count most) takes line run)
+              (λ more_than. behind_all moment left_since policy rule old before may_leave only_now new now (d.texts ++ text ∷ []) (d.answers ++ v ∷ []) (d.lines ++ line ∷ []) count
+              (omega (arith, longer, more_lines, as_lines)) (omega (arith, longer, more_than)) (same ∙ d.kinds) each written keeps)
+              (λ most. behind_more moment left_since policy rule old before mid new out now d.texts d.answers d.lines text v line count most many as_lines (d.behind count most) takes put run)
               (cases_lt (length d.texts) count);
         },
         all_more IsAcceptedAnswer all more d.answers v s.1 both,
@@ -258,39 +294,43 @@ module _ {D : Type 0} (moment : D → ℕ) (left_since : D → ℕ → List ℕ 
 
   -- a checkpoint was made, or tried
   pub settled : (Gave : List (List ℕ) → Type 0) (policy : Policy) (rule : BundleRule) (old mid new : Store D) (before now : Output) (all : Bool)
-      (s : Accepts moment left_since Gave policy rule old mid before now all) → new.repo ≡ mid.repo → new.base ≡ mid.base → kinds_in new ≡ kinds_in mid →
+      (s : Accepts moment left_since Says Gave policy rule old mid before now all) → new.repo ≡ mid.repo → new.base ≡ mid.base → kinds_in new ≡ kinds_in mid →
       LeavesOnly moment left_since mid.journal.device new.journal.device (λ file. KeepsRepo (kinds_in mid) file (kept_in mid)) →
-      Accepts moment left_since Gave policy rule old new before now all
+      Accepts moment left_since Says Gave policy rule old new before now all
   settled Gave policy rule old mid new before now all s same base kinds run' =
       let d = s.0 in
       let run = subst (λ (k : Kinds). LeavesOnly moment left_since mid.journal.device new.journal.device (λ file. KeepsRepo k file (kept_in mid))) d.kinds run' in (
         record {
           texts = d.texts;
           answers = d.answers;
+          lines = d.lines;
           came = d.came;
           kinds = kinds ∙ d.kinds;
           takes = subst (λ (r : Kept). AnswersEach (kinds_in old) (kept_in old) d.texts policy rule d.answers r) (sym (ap₂ kept_as base (ap (λ r. r.patches) same))) d.takes;
-          lines = d.lines;
+          says = subst (λ (r : Kept). SaysEach Says (kinds_in old) (kept_in old) d.texts policy rule d.answers d.lines r) (sym (ap₂ kept_as base (ap (λ r. r.patches) same))) d.says;
+          bytes = d.bytes;
           flushed = d.flushed;
           any_moment = followed moment left_since old.journal.device mid.journal.device new.journal.device (KeepsFirst (kinds_in old) (kept_in old) d.texts policy rule d.answers)
               d.any_moment
               (weakened moment left_since mid.journal.device new.journal.device _ _ (λ c keeps. all_are_first (kinds_in old) (kept_in old) d.texts policy rule d.answers (kept_in mid) c d.takes keeps) run);
-          behind = λ count le. behind_settled moment left_since policy rule old before mid new now d.texts d.answers count (ap₂ kept_as base (ap (λ r. r.patches) same)) (d.behind count le) run;
+          behind = λ count le. behind_settled moment left_since policy rule old before mid new now d.texts d.answers d.lines count (ap₂ kept_as base (ap (λ r. r.patches) same)) (d.behind count le) run;
         },
         s.1,
       )
 
   -- no text more
-  pub no_more : (Gave Gives : List (List ℕ) → Type 0) (policy : Policy) (rule : BundleRule) (old new : Store D) (before now : Output) (all : Bool) (s : Accepts moment left_since Gave policy rule old new before now all) →
-      Gives s.0.texts → Accepts moment left_since Gives policy rule old new before now all
+  pub no_more : (Gave Gives : List (List ℕ) → Type 0) (policy : Policy) (rule : BundleRule) (old new : Store D) (before now : Output) (all : Bool) (s : Accepts moment left_since Says Gave policy rule old new before now all) →
+      Gives s.0.texts → Accepts moment left_since Says Gives policy rule old new before now all
   no_more Gave Gives policy rule old new before now all s came = (
     record {
       texts = s.0.texts;
       answers = s.0.answers;
+      lines = s.0.lines;
       came = came;
       kinds = s.0.kinds;
       takes = s.0.takes;
-      lines = s.0.lines;
+      says = s.0.says;
+      bytes = s.0.bytes;
       flushed = s.0.flushed;
       any_moment = s.0.any_moment;
       behind = s.0.behind;
@@ -299,13 +339,13 @@ module _ {D : Type 0} (moment : D → ℕ) (left_since : D → ℕ → List ℕ 
   )
 
   -- a crash leaves what some of them leave
-  pub keeps_some : (Gave : List (List ℕ) → Type 0) (policy : Policy) (rule : BundleRule) (old new : Store D) (before now : Output) (d : Delivers moment left_since Gave policy rule old new before now) →
+  pub keeps_some : (Gave : List (List ℕ) → Type 0) (policy : Policy) (rule : BundleRule) (old new : Store D) (before now : Output) (d : Delivers moment left_since Says Gave policy rule old new before now) →
       LeavesOnly moment left_since old.journal.device new.journal.device (KeepsSome Gave (kinds_in old) (kept_in old) policy rule)
   keeps_some Gave policy rule old new before now d =
       weakened moment left_since old.journal.device new.journal.device (KeepsFirst (kinds_in old) (kept_in old) d.texts policy rule d.answers) (KeepsSome Gave (kinds_in old) (kept_in old) policy rule) (λ c k. (d.texts, d.answers, d.came, k)) d.any_moment
 
   -- so it does after the last, which isn't answered
-  pub unanswered_keeps_some : (Gave Gives : List (List ℕ) → Type 0) (policy : Policy) (rule : BundleRule) (old mid new : Store D) (before out : Output) (d : Delivers moment left_since Gave policy rule old mid before out)
+  pub unanswered_keeps_some : (Gave Gives : List (List ℕ) → Type 0) (policy : Policy) (rule : BundleRule) (old mid new : Store D) (before out : Output) (d : Delivers moment left_since Says Gave policy rule old mid before out)
       (text : List ℕ) → Gives (d.texts ++ text ∷ []) → LeavesOnly moment left_since mid.journal.device new.journal.device (KeepsAnswered (kinds_in mid) (kept_in mid) text policy rule) →
       LeavesOnly moment left_since old.journal.device new.journal.device (KeepsSome Gives (kinds_in old) (kept_in old) policy rule)
   unanswered_keeps_some Gave Gives policy rule old mid new before out d text came run' =
@@ -318,17 +358,17 @@ module _ {D : Type 0} (moment : D → ℕ) (left_since : D → ℕ → List ℕ 
 
   -- all but the last are answered
   pub but_last : (seen : D → List ℕ) (faults : D → ℕ) (Gave Gives : List (List ℕ) → Type 0) (policy : Policy) (rule : BundleRule) (error : AnswerError) (old mid new : Store D) (before out now : Output)
-      (d : Delivers moment left_since Gave policy rule old mid before out) (text : List ℕ) → Gives (d.texts ++ text ∷ []) → kinds_in new ≡ kinds_in mid →
-      LeavesUnanswered error (kinds_in mid) (kept_in mid) text policy rule (kept_in new) out now →
+      (d : Delivers moment left_since Says Gave policy rule old mid before out) (text : List ℕ) → Gives (d.texts ++ text ∷ []) → kinds_in new ≡ kinds_in mid →
+      LeavesUnanswered Says error (kinds_in mid) (kept_in mid) text policy rule (kept_in new) out now →
       LeavesOnly moment left_since mid.journal.device new.journal.device (KeepsAnswered (kinds_in mid) (kept_in mid) text policy rule) →
       (error ≡ OfStore (WritingDevice Failed) → faults mid.journal.device < faults new.journal.device) → (error ≡ OfStore TooLong → ⊥) →
       (error ≡ OfStore Full → 2 ^ 62 < length (seen mid.journal.device)) →
-      DeliversButLast seen moment left_since faults Gives policy rule error old new before now
+      DeliversButLast seen moment left_since faults Says Gives policy rule error old new before now
   but_last seen faults Gave Gives policy rule error old mid new before out now d text came kinds unanswered run failed fits full = record {
     last = text;
     mid = mid;
     written = out;
-    delivered = record { texts = d.texts; answers = d.answers; came = came; kinds = d.kinds; takes = d.takes; lines = d.lines; flushed = d.flushed; any_moment = d.any_moment; behind = d.behind };
+    delivered = record { texts = d.texts; answers = d.answers; lines = d.lines; came = came; kinds = d.kinds; takes = d.takes; says = d.says; bytes = d.bytes; flushed = d.flushed; any_moment = d.any_moment; behind = d.behind };
     kinds = kinds;
     unanswered = unanswered;
     any_moment = run;
@@ -339,14 +379,14 @@ module _ {D : Type 0} (moment : D → ℕ) (left_since : D → ℕ → List ℕ 
 
   -- all but the last are answered, and a checkpoint failed
   pub checkpoint_failed : (faults : D → ℕ) (Gave Gives : List (List ℕ) → Type 0) (policy : Policy) (rule : BundleRule) (error : WriteError) (old mid new : Store D) (before now : Output)
-      (d : Delivers moment left_since Gave policy rule old mid before now) (text : List ℕ) → Gives (d.texts ++ text ∷ []) → new.repo ≡ mid.repo → new.base ≡ mid.base → kinds_in new ≡ kinds_in mid →
+      (d : Delivers moment left_since Says Gave policy rule old mid before now) (text : List ℕ) → Gives (d.texts ++ text ∷ []) → new.repo ≡ mid.repo → new.base ≡ mid.base → kinds_in new ≡ kinds_in mid →
       LeavesOnly moment left_since mid.journal.device new.journal.device (λ file. KeepsRepo (kinds_in mid) file (kept_in mid)) →
       (IsFailure error → faults mid.journal.device < faults new.journal.device) → (error ≢ TooLong) × (error ≢ Full) →
-      DeliversAllBut moment left_since faults Gives policy rule error old new before now
+      DeliversAllBut moment left_since faults Says Gives policy rule error old new before now
   checkpoint_failed faults Gave Gives policy rule error old mid new before now d text came same base kinds run failed kind = record {
     last = text;
     mid = mid;
-    delivered = record { texts = d.texts; answers = d.answers; came = came; kinds = d.kinds; takes = d.takes; lines = d.lines; flushed = d.flushed; any_moment = d.any_moment; behind = d.behind };
+    delivered = record { texts = d.texts; answers = d.answers; lines = d.lines; came = came; kinds = d.kinds; takes = d.takes; says = d.says; bytes = d.bytes; flushed = d.flushed; any_moment = d.any_moment; behind = d.behind };
     same = same;
     base = base;
     kinds = kinds;
@@ -357,7 +397,7 @@ module _ {D : Type 0} (moment : D → ℕ) (left_since : D → ℕ → List ℕ 
 
   -- a crash by then leaves what some of them leave
   pub checkpoint_keeps_some : (Gave Gives : List (List ℕ) → Type 0) (policy : Policy) (rule : BundleRule) (old mid new : Store D) (before now : Output)
-      (d : Delivers moment left_since Gave policy rule old mid before now) (text : List ℕ) → Gives (d.texts ++ text ∷ []) →
+      (d : Delivers moment left_since Says Gave policy rule old mid before now) (text : List ℕ) → Gives (d.texts ++ text ∷ []) →
       LeavesOnly moment left_since mid.journal.device new.journal.device (λ file. KeepsRepo (kinds_in mid) file (kept_in mid)) →
       LeavesOnly moment left_since old.journal.device new.journal.device (KeepsSome Gives (kinds_in old) (kept_in old) policy rule)
   checkpoint_keeps_some Gave Gives policy rule old mid new before now d text came run =

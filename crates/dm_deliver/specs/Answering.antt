@@ -4,6 +4,7 @@ use Rattle.std.specs.Fmt.{decimal}
 use Rattle.dm_named.specs.Laws.{with_kinds}
 use Rattle.dm_named.specs.Limits.{standard}
 use Rattle.dm_named.specs.declared.limits.Kinds.{Kinds}
+use Rattle.dm_named.specs.Patches.{Patch}
 use Rattle.dm_bundle.specs.Bundles.{Contents}
 use Rattle.dm_repo.specs.declared.policy.Policy.{Policy}
 use Rattle.dm_begin.specs.Bases.{IsBeforeBase}
@@ -19,7 +20,7 @@ use Rattle.dm_deliver.specs.declared.bundle_rule.BundleRule.{BundleRule}
 use Rattle.dm_deliver.specs.declared.hash_rule.HashFault.{HashFault}
 use Rattle.dm_deliver.specs.Hashes.{hash_word, HasHashFaultWithin, PassesRuleWithin}
 use Rattle.dm_deliver.specs.Dates.{HasDateFaultWithin, PassesDatesWithin}
-use Rattle.dm_deliver.specs.Outputs.{Output, Breaks}
+use Rattle.dm_deliver.specs.Outputs.{Output, Puts, Breaks}
 
 -- the text of an answer: that of its verdict, or of a bundle whose hash or date is refused, or that doesn't rest on the whole base
 abbrev pub answer_text : Answer → List ℕ
@@ -78,15 +79,27 @@ AnswersEach kinds kept (text ∷ texts) policy rule (answer ∷ answers) after =
     (next : Kept) × Answers kinds kept text policy rule answer next × AnswersEach kinds next texts policy rule answers after
 AnswersEach kinds kept texts policy rule answers after = ⊥
 
--- some text was answered so, and left this repository
-abbrev pub WasAnswered : Kinds → Answer → Kept → Type 0
-WasAnswered kinds answer after = (kept : Kept) × (text : List ℕ) × (policy : Policy) × (rule : BundleRule) × Answers kinds kept text policy rule answer after
+-- this text was answered so, and left this repository
+abbrev pub WasAnswered : Kinds → List ℕ → Answer → Kept → Type 0
+WasAnswered kinds text answer after = (kept : Kept) × (policy : Policy) × (rule : BundleRule) × Answers kinds kept text policy rule answer after
+
+-- When a line says an answer: of the patches that the answer left, the text, the answer, and the line.
+abbrev pub Saying : Type 1
+Saying = List Patch → List ℕ → Answer → List ℕ → Type 0
+
+-- a line that says the answer was written, and then flushed
+abbrev pub IsTold : Saying → List Patch → List ℕ → Answer → Output → Output → Type 0
+IsTold Says left text answer before now = (line : List ℕ) × Says left text answer line × Puts before now line
+
+-- a part of a line that says the answer was written, and then a call of the writer failed
+abbrev pub IsBegun : Saying → List Patch → List ℕ → Answer → Output → Output → Type 0
+IsBegun Says left text answer before now = (line : List ℕ) × Says left text answer line × Breaks before now line
 
 -- a line wasn't written: memory ran out, and no call of the writer was made; or a part of it was, and then a call failed
-abbrev pub BreaksOff : AnswerError → List ℕ → Output → Output → Type 0
-BreaksOff (Store why) line before now = ⊥
-BreaksOff NoMemory line before now = now ≡ before
-BreaksOff Write line before now = Breaks before now line
+abbrev pub BreaksOff : Saying → AnswerError → List Patch → List ℕ → Answer → Output → Output → Type 0
+BreaksOff Says (Store why) left text answer before now = ⊥
+BreaksOff Says NoMemory left text answer before now = now ≡ before
+BreaksOff Says Write left text answer before now = IsBegun Says left text answer before now
 
 -- the error is the store's own
 abbrev pub IsOfStore : AnswerError → Type 0
@@ -95,9 +108,9 @@ IsOfStore NoMemory = ⊥
 IsOfStore Write = ⊥
 
 -- the text has some answer, and a part of its line was written before a call of the writer failed
-abbrev pub AnswersAndBegins : Kinds → Kept → List ℕ → Policy → BundleRule → Kept → Output → Output → Type 0
-AnswersAndBegins kinds kept text policy rule after before now =
-    (answer : Answer) × Answers kinds kept text policy rule answer after × Breaks before now (answer_line answer)
+abbrev pub AnswersAndBegins : Saying → Kinds → Kept → List ℕ → Policy → BundleRule → Kept → Output → Output → Type 0
+AnswersAndBegins Says kinds kept text policy rule after before now =
+    (answer : Answer) × Answers kinds kept text policy rule answer after × IsBegun Says after.patches text answer before now
 
 -- the text wasn't read, or it has some answer; and no call of the writer was made
 abbrev pub AnswersInSilence : Kinds → Kept → List ℕ → Policy → BundleRule → Kept → Output → Output → Type 0
@@ -106,10 +119,10 @@ AnswersInSilence kinds kept text policy rule after before now =
 
 -- what was done where a text has no answer: by an error of the store no call of the writer was made, nor where memory ran out, before the text was
 -- taken or after; and by an error of the writer a part of its line was written, and a call of the writer failed
-abbrev pub LeavesUnanswered : AnswerError → Kinds → Kept → List ℕ → Policy → BundleRule → Kept → Output → Output → Type 0
-LeavesUnanswered (Store why) kinds kept text policy rule after before now = now ≡ before
-LeavesUnanswered NoMemory kinds kept text policy rule after before now = AnswersInSilence kinds kept text policy rule after before now
-LeavesUnanswered Write kinds kept text policy rule after before now = AnswersAndBegins kinds kept text policy rule after before now
+abbrev pub LeavesUnanswered : Saying → AnswerError → Kinds → Kept → List ℕ → Policy → BundleRule → Kept → Output → Output → Type 0
+LeavesUnanswered Says (Store why) kinds kept text policy rule after before now = now ≡ before
+LeavesUnanswered Says NoMemory kinds kept text policy rule after before now = AnswersInSilence kinds kept text policy rule after before now
+LeavesUnanswered Says Write kinds kept text policy rule after before now = AnswersAndBegins Says kinds kept text policy rule after before now
 
 -- the file keeps one of two repositories
 abbrev pub KeepsEither : Kinds → Kept → Kept → List ℕ → Type 0

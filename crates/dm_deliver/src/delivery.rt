@@ -8,15 +8,16 @@ ghost use Rattle.dm_store.specs.Kinds.{kinds_in};
 ghost use Rattle.dm_store.specs.Keeping.{CrashesKeep, IsStored, KeepsRepo, kept_as, kept_in};
 ghost use Rattle.dm_deliver.specs.declared.answers.Answer.{Answer as Reply};
 ghost use Rattle.dm_deliver.specs.declared.fault.AnswerError.TheVariants.{Store as OfStore, NoMemory as NoRoom, Write as Unwritten};
-ghost use Rattle.dm_deliver.specs.Answering.{Answers, BreaksOff, PassesRules, WasAnswered, answer_line, IsAcceptedAnswer, IsOfStore, LeavesUnanswered, KeepsEither, KeepsAnswered};
+ghost use Rattle.dm_deliver.specs.Answering.{Answers, BreaksOff, IsTold, PassesRules, WasAnswered, IsAcceptedAnswer, IsOfStore, LeavesUnanswered, KeepsEither, KeepsAnswered};
 ghost use Rattle.dm_deliver.specs.Delivering.{Delivers, DeliversUntil, EndsStore, KeepsSome};
-ghost use Rattle.dm_deliver.specs.Outputs.{output, Puts};
+ghost use Rattle.dm_deliver.specs.Outputs.{output};
 
-use crate::answers::{Answer, push_answer};
+use crate::answers::Answer;
 use crate::base_rule::text_is_before_base;
 use crate::bundle_rule::BundleRule;
 use crate::date_rule::date_fault_within;
 use crate::fault::{AnswerError, DeliverError};
+use crate::form::Form;
 use crate::hash_rule::hash_fault_within;
 use crate::line::write_line;
 use crate::observer::Observer;
@@ -101,21 +102,22 @@ fn take_text<D: Device>(
     Ok(Answer::Verdict(verdict))
 }
 
-// Writes the line of an answer, and flushes the writer. It asks that each crash leaves a file that keeps what the answer says.
-fn tell<D: Device, W: Write>(
+// Writes the line of an answer to a text, and flushes the writer. The caller has shown that each crash leaves a file that keeps what
+// the answer says.
+fn tell<D: Device, F: Form, W: Write>(
     alloc: Global,
     store: &Store<D>,
+    form: &F,
+    text: &[u8],
     reply: Answer,
     writer: &mut Watched<W>,
 ) -> Result<(), AnswerError>
-    requires answered { WasAnswered (kinds_in store.now) reply (kept_in store.now) }
+    requires answered { WasAnswered (kinds_in store.now) text.now reply (kept_in store.now) }
     requires kept { CrashesKeep (kinds_in store.now) D.may_leave store.now.journal.device (kept_in store.now) }
-    ensures line { OnOk result (Puts (output W.contents writer.old) (output W.contents writer.new) (answer_line reply)) }
-    ensures broken { IfErr result (λ e. BreaksOff e (answer_line reply) (output W.contents writer.old) (output W.contents writer.new)) }
+    ensures told { OnOk result (IsTold (F.says form.now) store.now.repo.patches text.now reply (output W.contents writer.old) (output W.contents writer.new)) }
+    ensures broken { IfErr result (λ e. BreaksOff (F.says form.now) e store.now.repo.patches text.now reply (output W.contents writer.old) (output W.contents writer.new)) }
 {
-    let _ = store;
-    let mut line = Vec::new(alloc);
-    push_answer(reply, &mut line)?;
+    let line = form.line(alloc, store.repo(), text, reply)?;
     write_line(&line, writer)
 }
 
@@ -126,12 +128,13 @@ fn tell<D: Device, W: Write>(
 ///
 /// After [`AnswerError::Store`] the file has the text or not: open it again. After the other errors the text was taken, whether
 /// or not its line came through, and the store can go on.
-pub fn answer<D: Device, W: Write>(
+pub fn answer<D: Device, F: Form, W: Write>(
     alloc: Global,
     store: &mut Store<D>,
     text: &[u8],
     policy: Policy,
     rule: BundleRule,
+    form: &F,
     writer: &mut Watched<W>,
 ) -> Result<Answer, AnswerError>
     requires { IsStored D.seen D.may_leave D.file_may_leave store.old }
@@ -139,8 +142,8 @@ pub fn answer<D: Device, W: Write>(
     ensures answers { IfOk result (λ answer. Answers (kinds_in store.old) (kept_in store.old) text.now policy rule answer (kept_in store.new)) }
 
     // The line is written, and then flushed. There is no answer only for a cause: `Write` where a call of the writer failed.
-    ensures line { IfOk result (λ answer. Puts (output W.contents writer.old) (output W.contents writer.new) (answer_line answer)) }
-    ensures unanswered { IfErr result (λ e. LeavesUnanswered e (kinds_in store.old) (kept_in store.old) text.now policy rule (kept_in store.new)
+    ensures told { IfOk result (λ answer. IsTold (F.says form.now) store.new.repo.patches text.now answer (output W.contents writer.old) (output W.contents writer.new)) }
+    ensures unanswered { IfErr result (λ e. LeavesUnanswered (F.says form.now) e (kinds_in store.old) (kept_in store.old) text.now policy rule (kept_in store.new)
         (output W.contents writer.old) (output W.contents writer.new)) }
 
     ensures kinds { kinds_in store.new ≡ kinds_in store.old }
@@ -162,7 +165,7 @@ pub fn answer<D: Device, W: Write>(
     ensures full { IfErr result (λ e. e ≡ OfStore Full → 2 ^ 62 < length (D.seen store.old.journal.device)) }
 {
     let reply = take_text(alloc, store, text, policy, rule)?;
-    tell(alloc, store, reply, writer)?;
+    tell(alloc, store, form, text, reply, writer)?;
     Ok(reply)
 }
 
@@ -201,32 +204,33 @@ fn settle<D: Device>(
     }
 }
 
-/// Takes the texts of a source into a store, in turn, and answers each by its line once it stands on the disk. A bundle that is
-/// refused is answered, and the next is taken all the same. An observer looks on. Returns whether all were accepted.
+/// Takes the texts of a source into a store, in turn, and answers each by a line of this form once it stands on the disk. A bundle that
+/// is refused is answered, and the next is taken all the same. An observer looks on. Returns whether all were accepted.
 ///
 /// Where a checkpoint is due, it makes one before a text is taken: by [`Store::wants_checkpoint`] before the first, by
 /// [`Store::needs_checkpoint`] before the others. Where its new file can't be made, it goes on without.
 ///
 /// It stops at the first error. What was answered until then stands; after [`AnswerError::Store`] and
 /// [`DeliverError::Checkpoint`] open the file again.
-pub fn deliver<D: Device, S: Source, O: Observer, W: Write>(
+pub fn deliver<D: Device, S: Source, O: Observer, F: Form, W: Write>(
     alloc: Global,
     store: &mut Store<D>,
     source: &mut S,
     policy: Policy,
     rule: BundleRule,
     observer: &mut O,
+    form: &F,
     writer: &mut Watched<W>,
 ) -> Result<bool, DeliverError<S::Error>>
     requires { IsStored D.seen D.may_leave D.file_may_leave store.old }
 
     // All texts came, were answered in turn, and their lines written; and the result says whether all were accepted.
     ensures done { OnOk result (S.is_done source.new) }
-    ensures delivers { IfOk result (λ all. (d : Delivers D.moment D.left_since (λ texts. S.gave source.old texts source.new) policy rule store.old store.new
+    ensures delivers { IfOk result (λ all. (d : Delivers D.moment D.left_since (F.says form.now) (λ texts. S.gave source.old texts source.new) policy rule store.old store.new
         (output W.contents writer.old) (output W.contents writer.new)) × (IsTrue all ↔ All IsAcceptedAnswer d.answers)) }
 
     // By an error, all texts that came, or all but the last; and it doesn't give up a checkpoint by itself.
-    ensures delivers_until { IfErr result (λ e. DeliversUntil D.seen D.moment D.left_since D.faults (λ texts. S.gave source.old texts source.new) policy
+    ensures delivers_until { IfErr result (λ e. DeliversUntil D.seen D.moment D.left_since D.faults (F.says form.now) (λ texts. S.gave source.old texts source.new) policy
         rule e store.old store.new (output W.contents writer.old) (output W.contents writer.new)) }
 
     // Each crash from now on leaves a file that keeps what was taken.
@@ -252,7 +256,7 @@ pub fn deliver<D: Device, S: Source, O: Observer, W: Write>(
                 is_first = false;
                 let bytes = text.as_slice();
                 observer.before(store.repo(), bytes, policy);
-                let reply = answer(alloc, store, bytes, policy, rule, writer)?;
+                let reply = answer(alloc, store, bytes, policy, rule, form, writer)?;
                 observer.after(store.repo(), bytes, policy, reply);
                 all_accepted = all_accepted && reply.is_accepted();
             }

@@ -75,7 +75,7 @@ fn unheld<'a>(
 }
 
 /// The name of the new patch at a place.
-pub(crate) fn new_name<'a>(bundle: &'a Bundle<Global>, n: usize) -> Option<Name<'a>>
+pub fn new_name<'a>(bundle: &'a Bundle<Global>, n: usize) -> Option<Name<'a>>
     ensures { MatchOption result (slice_get (infos_of bundle.now.patches) n ≡ None) (λ name. slice_get (infos_of bundle.now.patches) n ≡ Some name.now) }
 {
     match bundle.new_patches().get(n) {
@@ -85,7 +85,7 @@ pub(crate) fn new_name<'a>(bundle: &'a Bundle<Global>, n: usize) -> Option<Name<
 }
 
 /// The name of the held patch at a place.
-pub(crate) fn held_name<'a>(repo: &'a Repo<Global>, h: usize) -> Option<Name<'a>>
+pub fn held_name<'a>(repo: &'a Repo<Global>, h: usize) -> Option<Name<'a>>
     ensures { MatchOption result (slice_get (infos_of repo.now.patches) h ≡ None) (λ name. slice_get (infos_of repo.now.patches) h ≡ Some name.now) }
 {
     if h < repo.len() {

@@ -10,7 +10,7 @@ ghost use Rattle.dm_explain.specs.Rows.{AreShallow, FirstDeep};
 use crate::account::{held_name, new_name};
 use crate::head::{Head, ShownMoved};
 use crate::remedies::{write_whole_context, write_within};
-use crate::shown::Who;
+use crate::shown::{Held, Who};
 use dm_bundle::Bundle;
 use dm_info::Info;
 use dm_prim::Prim;
@@ -174,9 +174,9 @@ fn write_move<W: Write>(
 
 /// Writes which patch goes past a limit, and where.
 pub(crate) fn write_depth<W: Write>(f: &mut Formatter<W>, depth: &Depth<'_>) -> fmt::Result {
-    let who = Who { info: depth.name };
     match &depth.overflow {
         Overflow::Front(misfit) => {
+            let who = Held { info: depth.name };
             writeln!(
                 f,
                 "This held patch {} without the patches that the bundle doesn't build on:\n  {who}",
@@ -186,6 +186,7 @@ pub(crate) fn write_depth<W: Write>(f: &mut Formatter<W>, depth: &Depth<'_>) -> 
             write_whole_context(f)
         }
         Overflow::Merged(misfit) => {
+            let who = Who { info: depth.name };
             writeln!(
                 f,
                 "This new patch {} once it is merged:\n  {who}",

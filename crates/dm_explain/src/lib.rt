@@ -27,10 +27,11 @@ mod seeming;
 mod shown;
 mod skips;
 
-pub use account::{Account, Clashing, account_of};
+pub use account::{Account, Clashing, account_of, held_name, new_name};
 pub use depth::Depth;
 pub use fates::{Fate, Fates};
 pub use malformed::{Malformed, Remedy};
+pub use place::{Place, place_of};
 pub use printing::AccountWithSkips;
 pub use seeming::has_signed_dashes;
 pub use shown::Who;

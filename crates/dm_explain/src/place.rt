@@ -6,13 +6,13 @@ use memchr::{memchr, memrchr};
 
 /// A line of a text, and a place in it. Lines and columns count from 1; a column is a byte.
 #[derive(Clone, Copy, PartialEq, Eq, Debug)]
-pub(crate) struct Place {
+pub struct Place {
     /// The number of the line.
-    pub(crate) line: usize,
+    pub line: usize,
     /// Where the line begins in the text.
-    pub(crate) start: usize,
+    pub start: usize,
     /// Where it ends, before its newline or with the text.
-    pub(crate) end: usize,
+    pub end: usize,
 }
 
 /// How many newlines there are.
@@ -50,7 +50,7 @@ fn first_end(text: &[u8]) -> usize
 }
 
 /// The line of a place in a text.
-pub(crate) fn place_of(text: &[u8], at: usize) -> Place
+pub fn place_of(text: &[u8], at: usize) -> Place
     requires { at ≤ length text.now }
     ensures line { result.line ≡ newlines (take at text.now) + 1 }
     ensures start { IsLineStart (take at text.now) result.start }

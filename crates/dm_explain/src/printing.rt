@@ -9,7 +9,7 @@ use crate::remedies::{
     write_against, write_against_any, write_anew, write_new_repository, write_settling,
     write_whole_context,
 };
-use crate::shown::Who;
+use crate::shown::{Held, Who};
 use crate::skips::{NamedSkip, Reason, Skips};
 use dm_info::Info;
 use dm_named::Limits;
@@ -29,15 +29,13 @@ fn write_list<W: Write>(f: &mut Formatter<W>, what: &str, names: &[&Info<Global>
 }
 
 /// A line for each of two patches.
-fn write_pair<W: Write>(
+fn write_pair<W: Write, A: Display, B: Display>(
     f: &mut Formatter<W>,
     what: &str,
-    first: &Info<Global>,
+    first: &A,
     by: &str,
-    second: &Info<Global>,
+    second: &B,
 ) -> fmt::Result {
-    let first = Who { info: first };
-    let second = Who { info: second };
     writeln!(f, "{what}:\n  {first}\n{by}:\n  {second}")
 }
 
@@ -60,13 +58,27 @@ fn write_lacking<W: Write>(
     dependency: &Info<Global>,
     held: bool,
 ) -> fmt::Result {
-    write_pair(f, "The new patch", patch, "depends on", dependency)?;
+    let patch = Who { info: patch };
     if held {
+        write_pair(
+            f,
+            "The new patch",
+            &patch,
+            "depends on",
+            &Held { info: dependency },
+        )?;
         f.write_str(
             "which is held, but neither in the bundle nor in what its context stands for.\n",
         )?;
         return write_whole_context(f);
     }
+    write_pair(
+        f,
+        "The new patch",
+        &patch,
+        "depends on",
+        &Who { info: dependency },
+    )?;
     f.write_str("which is neither held nor in the bundle.\n")?;
     write_against_any(f)
 }
@@ -123,9 +135,9 @@ impl Display for Account<'_> {
                 write_pair(
                     f,
                     "The context has",
-                    patch,
+                    &Held { info: patch },
                     "but not what that builds on",
-                    needed,
+                    &Held { info: needed },
                 )?;
                 write_whole_context(f)
             }
@@ -133,9 +145,9 @@ impl Display for Account<'_> {
                 write_pair(
                     f,
                     "Held already is the new patch",
-                    patch,
+                    &Held { info: patch },
                     "but not what it builds on in the bundle",
-                    needed,
+                    &Who { info: needed },
                 )?;
                 write_against(f)
             }
@@ -154,9 +166,9 @@ impl Display for Account<'_> {
                 write_pair(
                     f,
                     "The new patch",
-                    new,
+                    &Who { info: new },
                     "conflicts with the held patch",
-                    held,
+                    &Held { info: held },
                 )?;
                 if let Some(pair) = clashing {
                     write_clashing(f, pair)?;
@@ -174,7 +186,7 @@ fn write_skip<W: Write>(f: &mut Formatter<W>, skip: &NamedSkip<'_>) -> fmt::Resu
     writeln!(f, "  {}", Who { info: skip.patch })?;
     match skip.by {
         Reason::Conflicts(info) => {
-            writeln!(f, "    conflicts with the held patch {}", Who { info })
+            writeln!(f, "    conflicts with the held patch {}", Held { info })
         }
         Reason::Needs(info) => {
             writeln!(f, "    can't do without the skipped patch {}", Who { info })

@@ -1,6 +1,7 @@
 //! How what a stranger wrote is shown.
 use bstr::BStr;
 use dm_info::Info;
+use dm_log::hash_of;
 use dm_quoted::Quoted;
 use std::alloc::Global;
 use std::fmt::{self, Display, Formatter, Write};
@@ -92,5 +93,35 @@ impl Display for Who<'_> {
             date: self.info.date(),
         };
         write!(f, "{named}")
+    }
+}
+
+/// The digits of a number below 256, in base 16.
+fn write_digits<W: Write>(f: &mut Formatter<W>, byte: u8) -> fmt::Result {
+    for value in [byte >> 4, byte & 15] {
+        let digit = if value < 10 {
+            b'0' + value
+        } else {
+            b'a' + (value - 10)
+        };
+        f.write_char(char::from(digit))?;
+    }
+    Ok(())
+}
+
+/// A patch of the repository: as people know it, and the hash by which Darcs names it. Its place may be another one's later.
+#[derive(Clone, Copy)]
+pub(crate) struct Held<'a> {
+    pub(crate) info: &'a Info<Global>,
+}
+
+impl Display for Held<'_> {
+    fn fmt<W: Write>(&self, f: &mut Formatter<W>) -> fmt::Result {
+        write!(f, "{} (", Who { info: self.info })?;
+        let hash = hash_of(self.info);
+        for byte in &hash {
+            write_digits(f, *byte)?;
+        }
+        f.write_char(')')
     }
 }

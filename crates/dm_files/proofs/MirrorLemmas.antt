@@ -1,5 +1,5 @@
 -- What was delivered, told with less of the texts that came.
-use Rattle.std.proofs.Common.{◌≡◌, ◌≤◌, ◌+◌, ◌++◌, ◌↔◌, ◌⊎◌, inl, inr, ⊎_elim, ℕ, List, [], ◌∷◌, Bool, All, IsTrue, Result, Ok, Err, IfOk, IfErr, arith, length, refl, subst, sym, append-nil, ap}
+use Rattle.std.proofs.Common.{◌≡◌, ◌++◌, ◌↔◌, ◌⊎◌, inl, inr, ⊎_elim, ℕ, List, [], ◌∷◌, Bool, All, IsTrue, Result, Ok, Err, IfOk, IfErr, length, refl, subst, sym, append-nil, ap}
 use Rattle.dm_named.specs.declared.limits.Kinds.{Kinds}
 use Rattle.dm_repo.specs.declared.policy.Policy.{Policy}
 use Rattle.dm_journal.specs.declared.fault.WriteError.{WriteError}
@@ -13,7 +13,7 @@ use Rattle.dm_deliver.specs.declared.bundle_rule.BundleRule.{BundleRule}
 use Rattle.dm_deliver.specs.declared.fault.AnswerError.{AnswerError}
 use Rattle.dm_deliver.specs.declared.fault.AnswerError.TheVariants.{Store as OfStore, NoMemory, Write}
 use Rattle.dm_deliver.specs.Outputs.{Output}
-use Rattle.dm_deliver.specs.Answering.{Answers, AnswersEach, IsAcceptedAnswer, IsOfStore, LeavesUnanswered}
+use Rattle.dm_deliver.specs.Answering.{Answers, AnswersEach, IsAcceptedAnswer, IsOfStore, LeavesUnanswered, Saying}
 use Rattle.dm_deliver.specs.Delivering.{Delivers, DeliversAllBut, DeliversButLast, KeepsFirst, KeepsSome}
 use Rattle.dm_deliver.proofs.DeliverLemmas.{all_are_first, answers_more}
 use Rattle.dm_deliver.proofs.Runs.{followed}
@@ -22,29 +22,31 @@ use Rattle.dm_files.specs.declared.delivering.Stop.{Stop}
 use Rattle.dm_files.specs.declared.delivering.Stop.TheVariants.{Mirror, Beside}
 use Rattle.dm_files.specs.Mirrors.{AnswersSome, DeliversBy, MayGoOn}
 
-module _ {D : Type 0} {moment : D → ℕ} {left_since : D → ℕ → List ℕ → Type 0} {policy : Policy} {rule : BundleRule} where
+module _ {D : Type 0} {moment : D → ℕ} {left_since : D → ℕ → List ℕ → Type 0} {Says : Saying} {policy : Policy} {rule : BundleRule} where
   pub delivered_less : {Gave Told : List (List ℕ) → Type 0} {old new : Store D} {before now : Output} → ((texts : List (List ℕ)) → Gave texts → Told texts)
-      → Delivers moment left_since Gave policy rule old new before now → Delivers moment left_since Told policy rule old new before now
+      → Delivers moment left_since Says Gave policy rule old new before now → Delivers moment left_since Says Told policy rule old new before now
   delivered_less less d = record {
     texts = d.texts;
     answers = d.answers;
+    lines = d.lines;
     came = less d.texts d.came;
     kinds = d.kinds;
     takes = d.takes;
-    lines = d.lines;
+    says = d.says;
+    bytes = d.bytes;
     flushed = d.flushed;
     any_moment = d.any_moment;
     behind = d.behind;
   }
 
   pub told_less : {Gave Told : List (List ℕ) → Type 0} {old new : Store D} {before now : Output} (all : Bool) → ((texts : List (List ℕ)) → Gave texts → Told texts)
-      → (d : Delivers moment left_since Gave policy rule old new before now) × (IsTrue all ↔ All IsAcceptedAnswer d.answers)
-      → (d : Delivers moment left_since Told policy rule old new before now) × (IsTrue all ↔ All IsAcceptedAnswer d.answers)
+      → (d : Delivers moment left_since Says Gave policy rule old new before now) × (IsTrue all ↔ All IsAcceptedAnswer d.answers)
+      → (d : Delivers moment left_since Says Told policy rule old new before now) × (IsTrue all ↔ All IsAcceptedAnswer d.answers)
   unfolding delivered_less
   told_less all less (d, accepted) = (delivered_less less d, accepted)
 
   pub all_but_less : {Gave Told : List (List ℕ) → Type 0} {faults : D → ℕ} {error : WriteError} {old new : Store D} {before now : Output} → ((texts : List (List ℕ)) → Gave texts → Told texts)
-      → DeliversAllBut moment left_since faults Gave policy rule error old new before now → DeliversAllBut moment left_since faults Told policy rule error old new before now
+      → DeliversAllBut moment left_since faults Says Gave policy rule error old new before now → DeliversAllBut moment left_since faults Says Told policy rule error old new before now
   all_but_less less d = record {
     last = d.last;
     mid = d.mid;
@@ -58,7 +60,7 @@ module _ {D : Type 0} {moment : D → ℕ} {left_since : D → ℕ → List ℕ 
   }
 
   pub but_last_less : {Gave Told : List (List ℕ) → Type 0} {seen : D → List ℕ} {faults : D → ℕ} {error : AnswerError} {old new : Store D} {before now : Output} → ((texts : List (List ℕ)) → Gave texts → Told texts)
-      → DeliversButLast seen moment left_since faults Gave policy rule error old new before now → DeliversButLast seen moment left_since faults Told policy rule error old new before now
+      → DeliversButLast seen moment left_since faults Says Gave policy rule error old new before now → DeliversButLast seen moment left_since faults Says Told policy rule error old new before now
   but_last_less less d = record {
     last = d.last;
     mid = d.mid;
@@ -74,7 +76,7 @@ module _ {D : Type 0} {moment : D → ℕ} {left_since : D → ℕ → List ℕ 
 
   -- by what stopped it
   pub by_less : {Gave Told : List (List ℕ) → Type 0} {seen : D → List ℕ} {faults : D → ℕ} {stop : Stop} {old new : Store D} {before now : Output} → ((texts : List (List ℕ)) → Gave texts → Told texts)
-      → DeliversBy seen moment left_since faults Gave policy rule stop old new before now → DeliversBy seen moment left_since faults Told policy rule stop old new before now
+      → DeliversBy seen moment left_since faults Says Gave policy rule stop old new before now → DeliversBy seen moment left_since faults Says Told policy rule stop old new before now
   by_less less d = record {
     mirror = λ why is. ⊎_elim (λ m. inl (but_last_less less m)) (λ m. inr (all_but_less less m)) (d.mirror why is);
     beside = λ goes. ⊎_elim (λ m. inl (delivered_less less m)) (λ m. inr (m.0, m.1, but_last_less less m.2)) (d.beside goes);
@@ -82,7 +84,7 @@ module _ {D : Type 0} {moment : D → ℕ} {left_since : D → ℕ → List ℕ 
 
   -- no text more came
   pub by_source : {Gave Told : List (List ℕ) → Type 0} {seen : D → List ℕ} {faults : D → ℕ} {old new : Store D} {before now : Output} (fault : WordFault) → ((texts : List (List ℕ)) → Gave texts → Told texts)
-      → Delivers moment left_since Gave policy rule old new before now → DeliversBy seen moment left_since faults Told policy rule (Beside fault) old new before now
+      → Delivers moment left_since Says Gave policy rule old new before now → DeliversBy seen moment left_since faults Says Told policy rule (Beside fault) old new before now
   by_source fault less d = record {
     mirror = λ why is. absurd (subst (λ (s : Stop). MayGoOn s) is tt);
     beside = λ goes. inl (delivered_less less d);
@@ -93,20 +95,20 @@ abbrev why_of : WriteError → Stop → WriteError
 why_of otherwise (Mirror why) = why
 why_of otherwise (Beside fault) = otherwise
 
-pub by_checkpoint : {D : Type 0} (seen : D → List ℕ) (moment : D → ℕ) (left_since : D → ℕ → List ℕ → Type 0) (faults : D → ℕ) (Gave Told : List (List ℕ) → Type 0) (policy : Policy) (rule : BundleRule) (old new : Store D) (before now : Output) (fault : WriteError)
+pub by_checkpoint : {D : Type 0} (seen : D → List ℕ) (moment : D → ℕ) (left_since : D → ℕ → List ℕ → Type 0) (faults : D → ℕ) (Says : Saying) (Gave Told : List (List ℕ) → Type 0) (policy : Policy) (rule : BundleRule) (old new : Store D) (before now : Output) (fault : WriteError)
     → ((texts : List (List ℕ)) → Gave texts → Told texts)
-    → DeliversAllBut moment left_since faults Gave policy rule fault old new before now → DeliversBy seen moment left_since faults Told policy rule (Mirror fault) old new before now
-by_checkpoint seen moment left_since faults Gave Told policy rule old new before now fault less d = record {
-  mirror = λ why is. inr (subst (λ (w : WriteError). DeliversAllBut moment left_since faults Told policy rule w old new before now) (ap (why_of fault) is) (all_but_less less d));
+    → DeliversAllBut moment left_since faults Says Gave policy rule fault old new before now → DeliversBy seen moment left_since faults Says Told policy rule (Mirror fault) old new before now
+by_checkpoint seen moment left_since faults Says Gave Told policy rule old new before now fault less d = record {
+  mirror = λ why is. inr (subst (λ (w : WriteError). DeliversAllBut moment left_since faults Says Told policy rule w old new before now) (ap (why_of fault) is) (all_but_less less d));
   beside = λ goes. absurd goes;
 }
 
 -- a text has no answer
-pub by_answer : {D : Type 0} (seen : D → List ℕ) (moment : D → ℕ) (left_since : D → ℕ → List ℕ → Type 0) (faults : D → ℕ) (Gave Told : List (List ℕ) → Type 0) (policy : Policy) (rule : BundleRule) (old new : Store D) (before now : Output) (stop : Stop) (error : AnswerError)
+pub by_answer : {D : Type 0} (seen : D → List ℕ) (moment : D → ℕ) (left_since : D → ℕ → List ℕ → Type 0) (faults : D → ℕ) (Says : Saying) (Gave Told : List (List ℕ) → Type 0) (policy : Policy) (rule : BundleRule) (old new : Store D) (before now : Output) (stop : Stop) (error : AnswerError)
     → (MayGoOn stop → IsOfStore error → ⊥) → ((why : WriteError) → stop ≡ Mirror why → error ≡ OfStore why) → ((texts : List (List ℕ)) → Gave texts → Told texts)
-    → DeliversButLast seen moment left_since faults Gave policy rule error old new before now → DeliversBy seen moment left_since faults Told policy rule stop old new before now
-by_answer seen moment left_since faults Gave Told policy rule old new before now stop error other same less d = record {
-  mirror = λ why is. inl (subst (λ (e : AnswerError). DeliversButLast seen moment left_since faults Told policy rule e old new before now) (same why is) (but_last_less less d));
+    → DeliversButLast seen moment left_since faults Says Gave policy rule error old new before now → DeliversBy seen moment left_since faults Says Told policy rule stop old new before now
+by_answer seen moment left_since faults Says Gave Told policy rule old new before now stop error other same less d = record {
+  mirror = λ why is. inl (subst (λ (e : AnswerError). DeliversButLast seen moment left_since faults Says Told policy rule e old new before now) (same why is) (but_last_less less d));
   beside = λ goes. inr (error, other goes, but_last_less less d);
 }
 
@@ -118,14 +120,6 @@ if_ok (Err e) to p = tt
 pub if_err : {T E : Type 0} {P Q : E → Type 0} (result : Result T E) → ((e : E) → P e → Q e) → IfErr result P → IfErr result Q
 if_err (Ok x) to p = tt
 if_err (Err e) to p = to e p
-
--- where none is left, as many came as there were names
-pub all_came : (texts left first names : ℕ) → texts + left ≡ first → left ≡ 0 → first ≡ names → texts ≡ names
-all_came texts left first names sum none same = omega (arith, sum, none, same)
-
--- and no more, wherever it stops
-pub no_more_came : (texts left first names : ℕ) → texts + left ≡ first → first ≡ names → texts ≤ names
-no_more_came texts left first names sum same = omega (arith, sum, same)
 
 -- what a file keeps, told with less of the texts that came
 pub some_less : {Gave Told : List (List ℕ) → Type 0} {kinds : Kinds} {kept : Kept} {policy : Policy} {rule : BundleRule} → ((texts : List (List ℕ)) → Gave texts → Told texts)
@@ -153,24 +147,24 @@ last_answered Gave kinds policy rule old mid new texts last answers before came 
   takes = answers_more kinds old texts policy rule answers mid last answer new takes answered;
 }
 
-last_of : (error : AnswerError) (kinds : Kinds) (kept : Kept) (text : List ℕ) (policy : Policy) (rule : BundleRule) (after : Kept) (before now : Output) → (IsOfStore error → ⊥) →
-    LeavesUnanswered error kinds kept text policy rule after before now → (after ≡ kept) ⊎ ((answer : Answer) × Answers kinds kept text policy rule answer after)
-last_of (OfStore why) kinds kept text policy rule after before now other u = absurd (other tt)
-last_of NoMemory kinds kept text policy rule after before now other u = u.0
-last_of Write kinds kept text policy rule after before now other u = inr (u.0, u.1)
+last_of : (Says : Saying) (error : AnswerError) (kinds : Kinds) (kept : Kept) (text : List ℕ) (policy : Policy) (rule : BundleRule) (after : Kept) (before now : Output) → (IsOfStore error → ⊥) →
+    LeavesUnanswered Says error kinds kept text policy rule after before now → (after ≡ kept) ⊎ ((answer : Answer) × Answers kinds kept text policy rule answer after)
+last_of Says (OfStore why) kinds kept text policy rule after before now other u = absurd (other tt)
+last_of Says NoMemory kinds kept text policy rule after before now other u = u.0
+last_of Says Write kinds kept text policy rule after before now other u = inr (u.0, u.1)
 
-answered_but_last : {D : Type 0} {seen : D → List ℕ} {moment : D → ℕ} {left_since : D → ℕ → List ℕ → Type 0} {faults : D → ℕ} {policy : Policy} {rule : BundleRule} (Gave : List (List ℕ) → Type 0) (old new : Store D) {before now : Output} (error : AnswerError)
-    → ((texts : List (List ℕ)) (last : List ℕ) → Gave (texts ++ last ∷ []) → Gave texts) → (IsOfStore error → ⊥) → DeliversButLast seen moment left_since faults Gave policy rule error old new before now
+answered_but_last : {D : Type 0} {seen : D → List ℕ} {moment : D → ℕ} {left_since : D → ℕ → List ℕ → Type 0} {faults : D → ℕ} {Says : Saying} {policy : Policy} {rule : BundleRule} (Gave : List (List ℕ) → Type 0) (old new : Store D) {before now : Output} (error : AnswerError)
+    → ((texts : List (List ℕ)) (last : List ℕ) → Gave (texts ++ last ∷ []) → Gave texts) → (IsOfStore error → ⊥) → DeliversButLast seen moment left_since faults Says Gave policy rule error old new before now
     → AnswersSome Gave (kinds_in old) policy rule (kept_in old) (kept_in new)
-answered_but_last {policy = policy} {rule = rule} Gave old new {now = now} error fewer other d =
+answered_but_last {Says = Says} {policy = policy} {rule = rule} Gave old new {now = now} error fewer other d =
     let so_far = d.delivered in
-    let unanswered = subst (λ (k : Kinds). LeavesUnanswered error k (kept_in d.mid) d.last policy rule (kept_in new) d.written now) so_far.kinds d.unanswered in
+    let unanswered = subst (λ (k : Kinds). LeavesUnanswered Says error k (kept_in d.mid) d.last policy rule (kept_in new) d.written now) so_far.kinds d.unanswered in
     last_answered Gave (kinds_in old) policy rule (kept_in old) (kept_in d.mid) (kept_in new) so_far.texts d.last so_far.answers (fewer so_far.texts d.last so_far.came) so_far.came so_far.takes
-    (last_of error (kinds_in old) (kept_in d.mid) d.last policy rule (kept_in new) d.written now other unanswered)
+    (last_of Says error (kinds_in old) (kept_in d.mid) d.last policy rule (kept_in new) d.written now other unanswered)
 
 -- what was delivered was answered, where something else than the mirror stopped it
-pub some_answered : {D : Type 0} {seen : D → List ℕ} {moment : D → ℕ} {left_since : D → ℕ → List ℕ → Type 0} {faults : D → ℕ} {policy : Policy} {rule : BundleRule} (Gave : List (List ℕ) → Type 0) (old new : Store D) {before now : Output} {stop : Stop}
-    → ((texts : List (List ℕ)) (last : List ℕ) → Gave (texts ++ last ∷ []) → Gave texts) → DeliversBy seen moment left_since faults Gave policy rule stop old new before now → MayGoOn stop
+pub some_answered : {D : Type 0} {seen : D → List ℕ} {moment : D → ℕ} {left_since : D → ℕ → List ℕ → Type 0} {faults : D → ℕ} {Says : Saying} {policy : Policy} {rule : BundleRule} (Gave : List (List ℕ) → Type 0) (old new : Store D) {before now : Output} {stop : Stop}
+    → ((texts : List (List ℕ)) (last : List ℕ) → Gave (texts ++ last ∷ []) → Gave texts) → DeliversBy seen moment left_since faults Says Gave policy rule stop old new before now → MayGoOn stop
     → AnswersSome Gave (kinds_in old) policy rule (kept_in old) (kept_in new)
 some_answered Gave old new fewer d goes =
     ⊎_elim (λ m. record { texts = m.texts; answers = m.answers; came = m.came; takes = m.takes }) (λ m. answered_but_last Gave old new m.0 fewer m.1 m.2) (d.beside goes)

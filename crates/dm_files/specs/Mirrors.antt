@@ -9,7 +9,7 @@ use Rattle.dm_deliver.specs.declared.answers.Answer.{Answer}
 use Rattle.dm_deliver.specs.declared.fault.AnswerError.{AnswerError}
 use Rattle.dm_deliver.specs.declared.fault.AnswerError.TheVariants.{Store as OfStore}
 use Rattle.dm_deliver.specs.declared.bundle_rule.BundleRule.{BundleRule}
-use Rattle.dm_deliver.specs.Answering.{AnswersEach, IsAcceptedAnswer, IsOfStore}
+use Rattle.dm_deliver.specs.Answering.{AnswersEach, IsAcceptedAnswer, IsOfStore, Saying}
 use Rattle.dm_deliver.specs.Delivering.{Delivers, DeliversAllBut, DeliversButLast}
 use Rattle.dm_deliver.specs.Outputs.{Output}
 use Rattle.dm_commands.specs.Mirrors.{HasMirrorFault, IsInTheWay}
@@ -47,12 +47,12 @@ MayGoOn (Beside why) = Unit {0}
 
 -- What was delivered by the time that the taking stopped: where the mirror can go on, all texts that came, or all but the last, which has no answer; where
 -- the mirror failed, all but the last.
-pub record DeliversBy {D : Type 0} (seen : D → List ℕ) (moment : D → ℕ) (left_since : D → ℕ → List ℕ → Type 0) (faults : D → ℕ) (Gave : List (List ℕ) → Type 0) (policy : Policy)
-    (rule : BundleRule) (stop : Stop) (old new : Store D) (before now : Output) : Type 0 where
+pub record DeliversBy {D : Type 0} (seen : D → List ℕ) (moment : D → ℕ) (left_since : D → ℕ → List ℕ → Type 0) (faults : D → ℕ) (Says : Saying) (Gave : List (List ℕ) → Type 0)
+    (policy : Policy) (rule : BundleRule) (stop : Stop) (old new : Store D) (before now : Output) : Type 0 where
   pub mirror : (why : WriteError) → stop ≡ Mirror why →
-      DeliversButLast seen moment left_since faults Gave policy rule (OfStore why) old new before now ⊎ DeliversAllBut moment left_since faults Gave policy rule why old new before now
-  pub beside : MayGoOn stop → Delivers moment left_since Gave policy rule old new before now
-      ⊎ ((error : AnswerError) × (IsOfStore error → ⊥) × DeliversButLast seen moment left_since faults Gave policy rule error old new before now)
+      DeliversButLast seen moment left_since faults Says Gave policy rule (OfStore why) old new before now ⊎ DeliversAllBut moment left_since faults Says Gave policy rule why old new before now
+  pub beside : MayGoOn stop → Delivers moment left_since Says Gave policy rule old new before now
+      ⊎ ((error : AnswerError) × (IsOfStore error → ⊥) × DeliversButLast seen moment left_since faults Says Gave policy rule error old new before now)
 
 -- a crash now leaves a file that keeps the repository which some texts left, or all, and these have the answers of P
 abbrev pub LeavesAnswered : {D : Type 0} → Kinds → (D → List ℕ → Type 0) → D → (Kept → Type 0) → Type 0

@@ -2,7 +2,9 @@
 use crate::telling::{Output, write_refusal};
 use crate::word_fault::WordFault;
 use dm_commands::{base_tag, before_base_line};
+use dm_deliver::Answer;
 use dm_repo::Repo;
+use dm_told::own_line;
 use std::alloc::Global;
 use std::rt::Runtime;
 
@@ -32,7 +34,10 @@ pub fn refuse_before_base<'a>(
     base: usize,
     left: &str,
 ) -> Result<u8, WordFault<'a>> {
-    let line = before_base_line(rt.alloc())?;
+    let line = match output {
+        Output::Json => own_line(rt.alloc(), repo, Answer::BeforeBase)?,
+        _ => before_base_line(rt.alloc())?,
+    };
     write_refusal(rt, output, &line)?;
     if let Some(tag) = base_tag(repo, base) {
         let _ = eprintln!(rt; "dm: {left}: the mirror begins at {tag}");

@@ -22,6 +22,7 @@ use dm_named::Kinds;
 use dm_remarks::{Colour, Reading, explain_base, explain_date, explain_hash_fault};
 use dm_repo::Repo;
 use dm_store::Store;
+use dm_told::begun_line;
 use std::alloc::Global;
 use std::io;
 use std::rt::Runtime;
@@ -284,6 +285,25 @@ fn make_mirror<'a>(
     begin_store(rt, path, file, start, reading.kinds)
 }
 
+/// The line that says with how many patches a mirror began.
+fn begun_text<'a>(
+    rt: &HostRuntime,
+    words: &ArgMatches<'_>,
+    path: &str,
+    count: usize,
+) -> Result<Vec<u8>, WordFault<'a>> {
+    let text = match count {
+        1 => format!(in rt.alloc(); "mirror {path}: 1 patch")?,
+        _ => format!(in rt.alloc(); "mirror {path}: {count} patches")?,
+    };
+    if words.get_flag("json") {
+        return Ok(begun_line(rt.alloc(), path, count, &text)?);
+    }
+    let mut line = text.into_bytes();
+    line.push(b'\n')?;
+    Ok(line)
+}
+
 /// `dm init`.
 pub fn init<'a>(
     rt: &HostRuntime,
@@ -293,11 +313,8 @@ pub fn init<'a>(
 ) -> Result<u8, WordFault<'a>> {
     let path = words.get_str("mirror").unwrap_or("");
     let store = make_mirror(rt, colour, words, path, is_terminal)?;
-    let line = match store.repo().len() {
-        1 => format!(in rt.alloc(); "mirror {path}: 1 patch\n")?,
-        count => format!(in rt.alloc(); "mirror {path}: {count} patches\n")?,
-    };
-    write_text(line.as_bytes(), &mut io::writer(rt))?;
+    let line = begun_text(rt, words, path, store.repo().len())?;
+    write_text(&line, &mut io::writer(rt))?;
     say_begun(rt, store.repo(), store.base());
     Ok(0)
 }

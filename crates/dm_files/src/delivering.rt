@@ -1,5 +1,5 @@
 //! Bundles that are taken one after the other, into a mirror or a repository in memory: `dm apply --mirror`.
-ghost use Rattle.std.specs.Prelude.{◌≡◌, ◌≤◌, ◌↔◌, All, length, IfOk, IfErr, IsTrue, OnOk};
+ghost use Rattle.std.specs.Prelude.{◌≡◌, ◌↔◌, [], All, List, ℕ, length, IfOk, IfErr, IsTrue, OnOk};
 ghost use Rattle.dm_journal.specs.declared.fault.WriteError.{WriteError as WriteFault};
 ghost use Rattle.dm_journal.specs.Device.{LeavesOnly};
 ghost use Rattle.dm_disk.specs.States.{seen, may_leave, file_may_leave, left_since};
@@ -9,12 +9,15 @@ ghost use Rattle.dm_deliver.specs.declared.fault.AnswerError.TheVariants.{Store 
 ghost use Rattle.dm_deliver.specs.Answering.{IsAcceptedAnswer, IsOfStore};
 ghost use Rattle.dm_deliver.specs.Delivering.{Delivers, KeepsSome};
 ghost use Rattle.dm_deliver.specs.Outputs.{output};
+ghost use Rattle.dm_told.specs.Forms.{says};
 ghost use Rattle.dm_files.specs.declared.delivering.Stop.TheVariants.{Mirror};
+ghost use Rattle.dm_files.specs.Bundles.{Reads, names_in};
 ghost use Rattle.dm_files.specs.Mirrors.{AnswersAll, AnswersSome, AnyTexts, DeliversBy, LeavesAnswered, MayGoOn};
 ghost use Rattle.dm_files.specs.Named.{CameAsNamed, CameAtMost};
 
 use crate::beginning::{open_mirror, rehearse_mirror, rehearse_start};
 use crate::bundles::Bundles;
+use crate::files::{Files, SystemFiles};
 use crate::input::INPUT;
 use crate::listing::Listing;
 use crate::mirror::{blame, say_lost_rights};
@@ -31,6 +34,7 @@ use dm_named::Kinds;
 use dm_remarks::{Colour, Reading, Watcher};
 use dm_repo::{Policy, Repo};
 use dm_store::Store;
+use dm_told::AnswerForm;
 use std::alloc::Global;
 use std::io::{self, Write};
 use std::rt::Runtime;
@@ -80,35 +84,38 @@ fn rule_of(words: &ArgMatches<'_>, otherwise: BundleRule) -> BundleRule {
 }
 
 /// Takes each of these bundles in turn, and answers each.
-fn take_named<'a, D: Device, W: Write>(
-    rt: &HostRuntime,
+fn take_named<'a, D: Device, F: Files, W: Write>(
+    alloc: Global,
+    files: &F,
     names: &[&'a str],
     store: &mut Store<D>,
     policy: Policy,
     rule: BundleRule,
     watcher: &mut Watcher<'_, 'a>,
+    form: AnswerForm,
     writer: &mut Watched<W>,
 ) -> Result<bool, Stop<'a>>
     requires { IsStored D.seen D.may_leave D.file_may_leave store.old }
-    // As many texts came as there are names, each was answered in turn, and its line written.
-    ensures delivers { IfOk result (λ all. (d : Delivers D.moment D.left_since (λ texts. length texts ≡ length names.now) policy rule store.old store.new
+    // The texts came from the files of these names, in their order; each was answered in turn, and a line written that says so.
+    ensures delivers { IfOk result (λ all. (d : Delivers D.moment D.left_since (says form) (λ texts. Reads (F.had files.now) (names_in names.now) texts []) policy rule store.old store.new
         (output W.contents writer.old) (output W.contents writer.new)) × (IsTrue all ↔ All IsAcceptedAnswer d.answers)) }
-    ensures delivers_by { IfErr result (λ stop. DeliversBy D.seen D.moment D.left_since D.faults (λ texts. length texts ≤ length names.now) policy
-        rule stop store.old store.new (output W.contents writer.old) (output W.contents writer.new)) }
+    ensures delivers_by { IfErr result (λ stop. DeliversBy D.seen D.moment D.left_since D.faults (says form)
+        (λ texts. (left : List (List ℕ)) × Reads (F.had files.now) (names_in names.now) texts left) policy rule stop store.old store.new (output W.contents writer.old) (output W.contents writer.new)) }
     ensures kinds { kinds_in store.new ≡ kinds_in store.old }
     ensures stored { OnOk result (IsStored D.seen D.may_leave D.file_may_leave store.new) }
     ensures stored_err { IfErr result (λ e. MayGoOn e → IsStored D.seen D.may_leave D.file_may_leave store.new) }
     ensures any_moment { LeavesOnly D.moment D.left_since store.old.journal.device store.new.journal.device
-        (KeepsSome (λ texts. length texts ≤ length names.now) (kinds_in store.old) (kept_in store.old) policy rule) }
+        (KeepsSome (λ texts. (left : List (List ℕ)) × Reads (F.had files.now) (names_in names.now) texts left) (kinds_in store.old) (kept_in store.old) policy rule) }
 {
-    let mut source = Bundles::new(*rt, names);
+    let mut source = Bundles::new(files, names);
     match deliver(
-        rt.alloc(),
+        alloc,
         store,
         &mut source,
         policy,
         rule,
         watcher,
+        &form,
         writer,
     ) {
         Ok(all_accepted) => Ok(all_accepted),
@@ -125,13 +132,14 @@ fn take_stream<'a, D: Device, W: Write>(
     policy: Policy,
     rule: BundleRule,
     watcher: &mut Watcher<'_, 'a>,
+    form: AnswerForm,
     writer: &mut Watched<W>,
 ) -> Result<bool, Stop<'a>>
     requires { IsStored D.seen D.may_leave D.file_may_leave store.old }
     // The texts that came were each answered in turn, and their lines written.
-    ensures delivers { IfOk result (λ all. (d : Delivers D.moment D.left_since AnyTexts policy rule store.old store.new
+    ensures delivers { IfOk result (λ all. (d : Delivers D.moment D.left_since (says form) AnyTexts policy rule store.old store.new
         (output W.contents writer.old) (output W.contents writer.new)) × (IsTrue all ↔ All IsAcceptedAnswer d.answers)) }
-    ensures delivers_by { IfErr result (λ stop. DeliversBy D.seen D.moment D.left_since D.faults AnyTexts policy rule stop store.old store.new
+    ensures delivers_by { IfErr result (λ stop. DeliversBy D.seen D.moment D.left_since D.faults (says form) AnyTexts policy rule stop store.old store.new
         (output W.contents writer.old) (output W.contents writer.new)) }
     ensures kinds { kinds_in store.new ≡ kinds_in store.old }
     ensures stored { OnOk result (IsStored D.seen D.may_leave D.file_may_leave store.new) }
@@ -147,6 +155,7 @@ fn take_stream<'a, D: Device, W: Write>(
         policy,
         rule,
         watcher,
+        &form,
         writer,
     ) {
         Ok(all_accepted) => Ok(all_accepted),
@@ -165,13 +174,22 @@ fn reading_of(words: &ArgMatches<'_>, kinds: Kinds) -> Reading {
     }
 }
 
+/// How each answer is written.
+fn form_of(words: &ArgMatches<'_>, kinds: Kinds) -> AnswerForm {
+    if words.get_flag("json") {
+        AnswerForm::Json(reading_of(words, kinds).limits())
+    } else {
+        AnswerForm::Plain
+    }
+}
+
 /// Prints what is shown of the repository.
 fn show<'a>(
     rt: &HostRuntime,
     words: &ArgMatches<'a>,
     repo: &Repo<Global>,
 ) -> Result<(), WordFault<'a>> {
-    if words.get_flag("quiet") {
+    if words.get_flag("quiet") || words.get_flag("json") {
         return Ok(());
     }
     let as_bundle = words.get_flag("bundle");
@@ -182,44 +200,57 @@ fn show<'a>(
 }
 
 /// Takes what the words name, and answers each.
-fn take_words<'a, D: Device, W: Write>(
+fn take_words<'a, D: Device, F: Files, W: Write>(
     rt: &HostRuntime,
+    files: &F,
     colour: Colour,
     words: &ArgMatches<'a>,
     store: &mut Store<D>,
     policy: Policy,
     rule: BundleRule,
+    form: AnswerForm,
     writer: &mut Watched<W>,
 ) -> Result<bool, Stop<'a>>
     requires { IsStored D.seen D.may_leave D.file_may_leave store.old }
-    // As many texts came as the words name, each was answered in turn, and its line written.
-    ensures delivers { IfOk result (λ all. (d : Delivers D.moment D.left_since (CameAsNamed words.now) policy rule store.old store.new
+    // The texts came from the files that the words name, in their order; each was answered in turn, and a line written that says so.
+    ensures delivers { IfOk result (λ all. (d : Delivers D.moment D.left_since (says form) (CameAsNamed (F.had files.now) words.now) policy rule store.old store.new
         (output W.contents writer.old) (output W.contents writer.new)) × (IsTrue all ↔ All IsAcceptedAnswer d.answers)) }
-    ensures delivers_by { IfErr result (λ stop. DeliversBy D.seen D.moment D.left_since D.faults (CameAtMost words.now) policy rule stop store.old
+    ensures delivers_by { IfErr result (λ stop. DeliversBy D.seen D.moment D.left_since D.faults (says form) (CameAtMost (F.had files.now) words.now) policy rule stop store.old
         store.new (output W.contents writer.old) (output W.contents writer.new)) }
     ensures kinds { kinds_in store.new ≡ kinds_in store.old }
     ensures stored { OnOk result (IsStored D.seen D.may_leave D.file_may_leave store.new) }
     ensures stored_err { IfErr result (λ e. MayGoOn e → IsStored D.seen D.may_leave D.file_may_leave store.new) }
     ensures any_moment { LeavesOnly D.moment D.left_since store.old.journal.device store.new.journal.device
-        (KeepsSome (CameAtMost words.now) (kinds_in store.old) (kept_in store.old) policy rule) }
+        (KeepsSome (CameAtMost (F.had files.now) words.now) (kinds_in store.old) (kept_in store.old) policy rule) }
 {
     let explains = words.get_flag("explain");
     let reading = reading_of(words, store.kinds());
     if words.get_flag("stream") {
         let mut watcher = Watcher::new(*rt, colour, explains, reading, store.base(), &[]);
-        return take_stream(rt, store, policy, rule, &mut watcher, writer);
+        return take_stream(rt, store, policy, rule, &mut watcher, form, writer);
     }
     let names = words.get_strs("bundles").unwrap_or(&[INPUT]);
     let mut watcher = Watcher::new(*rt, colour, explains, reading, store.base(), names);
-    match take_named(rt, names, store, policy, rule, &mut watcher, writer) {
+    match take_named(
+        rt.alloc(),
+        files,
+        names,
+        store,
+        policy,
+        rule,
+        &mut watcher,
+        form,
+        writer,
+    ) {
         Ok(all_accepted) => Ok(all_accepted),
         Err(stop) => Err(stop),
     }
 }
 
 /// Takes what the words name, and prints what is shown of the repository then. Returns the exit status.
-fn take_and_show<'a, D: Device>(
+fn take_and_show<'a, D: Device, F: Files>(
     rt: &HostRuntime,
+    files: &F,
     colour: Colour,
     words: &ArgMatches<'a>,
     store: &mut Store<D>,
@@ -227,16 +258,27 @@ fn take_and_show<'a, D: Device>(
     rule: BundleRule,
 ) -> Result<u8, Stop<'a>>
     requires { IsStored D.seen D.may_leave D.file_may_leave store.old }
-    ensures answers { IfOk result (AnswersAll (CameAsNamed words.now) (kinds_in store.old) policy rule (kept_in store.old) (kept_in store.new)) }
-    ensures answers_err { IfErr result (λ e. MayGoOn e → AnswersSome (CameAtMost words.now) (kinds_in store.old) policy rule (kept_in store.old) (kept_in store.new)) }
+    ensures answers { IfOk result (AnswersAll (CameAsNamed (F.had files.now) words.now) (kinds_in store.old) policy rule (kept_in store.old) (kept_in store.new)) }
+    ensures answers_err { IfErr result (λ e. MayGoOn e → AnswersSome (CameAtMost (F.had files.now) words.now) (kinds_in store.old) policy rule (kept_in store.old) (kept_in store.new)) }
     ensures kinds { kinds_in store.new ≡ kinds_in store.old }
     ensures stored { OnOk result (IsStored D.seen D.may_leave D.file_may_leave store.new) }
     ensures stored_err { IfErr result (λ e. MayGoOn e → IsStored D.seen D.may_leave D.file_may_leave store.new) }
     ensures any_moment { LeavesOnly D.moment D.left_since store.old.journal.device store.new.journal.device
-        (KeepsSome (CameAtMost words.now) (kinds_in store.old) (kept_in store.old) policy rule) }
+        (KeepsSome (CameAtMost (F.had files.now) words.now) (kinds_in store.old) (kept_in store.old) policy rule) }
 {
     let mut writer = Watched::new(io::writer(rt));
-    let all_accepted = match take_words(rt, colour, words, store, policy, rule, &mut writer) {
+    let form = form_of(words, store.kinds());
+    let all_accepted = match take_words(
+        rt,
+        files,
+        colour,
+        words,
+        store,
+        policy,
+        rule,
+        form,
+        &mut writer,
+    ) {
         Ok(all_accepted) => all_accepted,
         Err(stop) => return Err(stop),
     };
@@ -295,6 +337,7 @@ pub fn apply_each<'a>(
     let mut store = rehearse_start(rt, start, kinds_of(words), path)?;
     let tried = take_and_show(
         rt,
+        &SystemFiles::new(rt),
         colour,
         words,
         &mut store,
@@ -318,8 +361,9 @@ fn refuse_bundle_of_base<'a>(
 
 /// Takes what the words name into a mirror, prints what is shown of it then, and makes a checkpoint where one is worth its while. Returns
 /// the exit status, and the mirror's file.
-fn take_into<'a>(
+fn take_into<'a, F: Files>(
     rt: &HostRuntime,
+    files: &F,
     colour: Colour,
     words: &ArgMatches<'a>,
     path: &str,
@@ -331,16 +375,16 @@ fn take_into<'a>(
 
     // What was answered is kept, and nothing else is: all that came, or, where something else than the mirror failed, the first of it.
     ensures answers { IfOk result.0 (λ status. LeavesAnswered (kinds_in store) may_leave result.1
-        (λ new. AnswersAll (CameAsNamed words.now) (kinds_in store) policy rule (kept_in store) new status)) }
+        (λ new. AnswersAll (CameAsNamed (F.had files.now) words.now) (kinds_in store) policy rule (kept_in store) new status)) }
     ensures answers_err { IfErr result.0 (λ stop. MayGoOn stop → LeavesAnswered (kinds_in store) may_leave result.1
-        (AnswersSome (CameAtMost words.now) (kinds_in store) policy rule (kept_in store))) }
+        (AnswersSome (CameAtMost (F.had files.now) words.now) (kinds_in store) policy rule (kept_in store))) }
 
     // A crash at any moment of it leaves a file that keeps the repository after the first of the texts, some or all.
     ensures any_moment { LeavesOnly length left_since store.journal.device result.1
-        (KeepsSome (CameAtMost words.now) (kinds_in store) (kept_in store) policy rule) }
+        (KeepsSome (CameAtMost (F.had files.now) words.now) (kinds_in store) (kept_in store) policy rule) }
 {
     let mut store = store;
-    match take_and_show(rt, colour, words, &mut store, policy, rule) {
+    match take_and_show(rt, files, colour, words, &mut store, policy, rule) {
         Ok(status) => (Ok(status), settle(rt, path, store)),
         Err(Stop::Beside(fault)) => (Err(Stop::Beside(fault)), settle(rt, path, store)),
         Err(Stop::Mirror(fault)) => (Err(Stop::Mirror(fault)), store.into_device()),
@@ -356,17 +400,18 @@ pub fn apply_to_mirror<'a>(
     is_terminal: bool,
 ) -> Result<u8, WordFault<'a>> {
     refuse_kinds(words)?;
+    let files = SystemFiles::new(rt);
     let policy = policy_of(words);
     let rule = rule_of(words, FIT_FOR_DARCS);
     if words.get_flag("dry-run") {
         let mut store = rehearse_mirror(rt, colour, words, path, is_terminal)?;
         refuse_bundle_of_base(words, path, store.base())?;
-        let tried = take_and_show(rt, colour, words, &mut store, policy, rule);
+        let tried = take_and_show(rt, &files, colour, words, &mut store, policy, rule);
         return status_of_trial(tried, path);
     }
     let store = open_mirror(rt, colour, words, path, is_terminal)?;
     refuse_bundle_of_base(words, path, store.base())?;
-    let (taken, file) = take_into(rt, colour, words, path, store, policy, rule);
+    let (taken, file) = take_into(rt, &files, colour, words, path, store, policy, rule);
     match taken {
         Ok(status) => Ok(status),
         Err(Stop::Beside(fault)) => Err(fault),

@@ -1,4 +1,6 @@
 //! The files that the words of a command name.
+ghost use Rattle.std.specs.Prelude.{ℕ, List, IfOk};
+
 use crate::input::{INPUT, Input, InputFault};
 use crate::word_fault::WordFault;
 use crate::words::kinds_of;
@@ -28,6 +30,37 @@ pub fn read_file<'a>(
     match read_within(rt.alloc(), limits, &mut input) {
         Ok(text) => Ok(text),
         Err(fault) => Err(blame_input(&input, name, fault)),
+    }
+}
+
+/// Files that are read by their names.
+pub trait Files {
+    /// The file of this name had these bytes when it was read, or began with them.
+    ghost had: { Self → List ℕ → List ℕ → Type 0 };
+
+    /// The bytes of the file of this name, to the end or one more than a text may have by these limits.
+    fn text_of<'a>(&self, name: &'a str, limits: Limits) -> Result<Vec<u8>, WordFault<'a>>
+        ensures { IfOk result (λ text. had self.now name.now text.items) };
+}
+
+/// The system's files, and standard input. What they have is the system's: no contract says it.
+#[derive(Clone, Copy)]
+pub struct SystemFiles {
+    rt: HostRuntime,
+}
+
+impl SystemFiles {
+    /// Those of the runtime.
+    pub fn new(rt: &HostRuntime) -> SystemFiles {
+        SystemFiles { rt: *rt }
+    }
+}
+
+impl Files for SystemFiles {
+    ghost had = { λ _ _ _. Unit {0} };
+
+    fn text_of<'a>(&self, name: &'a str, limits: Limits) -> Result<Vec<u8>, WordFault<'a>> {
+        read_file(&self.rt, name, limits)
     }
 }
 

@@ -21,14 +21,17 @@ use dm_bundle::Bundle;
 use dm_commands::{
     ToolFault, Unkept, keep_and_let_go, obliterate_unless_base, refusal_line, text_of, write_text,
 };
+use dm_deliver::Answer;
 use dm_disk::{Access, DiskFile, Lock};
 use dm_info::Info;
 use dm_journal::replace_file;
 use dm_named::Kinds;
 use dm_remarks::{Colour, say};
 use dm_repo::{Refusal, Repo};
+use dm_scratch::Verdict;
 use dm_send::Obliterated;
 use dm_store::Store;
+use dm_told::{bound_line, made_line, own_line};
 use std::alloc::Global;
 use std::io;
 use std::rt::Runtime;
@@ -68,11 +71,34 @@ fn finish<'a>(done: bool, path: &'a str) -> Result<(), WordFault<'a>>
     }
 }
 
-/// Prints how many patches went.
-fn print_count<'a>(rt: &HostRuntime, count: usize) -> Result<(), WordFault<'a>> {
+/// Prints how many patches went, or as JSON which.
+fn print_gone<'a>(
+    rt: &HostRuntime,
+    output: Output,
+    kept: &Bundle<Global>,
+) -> Result<(), WordFault<'a>> {
+    if output == Output::Json {
+        let line = made_line(rt.alloc(), "obliterated", kept, None)?;
+        write_text(&line, &mut io::writer(rt))?;
+        return Ok(());
+    }
+    let count = kept.new_patches().len();
     let line = format!(in rt.alloc(); "obliterated {count}\n")?;
     write_text(line.as_bytes(), &mut io::writer(rt))?;
     Ok(())
+}
+
+/// What standard output gets of a bundle that is kept nowhere else: its text, or as JSON all of it.
+fn shown_of<'a>(
+    rt: &HostRuntime,
+    output: Output,
+    kept: &Bundle<Global>,
+    text: Vec<u8>,
+) -> Result<Vec<u8>, WordFault<'a>> {
+    if output == Output::Json {
+        return Ok(made_line(rt.alloc(), "obliterated", kept, Some(&text))?);
+    }
+    Ok(text)
 }
 
 /// Says on standard error how many patches went.
@@ -128,12 +154,12 @@ fn let_go<'a>(
     }
 }
 
-/// Prints the bundle, and has the mirror let go of what it has.
+/// Prints the bundle, as it is shown, and has the mirror let go of what it has.
 fn print_and_let_go<'a>(
     rt: &HostRuntime,
     path: &'a str,
     store: &mut Store<DiskFile>,
-    text: &[u8],
+    shown: &[u8],
     stays: Repo<Global>,
 ) -> Result<(), WordFault<'a>>
     requires { IsStored seen may_leave file_may_leave store.old }
@@ -142,7 +168,7 @@ fn print_and_let_go<'a>(
     ensures any_moment { LeavesOnly length left_since store.old.journal.device store.new.journal.device
         (KeepsEither (kinds_in store.old) (kept_in store.old) (kept_as store.old.base stays.patches)) }
 {
-    write_text(text, &mut io::writer(rt))?;
+    write_text(shown, &mut io::writer(rt))?;
     let_go(rt, path, store, stays)
 }
 
@@ -165,16 +191,30 @@ pub fn refuse_bound<'a>(
     output: Output,
     bound: &[(Info<Global>, Info<Global>)],
 ) -> Result<u8, WordFault<'a>> {
-    let count = bound.len();
-    let line = format!(in rt.alloc(); "refused depends {count}\n")?;
-    write_refusal(rt, output, line.as_bytes())?;
+    let line = match output {
+        Output::Json => bound_line(rt.alloc(), bound)?,
+        _ => {
+            let count = bound.len();
+            format!(in rt.alloc(); "refused depends {count}\n")?.into_bytes()
+        }
+    };
+    write_refusal(rt, output, &line)?;
     say_bound(rt, bound)?;
     Ok(1)
 }
 
 /// Writes the line of a refusal.
-pub fn refuse<'a>(rt: &HostRuntime, output: Output, why: Refusal) -> Result<u8, WordFault<'a>> {
-    let line = refusal_line(rt.alloc(), why)?;
+pub fn refuse<'a>(
+    rt: &HostRuntime,
+    output: Output,
+    repo: &Repo<Global>,
+    why: Refusal,
+) -> Result<u8, WordFault<'a>> {
+    let plain = refusal_line(rt.alloc(), why)?;
+    let line = match output {
+        Output::Json => own_line(rt.alloc(), repo, Answer::Verdict(Verdict::Refused(why)))?,
+        _ => plain,
+    };
     write_refusal(rt, output, &line)?;
     Ok(1)
 }
@@ -219,22 +259,24 @@ fn keep_where_said<'a>(
     words: &ArgMatches<'a>,
     path: &'a str,
     store: &mut Store<DiskFile>,
-    text: &[u8],
+    kept: &Bundle<Global>,
+    text: Vec<u8>,
     stays: Repo<Global>,
-    count: usize,
 ) -> Result<u8, WordFault<'a>>
     requires stored { IsStored seen may_leave file_may_leave store.old }
-    requires takes_out { TakesOut (kinds_in store.old) store.old.repo.patches stays.patches text.now }
+    requires takes_out { TakesOut (kinds_in store.old) store.old.repo.patches stays.patches text.items }
 {
+    let output = output_of(words);
     match words.get_str("output") {
         Some(name) => {
             let mut file = open_kept(rt, name)?;
-            keep_in_file(rt, path, store, name, &mut file, text, stays)?;
-            print_count(rt, count)?;
+            keep_in_file(rt, path, store, name, &mut file, &text, stays)?;
+            print_gone(rt, output, kept)?;
         }
         None => {
-            print_and_let_go(rt, path, store, text, stays)?;
-            say_count(rt, count);
+            let shown = shown_of(rt, output, kept, text)?;
+            print_and_let_go(rt, path, store, &shown, stays)?;
+            say_count(rt, kept.new_patches().len());
         }
     }
     Ok(0)
@@ -255,11 +297,11 @@ fn keep_or_show<'a>(
 {
     let text = kept_text(rt, store.kinds(), kept)?;
     if words.get_flag("dry-run") {
-        write_text(&text, &mut io::writer(rt))?;
+        let shown = shown_of(rt, output_of(words), kept, text)?;
+        write_text(&shown, &mut io::writer(rt))?;
         return Ok(0);
     }
-    let count = kept.new_patches().len();
-    keep_where_said(rt, words, path, store, &text, stays, count)
+    keep_where_said(rt, words, path, store, kept, text, stays)
 }
 
 /// Takes what goes out of a mirror.
@@ -283,7 +325,9 @@ fn take_out<'a>(
 
 /// What standard output is for, where the words may name a file for the bundle.
 fn output_of(words: &ArgMatches<'_>) -> Output {
-    if words.contains_id("output") {
+    if words.get_flag("json") {
+        Output::Json
+    } else if words.contains_id("output") {
         Output::Lines
     } else {
         Output::Bundle
@@ -311,7 +355,7 @@ fn take_chosen<'a>(
             store.base(),
             "nothing was taken out",
         ),
-        Err(why) => return refuse(rt, output, why),
+        Err(why) => return refuse(rt, output, store.repo(), why),
     };
     if !out.bound.is_empty() && !words.get_flag("with-dependents") {
         let status = refuse_bound(rt, output, &out.bound)?;

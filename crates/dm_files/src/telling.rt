@@ -52,6 +52,8 @@ pub enum Output {
     Lines,
     /// A bundle and nothing else: who awaits one gets no other line.
     Bundle,
+    /// A line of JSON, for programs.
+    Json,
 }
 
 /// Writes the line of a refusal, to standard error where standard output is for a bundle.
@@ -61,7 +63,7 @@ pub fn write_refusal<'a>(
     line: &[u8],
 ) -> Result<(), WordFault<'a>> {
     match output {
-        Output::Lines => write_text(line, &mut io::writer(rt))?,
+        Output::Lines | Output::Json => write_text(line, &mut io::writer(rt))?,
         Output::Bundle => write_text(line, &mut rt.stderr())?,
     }
     Ok(())

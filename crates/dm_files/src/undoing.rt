@@ -10,7 +10,9 @@ use clap::ArgMatches;
 use dm_commands::{names_base, text_of, undo_chosen, write_text};
 use dm_date::is_readable;
 use dm_info::Info;
+use dm_repo::Repo;
 use dm_send::UndoFault;
+use dm_told::made_line;
 use jiff_core::civil::DateTime;
 use jiff_core::{Offset, Timestamp};
 use std::alloc::Global;
@@ -102,13 +104,18 @@ fn info_of<'a>(
 }
 
 /// Why no patch undoes the chosen ones: a line, or no answer.
-fn refuse_undoing<'a>(rt: &HostRuntime, fault: UndoFault<Global>) -> Result<u8, WordFault<'a>> {
+fn refuse_undoing<'a>(
+    rt: &HostRuntime,
+    output: Output,
+    repo: &Repo<Global>,
+    fault: UndoFault<Global>,
+) -> Result<u8, WordFault<'a>> {
     match fault {
         UndoFault::Held => Err(WordFault::TakeBack(TakeBackFault::NameIsHeld)),
         UndoFault::ChangesNothing => Err(WordFault::TakeBack(TakeBackFault::NothingToUndo)),
-        UndoFault::Refused(why) => refuse(rt, Output::Bundle, why),
+        UndoFault::Refused(why) => refuse(rt, output, repo, why),
         UndoFault::Bound(bound) => {
-            let status = refuse_bound(rt, Output::Bundle, &bound)?;
+            let status = refuse_bound(rt, output, &bound)?;
             let _ = eprintln!(rt;
                 "dm: no bundle was made; name these patches too, or roll them back before"
             );
@@ -130,16 +137,25 @@ pub fn roll_back_chosen<'a>(
         ..
     } = read_repo(rt, words, is_terminal)?;
     let chosen = chosen_names(rt, words, &repo)?;
+    let output = if words.get_flag("json") {
+        Output::Json
+    } else {
+        Output::Bundle
+    };
     if names_base(&repo, base, &chosen) {
-        return refuse_before_base(rt, Output::Bundle, &repo, base, "no bundle was made");
+        return refuse_before_base(rt, output, &repo, base, "no bundle was made");
     }
     let info = info_of(rt, words, &chosen)?;
     match undo_chosen(rt.alloc(), &repo, base, &chosen, info) {
         Ok(bundle) => {
             let text = text_of(rt.alloc(), kinds, &bundle)?;
-            write_text(&text, &mut io::writer(rt))?;
+            let shown = match output {
+                Output::Json => made_line(rt.alloc(), "rolled-back", &bundle, Some(&text))?,
+                _ => text,
+            };
+            write_text(&shown, &mut io::writer(rt))?;
             Ok(0)
         }
-        Err(fault) => refuse_undoing(rt, fault),
+        Err(fault) => refuse_undoing(rt, output, &repo, fault),
     }
 }

@@ -22,19 +22,19 @@ use Rattle.dm_log.specs.Finding.{hash_text}
 use Rattle.dm_log.specs.Json.{array_of, at_path, change_data, change_members, dotted, hex_beside, in_hex, info_members, of_kind, patch_data, patch_members, readable, texts, told, with_lines, with_text, work_members}
 
 -- no float, and so deep at most
-abbrev Fits : ℕ → Data → Type 0
+abbrev pub Fits : ℕ → Data → Type 0
 Fits n d = (has_float d ≡ false) × (depth d ≤ n)
 
 abbrev ItemsFit : ℕ → Items → Type 0
 ItemsFit n ds = (items_have_float ds ≡ false) × (items_depth ds ≤ n)
 
-abbrev MembersFit : ℕ → Members → Type 0
+abbrev pub MembersFit : ℕ → Members → Type 0
 MembersFit n ms = (members_have_float ms ≡ false) × (members_depth ms ≤ n)
 
-fit_string : (n : ℕ) (s : List ℕ) → Fits n (string s)
+pub fit_string : (n : ℕ) (s : List ℕ) → Fits n (string s)
 fit_string n s = (refl, omega arith)
 
-fit_none : (n : ℕ) → MembersFit n no_members
+pub fit_none : (n : ℕ) → MembersFit n no_members
 fit_none n = (refl, omega arith)
 
 fit_member : (n : ℕ) (k : List ℕ) (d : Data) (ms : Members) → Fits n d → MembersFit n ms → MembersFit n (member k d ms)
@@ -45,7 +45,7 @@ fit_ordered n Less a b c p q r = p
 fit_ordered n Equal a b c p q r = q
 fit_ordered n Greater a b c p q r = r
 
-fit_put : (n : ℕ) (k : List ℕ) (d : Data) (ms : Members) → Fits n d → MembersFit n ms → MembersFit n (put k d ms)
+pub fit_put : (n : ℕ) (k : List ℕ) (d : Data) (ms : Members) → Fits n d → MembersFit n ms → MembersFit n (put k d ms)
 fit_put n k d no_members p q = fit_member n k d no_members p q
 fit_put n k d (member l e ms) p q =
     let parts = or_parts (has_float e) (members_have_float ms) q.0 in
@@ -61,17 +61,17 @@ fit_items n f (x ∷ xs) h = let p = h x in let q = fit_items n f xs h in (rw p.
 fit_array : {X : Type 0} (n : ℕ) (f : X → Data) (xs : List X) → ((x : X) → Fits n (f x)) → Fits (suc n) (array_of f xs)
 fit_array n f xs h = let q = fit_items n f xs h in (q.0, omega (arith, q.1))
 
-fit_object : (n : ℕ) (ms : Members) → MembersFit n ms → Fits (suc n) (object ms)
+pub fit_object : (n : ℕ) (ms : Members) → MembersFit n ms → Fits (suc n) (object ms)
 fit_object n ms q = (q.0, omega (arith, q.1))
 
-fit_texts : {X : Type 0} (n : ℕ) (f : X → List ℕ) (xs : List X) → Fits (suc n) (texts f xs)
+pub fit_texts : {X : Type 0} (n : ℕ) (f : X → List ℕ) (xs : List X) → Fits (suc n) (texts f xs)
 fit_texts n f xs = fit_array n (λ x. string (f x)) xs (λ x. fit_string n (f x))
 
 fit_hex : (n : ℕ) (b : Bool) (name : List ℕ) (hex : Data) (ms : Members) → Fits n hex → MembersFit n ms → MembersFit n (hex_beside b name hex ms)
 fit_hex n true name hex ms p q = q
 fit_hex n false name hex ms p q = fit_put n (name ++ codes "_hex") hex ms p q
 
-fit_text : (n : ℕ) (name text : List ℕ) (ms : Members) → MembersFit n ms → MembersFit n (with_text name text ms)
+pub fit_text : (n : ℕ) (name text : List ℕ) (ms : Members) → MembersFit n ms → MembersFit n (with_text name text ms)
 fit_text n name text ms q =
     fit_hex n (is_utf8 text) name (string (in_hex text)) (put name (string (readable text)) ms) (fit_string n (in_hex text)) (fit_put n name (string (readable text)) ms (fit_string n (readable text)) q)
 
@@ -85,7 +85,7 @@ fit_kind n word = fit_put n (codes "kind") (string word) no_members (fit_string 
 fit_path : (n : ℕ) (word : List ℕ) (p : Path) → MembersFit n (at_path word p)
 fit_path n word p = fit_text n (codes "path") (dotted p) (of_kind word) (fit_kind n word)
 
-fit_number : (n k : ℕ) → Fits n (number (unsigned k))
+pub fit_number : (n k : ℕ) → Fits n (number (unsigned k))
 fit_number n k = (refl, omega arith)
 
 fit_work : (p : Path) (w : Work) → MembersFit 1 (work_members p w)
@@ -115,11 +115,14 @@ fit_info i =
     let log = fit_lines 2 (codes "log") (told i.log) _ hash in
     fit_put 3 (codes "tag") (boolean (begins (codes "TAG ") i.name)) _ (refl, omega arith) log
 
-fit_patch : (n : ℕ) (p : Patch) → Fits 4 (patch_data n p)
-fit_patch n p =
+pub fit_patch_members : (n : ℕ) (p : Patch) → MembersFit 3 (patch_members n p)
+fit_patch_members n p =
     let changes = fit_put 3 (codes "changes") (array_of change_data p.prims) (info_members p.info) (fit_array 2 change_data p.prims fit_change) (fit_info p.info) in
     let depends = fit_put 3 (codes "depends") (texts hash_text p.deps) _ (fit_texts 2 hash_text p.deps) changes in
-    fit_object 3 (patch_members n p) (fit_put 3 (codes "place") (number (unsigned n)) _ (fit_number 3 n) depends)
+    fit_put 3 (codes "place") (number (unsigned n)) _ (fit_number 3 n) depends
+
+fit_patch : (n : ℕ) (p : Patch) → Fits 4 (patch_data n p)
+fit_patch n p = fit_object 3 (patch_members n p) (fit_patch_members n p)
 
 -- so its text is known
 pub no_float : (n : ℕ) (p : Patch) → has_float (patch_data n p) ≡ false

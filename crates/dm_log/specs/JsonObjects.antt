@@ -1,4 +1,4 @@
--- For clauses of private functions: what an object that is built has.
+-- What a JSON object has that is built.
 use Rattle.serde_json.specs.Data.{Members}
 use Rattle.serde_json.specs.View.{members_view}
 use Rattle.dm_log.specs.declared.json_lines.object.Object.{Object}

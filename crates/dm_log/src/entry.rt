@@ -12,7 +12,7 @@ use sha1::Sha1;
 use std::alloc::{AllocError, Allocator};
 
 /// The SHA-1 by which Darcs names a patch.
-pub(crate) fn hash_of<A: Allocator>(info: &Info<A>) -> [u8; 20]
+pub fn hash_of<A: Allocator>(info: &Info<A>) -> [u8; 20]
     ensures { result ≡ patch_hash info.now }
 {
     let mut hasher = Sha1::new();

@@ -13,7 +13,7 @@ use dm_repo::Repo;
 use std::alloc::{AllocError, Allocator};
 
 /// How many entries are shown.
-pub(crate) fn count_of(last: Option<usize>, all: usize) -> usize
+pub fn count_of(last: Option<usize>, all: usize) -> usize
     ensures value { result ≡ count_of last all }
     ensures few { result ≤ all }
 {
@@ -24,7 +24,7 @@ pub(crate) fn count_of(last: Option<usize>, all: usize) -> usize
 }
 
 /// Where the entry that is shown at a place stands among all.
-pub(crate) fn place_of(reverse: bool, all: usize, count: usize, k: usize) -> usize
+pub fn place_of(reverse: bool, all: usize, count: usize, k: usize) -> usize
     requires within { k < count }
     requires few { count ≤ all }
     ensures value { result ≡ place_of reverse all count k }

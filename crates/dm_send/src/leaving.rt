@@ -156,3 +156,20 @@ pub(crate) fn part<A: Allocator, B: Allocator + Copy>(
     }
     Ok(parting)
 }
+
+/// The patches of a repository that can't do without one of these names, by name, in their order. Each stands with the name of one that
+/// it can't do without: the last of those that stop it. These are the ones that [`obliterate`](crate::obliterate) takes out besides.
+pub fn bound_to<A: Allocator, B: Allocator + Copy>(
+    alloc: B,
+    repo: &Repo<A>,
+    chosen: &[Info<A>],
+) -> Result<Vec<(Info<B>, Info<B>), B>, AllocError>
+    ensures { IfOk result (λ bound. (stay : List Patch) × (go : List Patch) × Leaves chosen.now repo.now.patches stay go bound.items) }
+{
+    let Parting {
+        stay: _,
+        go: _,
+        bound,
+    } = part(alloc, repo, chosen)?;
+    Ok(bound)
+}

@@ -6,8 +6,9 @@ use clap::error::ErrorKind;
 use clap::{ArgMatches, Error};
 use dm_commands::{
     Applied, Base, CheckOutput, Checked, ToolFault, apply_in, apply_over, check_hash_within,
-    check_over, check_paths_over, check_within, repo_of, write_text,
+    check_over, check_paths_over, check_within, repo_of, tell_within, write_text,
 };
+use dm_deliver::HashRule;
 use dm_files::{
     INPUT, Input, Listing, Manner, NO_ANSWER, WordFault, apply_each, apply_to_mirror, base_of,
     blame_input, check_out, exit_status, fixed_manner, init, kinds_of, obliterate_chosen,
@@ -31,6 +32,15 @@ fn output_of(words: &ArgMatches<'_>) -> CheckOutput {
     }
 }
 
+/// What is asked of the hash of a bundle.
+fn rule_of(words: &ArgMatches<'_>) -> HashRule {
+    if words.get_flag("hash") {
+        HashRule::Right
+    } else {
+        HashRule::Any
+    }
+}
+
 /// What the words ask of a text.
 fn check_words<R: Read, W: Write>(
     rt: &HostRuntime,
@@ -40,6 +50,9 @@ fn check_words<R: Read, W: Write>(
     writer: &mut W,
 ) -> Result<Checked, ToolFault> {
     let output = output_of(words);
+    if words.get_flag("json") {
+        return tell_within(rt.alloc(), reading.limits(), rule_of(words), reader, writer);
+    }
     if words.get_flag("hash") {
         return check_hash_within(rt.alloc(), reading.limits(), output, reader, writer);
     }
@@ -156,7 +169,8 @@ fn apply_after<'a>(
     base: Option<Base<'_>>,
 ) -> Result<u8, WordFault<'a>> {
     match only_name(words) {
-        Some(name) if !words.get_flag("hash") && !words.get_flag("quiet") => {
+        Some(name)
+            if !words.get_flag("hash") && !words.get_flag("quiet") && !words.get_flag("json") => {
             apply_one(rt, colour, words, base, name)
         }
         _ => {

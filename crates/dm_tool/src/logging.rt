@@ -8,6 +8,7 @@ use dm_files::{
 use dm_log::{LogOptions, Patches, write_context, write_entries, write_json};
 use dm_remarks::Reading;
 use dm_repo::Repo;
+use dm_rests::write_rests;
 use dm_scratch::Verdict;
 use std::alloc::Global;
 use std::io::{self, ErrorKind, Write};
@@ -22,7 +23,28 @@ fn text_of_repo(
     if words.get_flag("context") {
         return Ok(context_of(rt.alloc(), repo, base)?);
     }
+    if words.get_flag("rests") {
+        return Ok(write_rests(rt.alloc(), repo, options_of(words))?);
+    }
     text_of(rt, words, repo)
+}
+
+/// How many of the newest patches the words ask for, if not for all.
+fn last_of(words: &ArgMatches<'_>) -> Option<usize> {
+    match words.get_one::<u32>("last") {
+        Some(last) => Some(last as usize),
+        None => None,
+    }
+}
+
+/// Which entries the words ask for, and how they are shown.
+fn options_of(words: &ArgMatches<'_>) -> LogOptions {
+    LogOptions {
+        last: last_of(words),
+        reverse: words.get_flag("reverse"),
+        verbose: words.get_flag("verbose"),
+        places: words.get_flag("places"),
+    }
 }
 
 /// The text that the words ask for, but for a context.
@@ -31,24 +53,15 @@ fn text_of<P: Patches>(
     words: &ArgMatches<'_>,
     patches: &P,
 ) -> Result<Vec<u8>, ToolFault> {
-    let last = match words.get_one::<u32>("last") {
-        Some(last) => Some(last as usize),
-        None => None,
-    };
     if words.get_flag("count") {
-        let count = match last {
+        let count = match last_of(words) {
             Some(last) => patches.count().min(last),
             None => patches.count(),
         };
         let line = format!(in rt.alloc(); "{count}\n")?;
         return Ok(line.into_bytes());
     }
-    let options = LogOptions {
-        last,
-        reverse: words.get_flag("reverse"),
-        verbose: words.get_flag("verbose"),
-        places: words.get_flag("places"),
-    };
+    let options = options_of(words);
     if words.get_flag("json") {
         return Ok(write_json(rt.alloc(), patches, options)?);
     }

@@ -1,6 +1,6 @@
 //! The words of `dm send`, and what they start.
 use clap::ArgMatches;
-use dm_commands::{Base, Sent, ToolFault, repo_of, send_over};
+use dm_commands::{Base, Sent, ToolFault, repo_of, send_over, sent_line, write_text};
 use dm_files::{
     Manner, NO_ANSWER, NamesFault, WordFault, base_of, kinds_of, label_of, read_base, read_file,
     read_repo, refuse_kinds, tell, write_bundle_file,
@@ -87,7 +87,44 @@ struct Asked<'a, 't> {
     theirs: Option<Base<'t>>,
     most: usize,
     is_minimal: bool,
+    is_json: bool,
     output: Option<&'a str>,
+}
+
+/// Sends what was asked for, as JSON: the line has the bundle, unless a new file gets it.
+fn send_told<'a>(
+    rt: &HostRuntime,
+    kinds: Kinds,
+    repo: &Repo<Global>,
+    base: usize,
+    asked: &Asked<'a, '_>,
+) -> Result<Sent, WordFault<'a>> {
+    let mut text = Vec::new(rt.alloc());
+    let mut refusal = Vec::new(rt.alloc());
+    let sent = send_over(
+        rt.alloc(),
+        kinds,
+        repo,
+        base,
+        asked.theirs,
+        asked.most,
+        asked.is_minimal,
+        &mut text,
+        &mut refusal,
+    )?;
+    let line = sent_line(
+        rt.alloc(),
+        kinds,
+        repo,
+        &sent,
+        &text,
+        asked.output.is_none(),
+    )?;
+    if let (Some(name), true) = (asked.output, sent.new.unwrap_or(0) > 0) {
+        write_bundle_file(rt, name, &text)?;
+    }
+    write_text(&line, &mut io::writer(rt))?;
+    Ok(sent)
 }
 
 /// Sends what was asked for: into a new file where there is something, or to standard output.
@@ -98,6 +135,9 @@ fn send_asked<'a>(
     base: usize,
     asked: &Asked<'a, '_>,
 ) -> Result<Sent, WordFault<'a>> {
+    if asked.is_json {
+        return send_told(rt, kinds, repo, base, asked);
+    }
     let mut errors = rt.stderr();
     let Some(name) = asked.output else {
         let mut writer = io::writer(rt);
@@ -167,6 +207,7 @@ fn send_from<'a>(
         theirs,
         most,
         is_minimal: words.get_flag("minimal"),
+        is_json: words.get_flag("json"),
         output: words.get_str("output"),
     };
     match send_asked(rt, reading.kinds, repo, base, &asked) {

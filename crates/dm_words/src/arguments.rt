@@ -151,6 +151,18 @@ pub fn json<'a>(alloc: Global) -> Result<Arg<'a>, AllocError> {
         .conflicts_with("kinds")
 }
 
+/// The word that asks for what rests on each patch of a repository, in JSON.
+pub fn rests<'a>(alloc: Global) -> Result<Arg<'a>, AllocError> {
+    flag(alloc, "rests", help::RESTS)
+        .requires_arg("json")?
+        .conflicts_with("bundle")
+}
+
+/// The word that asks for an answer as JSON, in the place of this one.
+pub fn answer_as_json<'a>(alloc: Global, other: &'a str) -> Result<Arg<'a>, AllocError> {
+    flag(alloc, "json", help::ANSWER_JSON).conflicts_with(other)
+}
+
 /// The word that has patches counted.
 pub fn count<'a>(alloc: Global) -> Result<Arg<'a>, AllocError> {
     flag(alloc, "count", help::COUNT)

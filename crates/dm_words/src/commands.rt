@@ -1,9 +1,10 @@
 //! The commands.
 use crate::arguments::{
-    all_kinds, bundle, bundles, context, count, dry_run, dry_run_at_mirror, explain, file, first,
-    flag, folder, hash, json, last, minimal, mirror, names, no_wait, no_wait_at_mirror, number,
-    one_bundle, output, patches, place, places, posters, quiet, repository, six_kinds,
-    six_kinds_at_mirror, skip, skip_special, stream, text, told_kinds, verbose,
+    all_kinds, answer_as_json, bundle, bundles, context, count, dry_run, dry_run_at_mirror,
+    explain, file, first, flag, folder, hash, json, last, minimal, mirror, names, no_wait,
+    no_wait_at_mirror, number, one_bundle, output, patches, place, places, posters, quiet,
+    repository, rests, six_kinds, six_kinds_at_mirror, skip, skip_special, stream, text,
+    told_kinds, verbose,
 };
 use crate::building::Building;
 use crate::help;
@@ -24,6 +25,7 @@ fn apply_words<'a>(alloc: Global) -> Result<Command<'a>, AllocError> {
         .try_arg(dry_run_at_mirror(alloc))
         .arg(bundle(alloc))
         .try_arg(quiet(alloc))
+        .try_arg(answer_as_json(alloc, "bundle"))
         .arg(hash(alloc))
         .arg(all_kinds(alloc, help::READ_ALL_HERE))
         .try_arg(six_kinds_at_mirror(alloc))
@@ -38,6 +40,7 @@ fn apply_words<'a>(alloc: Global) -> Result<Command<'a>, AllocError> {
 fn check_words<'a>(alloc: Global) -> Result<Command<'a>, AllocError> {
     Building::new(alloc, "check", help::CHECK, help::AFTER_CHECK)
         .arg(flag(alloc, "paths", help::PATHS))
+        .try_arg(answer_as_json(alloc, "paths"))
         .arg(hash(alloc))
         .arg(all_kinds(alloc, help::READ_ALL))
         .arg(explain(alloc))
@@ -55,6 +58,7 @@ fn init_words<'a>(alloc: Global) -> Result<Command<'a>, AllocError> {
         .try_arg(six_kinds(alloc))
         .try_arg(names(alloc))
         .try_arg(skip_special(alloc))
+        .arg(flag(alloc, "json", help::ANSWER_JSON))
         .arg(no_wait(alloc))
         .arg(explain(alloc))
         .try_arg(folder(alloc))
@@ -84,6 +88,7 @@ fn log_words<'a>(alloc: Global) -> Result<Command<'a>, AllocError> {
         .arg(verbose(alloc))
         .try_arg(places(alloc))
         .try_arg(json(alloc))
+        .try_arg(rests(alloc))
         .try_arg(count(alloc))
         .try_arg(context(alloc))
         .try_arg(told_kinds(alloc))
@@ -114,6 +119,7 @@ fn obliterate_words<'a>(alloc: Global) -> Result<Command<'a>, AllocError> {
     .arg(output(alloc, help::OUTPUT))
     .arg(flag(alloc, "with-dependents", help::WITH_DEPENDENTS))
     .try_arg(dry_run(alloc))
+    .arg(flag(alloc, "json", help::ANSWER_JSON))
     .arg(no_wait(alloc))
     .arg(explain(alloc))
     .arg(patches(alloc))
@@ -128,6 +134,7 @@ fn rollback_words<'a>(alloc: Global) -> Result<Command<'a>, AllocError> {
         .arg(text(alloc, "date", "DATE", help::DATE))
         .arg(text(alloc, "name", "NAME", help::NAME))
         .arg(text(alloc, "log", "TEXT", help::LOG_TEXT))
+        .arg(flag(alloc, "json", help::ANSWER_JSON))
         .arg(no_wait(alloc))
         .arg(patches(alloc))
         .done()
@@ -178,6 +185,7 @@ fn send_words<'a>(alloc: Global) -> Result<Command<'a>, AllocError> {
         .arg(first(alloc))
         .arg(minimal(alloc))
         .arg(all_kinds(alloc, help::READ_ALL_HERE))
+        .arg(flag(alloc, "json", help::ANSWER_JSON))
         .try_arg(no_wait_at_mirror(alloc))
         .arg(explain(alloc))
         .arg(output(alloc, help::SEND_OUTPUT))

@@ -58,6 +58,12 @@ pub const PLACES: &str = "Print the place of each patch, counted from the oldest
 /// Of `--json`.
 pub const JSON: &str = "Print a line of JSON for each patch, for programs";
 
+/// Of `--rests`.
+pub const RESTS: &str = "With --json: tell which patches rest on each, too";
+
+/// Of `--json` where a bundle is answered.
+pub const ANSWER_JSON: &str = "Print the answer as JSON, a line each, for programs";
+
 /// Of `--count`.
 pub const COUNT: &str = "Print how many patches there are, and nothing else";
 

@@ -16,7 +16,7 @@ use std::alloc::{AllocError, Allocator, Global};
 use std::str;
 
 /// The value of a text in UTF-8.
-pub(crate) fn text_value(text: Vec<u8>) -> Value
+pub fn text_value(text: Vec<u8>) -> Value
     requires { IsUtf8 text.items }
     ensures { view result ≡ string text.items }
 {
@@ -97,14 +97,14 @@ fn hex_lines<A: Allocator>(alloc: Global, lines: &Lines<A>) -> Result<Value, All
 
 /// A JSON object that is built.
 #[derive(Drop)]
-pub(crate) struct Object {
+pub struct Object {
     alloc: Global,
     members: Map<String, Value>,
 }
 
 impl Object {
     /// An object without members.
-    pub(crate) fn new(alloc: Global) -> Object
+    pub fn new(alloc: Global) -> Object
         ensures { members_in result ≡ no_members }
     {
         Object {
@@ -114,14 +114,14 @@ impl Object {
     }
 
     /// The object as a value.
-    pub(crate) fn into_value(self) -> Value
+    pub fn into_value(self) -> Value
         ensures { view result ≡ object (members_in self) }
     {
         Value::Object(self.members)
     }
 
     /// Sets a member.
-    pub(crate) fn put(&mut self, name: &str, value: Value) -> Result<(), AllocError>
+    pub fn put(&mut self, name: &str, value: Value) -> Result<(), AllocError>
         ensures { OnOk result (members_in self.new ≡ put name.now (view value) (members_in self.old)) }
     {
         serde_json::put(&mut self.members, self.alloc, name, value)
@@ -136,7 +136,7 @@ impl Object {
     }
 
     /// Sets a member to a text, and another one to its bytes in hex if it isn't UTF-8.
-    pub(crate) fn put_text(&mut self, name: &str, text: &[u8]) -> Result<(), AllocError>
+    pub fn put_text(&mut self, name: &str, text: &[u8]) -> Result<(), AllocError>
         ensures { OnOk result (members_in self.new ≡ with_text name.now text.now (members_in self.old)) }
     {
         self.put(name, readable_value(self.alloc, text)?)?;

@@ -5,7 +5,7 @@ ghost use Rattle.serde_json.specs.View.{view};
 ghost use Rattle.dm_tree.specs.Validity.{IsPlain};
 ghost use Rattle.dm_log.specs.Dates.{iso_date};
 ghost use Rattle.dm_log.specs.Finding.{hash_text};
-ghost use Rattle.dm_log.specs.Json.{info_members, patch_data, texts, told};
+ghost use Rattle.dm_log.specs.Json.{info_members, patch_data, patch_members, texts, told};
 ghost use Rattle.dm_log.specs.JsonObjects.{members_in};
 
 use crate::date::push_iso_date;
@@ -19,7 +19,7 @@ use serde_json::Value;
 use std::alloc::{AllocError, Allocator, Global};
 
 /// The hash by which Darcs names a patch, in digits.
-fn hash_value<A: Allocator>(alloc: Global, info: &Info<A>) -> Result<Value, AllocError>
+pub fn hash_value<A: Allocator>(alloc: Global, info: &Info<A>) -> Result<Value, AllocError>
     ensures { IfOk result (λ v. view v ≡ string (hash_text info.now)) }
 {
     Ok(text_value(hash_text(alloc, info)?))
@@ -82,6 +82,21 @@ fn info_object<A: Allocator>(alloc: Global, info: &Info<A>) -> Result<Object, Al
     Ok(object)
 }
 
+/// A patch at its place, as an object to which more may be put.
+pub fn patch_object<A: Allocator>(
+    alloc: Global,
+    place: usize,
+    patch: &Named<A>,
+) -> Result<Object, AllocError>
+    ensures { IfOk result (λ o. members_in o ≡ patch_members place patch.now) }
+{
+    let mut object = info_object(alloc, patch.info())?;
+    object.put("changes", changes_value(alloc, patch.prims())?)?;
+    object.put("depends", hashes_value(alloc, patch.deps())?)?;
+    object.put("place", Value::from(place))?;
+    Ok(object)
+}
+
 /// A patch at its place.
 pub(crate) fn patch_value<A: Allocator>(
     alloc: Global,
@@ -90,9 +105,6 @@ pub(crate) fn patch_value<A: Allocator>(
 ) -> Result<Value, AllocError>
     ensures { IfOk result (λ v. view v ≡ patch_data place patch.now) }
 {
-    let mut object = info_object(alloc, patch.info())?;
-    object.put("changes", changes_value(alloc, patch.prims())?)?;
-    object.put("depends", hashes_value(alloc, patch.deps())?)?;
-    object.put("place", Value::from(place))?;
+    let object = patch_object(alloc, place, patch)?;
     Ok(object.into_value())
 }

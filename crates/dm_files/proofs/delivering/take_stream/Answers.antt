@@ -12,12 +12,12 @@ returns-in-Err-Source-clause-delivers_by g c =
 
 pub returns-in-Err-Answer-clause-delivers_by : goal.returns-in-Err-Answer-clause-delivers_by
 returns-in-Err-Answer-clause-delivers_by g c =
-    by_answer _ _ _ _ _ _ _ _ _ _ _ _ c.of_answer.result c.in-Err-Answer.fault c.of_answer.ensures.goes_on c.of_answer.ensures.mirror (λ texts came. tt)
+    by_answer _ _ _ _ _ _ _ _ _ _ _ _ _ c.of_answer.result c.in-Err-Answer.fault c.of_answer.ensures.goes_on c.of_answer.ensures.mirror (λ texts came. tt)
     (rw c.in-Err-Answer.field-0-is at c.in-Err-Answer.ensures.delivers_until)
 
 pub returns-clause-delivers_by : goal.returns-clause-delivers_by
 returns-clause-delivers_by g c =
-    by_checkpoint _ _ _ _ _ _ _ _ _ _ _ _ c.in-Err-Checkpoint.fault (λ texts came. tt) (rw c.in-Err-Checkpoint.field-0-is at c.in-Err-Checkpoint.ensures.delivers_until)
+    by_checkpoint _ _ _ _ _ _ _ _ _ _ _ _ _ c.in-Err-Checkpoint.fault (λ texts came. tt) (rw c.in-Err-Checkpoint.field-0-is at c.in-Err-Checkpoint.ensures.delivers_until)
 
 pub returns-in-Ok-clause-any_moment : goal.returns-in-Ok-clause-any_moment
 returns-in-Ok-clause-any_moment g c =

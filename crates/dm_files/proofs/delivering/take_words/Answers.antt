@@ -1,8 +1,7 @@
-use Rattle.std.proofs.Common.{◌≡◌, ◌≤◌, ◌∙◌, ⊎_elim, ℕ, List, length, codes, ap, refl, subst, true≢false}
-use Rattle.std.specs.Borrow.{Bor}
+use Rattle.std.proofs.Common.{◌∙◌, ⊎_elim, codes, ap, refl, true≢false}
 use Rattle.dm_store.proofs.StoredLemmas.{weakened}
 use Rattle.dm_files.proofs.MirrorLemmas.{by_less, if_err, if_ok, some_less, told_less}
-use Rattle.dm_files.proofs.NamedLemmas.{as_many}
+use Rattle.dm_files.proofs.NamedLemmas.{as_named, texts_of}
 use Rattle.dm_files.proofs.delivering.take_words.Goals as goal
 
 pub returns-then-get_flag-clause-delivers : goal.returns-then-get_flag-clause-delivers
@@ -17,20 +16,20 @@ returns-then-get_flag-clause-any_moment g c =
 
 pub returns-in-Ok-clause-delivers : goal.returns-in-Ok-clause-delivers
 returns-in-Ok-clause-delivers g c =
-    let same = (ap (λ (n : Bor (List (Bor (List ℕ)))). length n.now) c.unwrap_or-names.ensures ∙ as_many c.get_strs.result _ _ (codes "-") c.get_strs.ensures refl) in
-    told_less c.in-Ok.all_accepted (λ texts came off. came ∙ same) c.in-Ok.ensures.delivers
+    let same = (ap texts_of c.unwrap_or-names.ensures ∙ as_named c.get_strs.result _ _ (codes "-") c.get_strs.ensures refl) in
+    told_less c.in-Ok.all_accepted (λ texts came off. rw same at came) c.in-Ok.ensures.delivers
 
 pub returns-clause-delivers_by : goal.returns-clause-delivers_by
 returns-clause-delivers_by g c =
-    let same = (ap (λ (n : Bor (List (Bor (List ℕ)))). length n.now) c.unwrap_or-names.ensures ∙ as_many c.get_strs.result _ _ (codes "-") c.get_strs.ensures refl) in
-    by_less (λ texts came off. subst (λ (n : ℕ). length texts ≤ n) same came) c.in-Err.ensures.delivers_by
+    let same = (ap texts_of c.unwrap_or-names.ensures ∙ as_named c.get_strs.result _ _ (codes "-") c.get_strs.ensures refl) in
+    by_less (λ texts came off. (came.0, rw same at came.1)) c.in-Err.ensures.delivers_by
 
 pub returns-in-Ok-clause-any_moment : goal.returns-in-Ok-clause-any_moment
 returns-in-Ok-clause-any_moment g c =
-    let same = (ap (λ (n : Bor (List (Bor (List ℕ)))). length n.now) c.unwrap_or-names.ensures ∙ as_many c.get_strs.result _ _ (codes "-") c.get_strs.ensures refl) in
-    weakened g.D.Device.moment g.D.Device.left_since _ _ _ _ (some_less (λ texts came off. subst (λ (n : ℕ). length texts ≤ n) same came)) c.take_named.ensures.any_moment
+    let same = (ap texts_of c.unwrap_or-names.ensures ∙ as_named c.get_strs.result _ _ (codes "-") c.get_strs.ensures refl) in
+    weakened g.D.Device.moment g.D.Device.left_since _ _ _ _ (some_less (λ texts came off. (came.0, rw same at came.1))) c.take_named.ensures.any_moment
 
 pub returns-clause-any_moment : goal.returns-clause-any_moment
 returns-clause-any_moment g c =
-    let same = (ap (λ (n : Bor (List (Bor (List ℕ)))). length n.now) c.unwrap_or-names.ensures ∙ as_many c.get_strs.result _ _ (codes "-") c.get_strs.ensures refl) in
-    weakened g.D.Device.moment g.D.Device.left_since _ _ _ _ (some_less (λ texts came off. subst (λ (n : ℕ). length texts ≤ n) same came)) c.take_named.ensures.any_moment
+    let same = (ap texts_of c.unwrap_or-names.ensures ∙ as_named c.get_strs.result _ _ (codes "-") c.get_strs.ensures refl) in
+    weakened g.D.Device.moment g.D.Device.left_since _ _ _ _ (some_less (λ texts came off. (came.0, rw same at came.1))) c.take_named.ensures.any_moment

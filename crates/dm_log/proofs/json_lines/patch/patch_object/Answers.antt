@@ -1,10 +1,9 @@
 use Rattle.std.proofs.Common.{refl}
-use Rattle.dm_log.proofs.json_lines.patch.patch_value.Goals as goal
+use Rattle.dm_log.proofs.json_lines.patch.patch_object.Goals as goal
 
 pub returns : goal.returns
 returns g c =
     rw (
-      c.into_value.ensures,
       c.in_ok-put-3.ensures,
       c.in_ok-put-2.ensures,
       c.in_ok-put.ensures,
