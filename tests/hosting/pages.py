@@ -136,7 +136,7 @@ def ask_hard(place):
     holds("its lines", page.by[("pre", "new")], ["+<img src=x onerror=alert(1)>\n+</pre><script>alert(2)</script>\n+\ttab"])
     page = titled(found, "forged")
     holds("a forged preference", (page.by[("h2", None)], page.by[("pre", "new")], page.by[("pre", "old")]),
-          (["Depends on", "preference test", "preference boring"], ["+hunk ./a 1", "+<script>alert(3)</script>"], ["-old value"]))
+          (["Rests on", "preference test", "preference boring"], ["+hunk ./a 1", "+<script>alert(3)</script>"], ["-old value"]))
     holds("what it depends on", page.by[("li", None)], ["\\x07\\x1b[31m \\xe2\\x80\\xaegnp.exe \\xef\\xbb\\xbf\\xef\\xbf\\xbf"])
     holds("its date", page.by[("time", None)], ["2026-03 UTC"])
     page = titled(found, "A megabyte")
@@ -163,9 +163,9 @@ def ask_new(place):
     write(folder, "own.html", text=b"not ours")
     holds("again", pages(place, "hard.dm", "hard")[:2], (0, b"nothing new\n"))
     place.dm("apply", "--mirror", "hard.dm", "--quiet", text=bundle([patch(info(b"One more", date=b"20260305000000"), [b"addfile ./one/more\n"])], [info(b"same", b"hash x", b"20260302190000")]))
-    holds("one more", pages(place, "hard.dm", "hard")[:2], (0, b"pages hard: 6 written, 0 removed\n"))
+    holds("one more", pages(place, "hard.dm", "hard")[:2], (0, b"pages hard: 7 written, 0 removed\n"))
     changed = sorted(re.sub(r"[0-9a-f]{40}", "H", name) for name, it in stamps(folder).items() if before.get(name) != it and name != "own.html")
-    holds("what one more changes", changed, ["feed.atom", "file/H.html", "index.html", "patch/H.html", "picture.html", "tree/H.html"])
+    holds("what one more changes", changed, ["feed.atom", "file/H.html", "index.html", "patch/H.html", "patch/H.html", "picture.html", "tree/H.html"])
     for name in ("One more", "Long " * 100):
         digits = [it["hash"] for it in log(place) if it["name"] == name]
         holds("an obliteration", place.dm("obliterate", "--mirror", "hard.dm", digits[0])[0], 0)
