@@ -11,15 +11,15 @@ _dm()
     return
   fi
   case $command in
-    apply) options='--base --repository --mirror --no-wait --dry-run --bundle --quiet --hash --all-kinds --six-kinds --explain --skip --stream' ;;
-    check) options='--paths --hash --all-kinds --explain' ;;
+    apply) options='--base --repository --mirror --no-wait --dry-run --bundle --quiet --json --hash --all-kinds --six-kinds --explain --skip --stream' ;;
+    check) options='--paths --json --hash --all-kinds --explain' ;;
     checkout) options='--mirror --no-wait --all-names' ;;
-    init) options='--mirror --base --repository --all-kinds --six-kinds --names --skip-special --no-wait --explain' ;;
-    log) options='-n -v --mirror --base --repository --last --reverse --verbose --places --json --count --context --kinds --all-kinds --no-wait' ;;
-    obliterate) options='-o --mirror --output --with-dependents --dry-run --no-wait --explain' ;;
-    rollback) options='--mirror --author --date --name --log --no-wait' ;;
+    init) options='--mirror --base --repository --all-kinds --six-kinds --names --skip-special --json --no-wait --explain' ;;
+    log) options='-n -v --mirror --base --repository --last --reverse --verbose --places --json --rests --count --context --kinds --all-kinds --no-wait' ;;
+    obliterate) options='-o --mirror --output --with-dependents --dry-run --json --no-wait --explain' ;;
+    rollback) options='--mirror --author --date --name --log --json --no-wait' ;;
     run) options='--mirrors --bound --base --repository --explain --skip' ;;
-    send) options='-o --output --mirror --base --repository --first --minimal --all-kinds --no-wait --explain --to' ;;
+    send) options='-o --output --mirror --base --repository --first --minimal --all-kinds --json --no-wait --explain --to' ;;
     upgrade) options='--mirror --no-wait' ;;
     *) return ;;
   esac
