@@ -1,4 +1,4 @@
--- What is told programs of a text that is checked.
+-- What is told programs of a text that is checked, and of what is sent.
 use Rattle.std.specs.Prelude.{◌≡◌, ◌⊎◌, ℕ, Bool, true, false, List, Option, None, Some, codes}
 use Rattle.dm_named.specs.Laws.{with_kinds}
 use Rattle.dm_named.specs.Limits.{standard}

@@ -6,7 +6,7 @@ mod change;
 mod object;
 mod patch;
 
-pub use crate::json_lines::object::{Object, text_value};
+pub use crate::json_lines::object::Object;
 use crate::json_lines::patch::patch_value;
 pub use crate::json_lines::patch::{hash_value, patch_object};
 use crate::log::{count_of, place_of};

@@ -30,7 +30,7 @@ mod verbose;
 pub use context::write_context;
 pub use entry::{hash_of, push_entry};
 pub use finding::{Found, find_patch, hash_text};
-pub use json_lines::{Object, hash_value, patch_object, text_value, write_json};
+pub use json_lines::{Object, hash_value, patch_object, write_json};
 pub use log::{count_of, place_of, write_entries, write_log};
 pub use options::LogOptions;
 pub use patches::Patches;

@@ -17,7 +17,7 @@ pub data Directly (info : PatchInfo) : List (PatchInfo × PatchInfo) → List Pa
   one : (pairs : List (PatchInfo × PatchInfo)) (names : List PatchInfo) (p : PatchInfo × PatchInfo) → Directly info pairs names → p.1 ≡ info → Directly info (pairs ++ p ∷ []) (names ++ p.0 ∷ [])
   another : (pairs : List (PatchInfo × PatchInfo)) (names : List PatchInfo) (p : PatchInfo × PatchInfo) → Directly info pairs names → (p.1 ≡ info → ⊥) → Directly info (pairs ++ p ∷ []) names
 
--- These rest on a patch: they can't do without it, and each can pass what stands between and can't do without it.
+-- These rest on the patch of this name: if it goes they have to go too, and of what goes it is the nearest that stops them.
 pub record RestOn (repo : List Patch) (info : PatchInfo) (names : List PatchInfo) : Type 0 where
   pub stay : List Patch
   pub go : List Patch

@@ -59,8 +59,8 @@ fn rests_line(
     Ok(line)
 }
 
-/// A line of JSON for each patch that is chosen, as `dm_log::write_json` writes it, and with the hashes of those that rest on it: without
-/// it they couldn't stay, and each can pass all others between that couldn't either.
+/// A line of JSON for each patch that is chosen, as `dm_log::write_json` writes it, and with the hashes of those that rest on it: if it
+/// goes they have to go too, and of what goes it is the nearest that stops them.
 ///
 /// For each patch the repository is looked through once, so that of all takes as many steps as the square of their number.
 pub fn write_rests(

@@ -10,8 +10,8 @@
 //! repository that it was sent from.
 //!
 //! [`obliterate`] takes patches out of a repository, and the bundle that it returns brings them back: what stays takes it as it is, and
-//! then has the tree from before; [`bound_to`] tells which patches would go besides. [`roll_back`] returns the bundle of a new patch, with which the repository has the tree that it has
-//! without the patches that are undone.
+//! then has the tree from before; [`bound_to`] tells which patches would go besides. [`roll_back`] returns the bundle of a new patch,
+//! with which the repository has the tree that it has without the patches that are undone.
 #![tactic(auto)]
 
 pub mod laws;

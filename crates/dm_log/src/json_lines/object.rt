@@ -16,7 +16,7 @@ use std::alloc::{AllocError, Allocator, Global};
 use std::str;
 
 /// The value of a text in UTF-8.
-pub fn text_value(text: Vec<u8>) -> Value
+pub(crate) fn text_value(text: Vec<u8>) -> Value
     requires { IsUtf8 text.items }
     ensures { view result ≡ string text.items }
 {
