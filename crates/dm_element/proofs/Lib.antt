@@ -1,0 +1,6 @@
+pub mod CopyLemmas
+pub mod ShadowLemmas
+pub mod ElementLemmas
+pub mod ConflictLemmas
+pub mod RowLemmas
+pub mod ListLemmas

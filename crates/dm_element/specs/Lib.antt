@@ -1,0 +1,4 @@
+pub mod Elements
+pub mod Laws
+pub mod Lists
+pub mod Values

@@ -1,0 +1,71 @@
+//! The laws of the definitions alone, for all elements. Each call does nothing; whoever calls it knows
+//! the law from there on.
+ghost use Rattle.dm_element.specs.Laws.{ElementsCommuteBack, ElementsCommutePastAnInverse, OneWayToCommuteElements, ElementsKeepTheirShape, PlainElementsCommute, InversesUndoEffects, ElementListsCommuteBack, ElementListsCommutePastAnInverse, ElementRectanglesTurn, OneWayToCommuteElementLists, ListInversesUndoEffects, EffectsCommute, CommutedElementsEndAlike};
+
+/// Two elements that changed places change places back to what they were.
+pub fn commuting_elements_back()
+    ensures { ElementsCommuteBack }
+{}
+
+/// Where e then f change places to f' then e', the inverse of e then f' do to f then the inverse of e'.
+pub fn commuting_elements_past_an_inverse()
+    ensures { ElementsCommutePastAnInverse }
+{}
+
+/// Two elements change places to at most one pair.
+pub fn one_way_to_commute_elements()
+    ensures { OneWayToCommuteElements }
+{}
+
+/// Elements that change places stay of their kind and shape.
+pub fn elements_keep_their_shape()
+    ensures { ElementsKeepTheirShape }
+{}
+
+/// Two plain elements change places exactly as their primitives commute.
+pub fn plain_elements_commute()
+    ensures { PlainElementsCommute }
+{}
+
+/// The inverse of an element has the inverse effect, and the element for its own inverse.
+pub fn inverses_undo_effects()
+    ensures { InversesUndoEffects }
+{}
+
+/// Two lists that changed places change places back to what they were.
+pub fn commuting_element_lists_back()
+    ensures { ElementListsCommuteBack }
+{}
+
+/// Where es then fs change places to fs' then es', the inverse of es then fs' do to fs then the inverse
+/// of es'.
+pub fn commuting_element_lists_past_an_inverse()
+    ensures { ElementListsCommutePastAnInverse }
+{}
+
+/// Two lists that start at one state: where n is n' after r, and r is r' after n, the same holds with
+/// the two exchanged.
+pub fn turning_a_rectangle_of_elements()
+    ensures { ElementRectanglesTurn }
+{}
+
+/// Two lists change places to at most one pair of lists.
+pub fn one_way_to_commute_element_lists()
+    ensures { OneWayToCommuteElementLists }
+{}
+
+/// The inverse of a list has the inverse effects, and the list for its own inverse.
+pub fn list_inverses_undo_effects()
+    ensures { ListInversesUndoEffects }
+{}
+
+/// The effects of two lists that change places commute as lists of primitives.
+pub fn effects_commute()
+    ensures { EffectsCommute }
+{}
+
+/// Every lawful map on which the effects of two lists apply in turn has the same end by those of the
+/// lists that they change places to.
+pub fn commuted_elements_end_alike()
+    ensures { CommutedElementsEndAlike }
+{}

@@ -1,0 +1,22 @@
+//! Elements of patches: a primitive, or a conflict that was merged, and when two of them change places.
+//!
+//! It stands on `dm_prim`. A conflicted element changes a tree by its effect, a list of primitives, and carries shadows: lists of
+//! primitives that all start at one tree, the one after it or the one before it. Where two elements change places their effects
+//! do, and each shadow passes the other element's effect. [`commute_elements`] returns what this relates, and none only where it
+//! relates nothing; [`commute_element_lists_owned`] does the same for lists. The laws of all elements stand in [`laws`].
+#![tactic(auto)]
+
+mod conflicted;
+mod copies;
+mod element;
+pub mod laws;
+mod list;
+mod pair;
+mod shadows;
+mod side;
+
+pub use conflicted::Conflicted;
+pub use element::Element;
+pub use list::commute_element_lists_owned;
+pub use pair::commute_elements;
+pub use side::Side;
