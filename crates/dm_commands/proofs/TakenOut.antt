@@ -9,15 +9,14 @@ use Rattle.dm_named.specs.Patches.{Patch}
 use Rattle.dm_bundle.specs.Bundles.{Contents}
 use Rattle.dm_bundle.specs.Patches.{infos_of, AreAllOf, SameMembers}
 use Rattle.dm_repo.specs.declared.policy.Policy.TheVariants.{Refuse}
-use Rattle.dm_repo.specs.CommonSets.{HasAll}
 use Rattle.dm_repo.specs.Repositories.{Holds}
 use Rattle.dm_repo.specs.Weighing.{IsMergeOf}
 use Rattle.dm_repo.proofs.Members.{here, more, one_of, infos_of-append}
-use Rattle.dm_scratch.specs.declared.verdict.Verdict.TheVariants.{Taken, NothingNew}
+use Rattle.dm_scratch.specs.declared.verdict.Verdict.TheVariants.{Taken}
 use Rattle.dm_converge.proofs.Merged.{merged_all, merged_new}
 use Rattle.dm_send.proofs.KindLemmas.{leaving_keeps_kinds}
 use Rattle.dm_send.specs.Obliterating.{Obliterates}
-use Rattle.dm_send.specs.Sending.{Accepts, Parts, no_names, inside, outside}
+use Rattle.dm_send.specs.Sending.{Parts, no_names, inside, outside}
 use Rattle.dm_store.specs.LettingGo.{GivesBack}
 use Rattle.dm_begin.specs.Bases.{MayHaveBase}
 use Rattle.dm_commands.specs.Obliterating.{ObliteratesBehind, TakesOut}
@@ -47,9 +46,10 @@ pub some_new : (xs ys : List Patch) → xs ≡ ys → eqb (length xs) 0 ≡ fals
 some_new [] ys same e none = absurd (true≢false e)
 some_new (x ∷ xs) ys same e none = let never : x ∷ xs ≡ [] = same ∙ none in absurd (cc)
 
--- what stays takes the bundle of what goes
-pub takes_gone : (repo : List Patch) (base : ℕ) (chosen : List PatchInfo) (stays : List Patch) (cut : Contents) (bound : List (PatchInfo × PatchInfo)) → MayHaveBase repo base → (o : ObliteratesBehind repo base chosen stays cut bound) → cut.patches ≢ [] → Accepts stays cut
-takes_gone repo base chosen stays cut bound may o some = inr (o.obliterates.go, 0, o.is_taken may Refuse some)
+-- what stays takes the bundle of what goes, and has then what goes behind its own
+pub takes_gone : (repo : List Patch) (base : ℕ) (chosen : List PatchInfo) (stays : List Patch) (cut : Contents) (bound : List (PatchInfo × PatchInfo)) → MayHaveBase repo base → (o : ObliteratesBehind repo base chosen stays cut bound) → cut.patches ≢ [] →
+    IsMergeOf stays cut Refuse o.obliterates.go 0
+takes_gone repo base chosen stays cut bound may o some = o.is_taken may Refuse some
 
 -- the names of a repository are those of what stays and of what is brought
 abbrev Has : List Patch → List Patch → Contents → Type 0
@@ -92,32 +92,19 @@ module _ (kinds : Kinds) (repo stays : List Patch) (text : List ℕ) (t : TakesO
     ]),
   )
 
-  nothing_has : HasAll stays t.kept → SameMembers (infos_of repo) (infos_of stays)
-  nothing_has all = λ i. (λ h. elim ((has_kept i).0 h) [ inl c ↦ c | inr c ↦ all i c ], λ h. (has_kept i).1 (inl h))
-
   pub gives_back : GivesBack kinds repo stays text
-  gives_back = elim t.is_taken [
-    | inl n ↦ record {
-      gone = t.kept;
-      stands = t.reads.stands;
-      verdict = NothingNew;
-      accepted = tt;
-      after = stays;
-      takes = (n, refl);
-      names = nothing_has n.all_held;
-    }
-    | inr m ↦
-        let merge : IsMergeOf stays t.kept Refuse m.0 0 = rw m.2.merge.1 at m.2 in
-        record {
-          gone = t.kept;
-          stands = t.reads.stands;
-          verdict = Taken (length m.0);
-          accepted = tt;
-          after = stays ++ m.0;
-          takes = record { merged = m.0; is_merge = merge; counted = refl; appended = refl };
-          names = merged_has m.0 merge;
-        }
-  ]
+  gives_back =
+      let o = t.obliterates in
+      record {
+        gone = t.kept;
+        stands = t.reads.stands;
+        verdict = Taken (length o.go);
+        accepted = tt;
+        after = stays ++ o.go;
+        takes = record { merged = o.go; is_merge = t.is_taken; counted = refl; appended = refl };
+        names = merged_has o.go t.is_taken;
+        same_tree = o.same_tree;
+      }
 
   -- what stays has the kinds of the repository
   pub stays_of_kinds : AreAllOf kinds repo → AreAllOf kinds stays

@@ -9,12 +9,14 @@ use Rattle.dm_named.specs.Patches.{Patch}
 use Rattle.dm_bundle.specs.Patches.{infos_of}
 use Rattle.dm_begin.specs.Bases.{CutsBase, MayHaveBase}
 use Rattle.dm_bundle.specs.Bundles.{Contents}
+use Rattle.dm_repo.specs.declared.policy.Policy.TheVariants.{Refuse}
+use Rattle.dm_repo.specs.Weighing.{IsMergeOf}
 use Rattle.dm_scratch.specs.Taking.{ReadsWithin}
 use Rattle.dm_send.specs.Obliterating.{Obliterates}
-use Rattle.dm_send.specs.Sending.{Accepts, TakesAs}
+use Rattle.dm_send.specs.Sending.{TakesAs}
 
--- Patches of some names go, and those that are bound to them, one at least. The text stands for a bundle of them, of primitives of these kinds, and
--- what stays takes it.
+-- Patches of some names go, and those that are bound to them, one at least. The text stands for a bundle of them, of primitives of these kinds; what
+-- stays takes it, and has then what goes behind its own.
 pub record TakesOut (kinds : Kinds) (repo stays : List Patch) (text : List ℕ) : Type 0 where
   pub base : ℕ
   pub chosen : List PatchInfo
@@ -24,7 +26,7 @@ pub record TakesOut (kinds : Kinds) (repo stays : List Patch) (text : List ℕ) 
   pub some : gone.patches ≢ []
   pub kept : Contents
   pub same : kept.patches ≡ gone.patches
-  pub is_taken : Accepts stays kept
+  pub is_taken : IsMergeOf stays kept Refuse obliterates.go 0
   pub reads : ReadsWithin (with_kinds standard kinds) text kept
 
 -- one of these names is of the base of the repository

@@ -4,7 +4,7 @@ ghost use Rattle.dm_journal.specs.declared.fault.WriteError.{WriteError};
 ghost use Rattle.dm_journal.specs.Device.{IsDurable, LeavesOnly};
 ghost use Rattle.dm_begin.specs.Bases.{MayHaveBase};
 ghost use Rattle.dm_send.specs.Obliterating.{RefusesToObliterate};
-ghost use Rattle.dm_store.specs.Keeping.{FitsOneEntry, IsStored, kept_as, kept_in};
+ghost use Rattle.dm_store.specs.Keeping.{CrashesKeep, FitsOneEntry, IsStored, kept_as, kept_in};
 ghost use Rattle.dm_store.specs.Kinds.{kinds_in};
 ghost use Rattle.dm_store.specs.LettingGo.{LosesNothing};
 ghost use Rattle.dm_commands.specs.Obliterating.{NamesBase, ObliteratesBehind, TakesOut};
@@ -47,6 +47,7 @@ pub fn keep_and_let_go<D: Device, F: Device>(
     ensures unless_kept { (fault : WriteError) → result ≡ Err (unkept.Bundle fault) → store.new ≡ store.old }
     ensures kept_before { (fault : WriteError) → result ≡ Err (unkept.Mirror fault) → IsDurable F.seen F.may_leave F.file_may_leave file.new × (F.seen file.new ≡ text.now) }
     ensures stored { OnOk result (IsStored D.seen D.may_leave D.file_may_leave store.new) }
+    ensures keeps { OnOk result (CrashesKeep (kinds_in store.old) D.may_leave store.new.journal.device (kept_as store.old.base store.new.repo.patches)) }
     ensures kept { OnOk result (IsDurable F.seen F.may_leave F.file_may_leave file.new × (F.seen file.new ≡ text.now)) }
 
     // The mirror isn't touched before the bundle is on the disk.

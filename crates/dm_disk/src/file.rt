@@ -263,14 +263,19 @@ impl DiskFile {
         })
     }
 
-    /// The same file as it was when it was opened, for a rehearsal: what is taken into it is written nowhere. `None` where the
-    /// bytes were handed out or written over. The lock is let go.
-    pub fn rehearse(mut self) -> Option<Rehearsal>
-        ensures seen { IfSome result (λ rehearsal. seen rehearsal ≡ seen self) }
-        ensures durable { IfSome result (IsDurable seen may_leave file_may_leave) }
+    /// The same file as it was when it was opened, for a rehearsal: what is taken into it is written nowhere. The lock is let go.
+    ///
+    /// # Errors
+    ///
+    /// [`DeviceError::Failed`] where the bytes were handed out or written over.
+    pub fn rehearse(mut self) -> Result<Rehearsal, DeviceError>
+        ensures seen { IfOk result (λ rehearsal. seen rehearsal ≡ seen self) }
+        ensures durable { IfOk result (IsDurable seen may_leave file_may_leave) }
     {
-        let bytes = self.bytes.take()?;
-        Some(Rehearsal::new(bytes))
+        match self.bytes.take() {
+            Some(bytes) => Ok(Rehearsal::new(bytes)),
+            None => Err(DeviceError::Failed),
+        }
     }
 
     /// Why the last call that failed did, as the system says. `None` where all were done, or were refused.

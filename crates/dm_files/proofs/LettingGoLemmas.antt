@@ -1,5 +1,5 @@
 -- What a mirror's file keeps where patches go, or where they stay.
-use Rattle.std.proofs.Common.{◌≡◌, ◌⊎◌, inl, ⊎_elim, ℕ, List, length, sym, subst}
+use Rattle.std.proofs.Common.{◌≡◌, ◌⊎◌, inl, inr, ⊎_elim, ℕ, List, length, sym, subst}
 use Rattle.dm_named.specs.declared.limits.Kinds.{Kinds}
 use Rattle.dm_named.specs.Patches.{Patch}
 use Rattle.dm_journal.specs.Device.{LeavesOnly}
@@ -9,7 +9,7 @@ use Rattle.dm_store.specs.declared.store.Store.{Store}
 use Rattle.dm_store.specs.Keeping.{CrashesKeep, IsStored, KeepsEither, KeepsRepo, Kept, kept_as, kept_in}
 use Rattle.dm_store.specs.Kinds.{kinds_in}
 use Rattle.dm_store.specs.LettingGo.{LosesNothing}
-use Rattle.dm_store.proofs.StoredLemmas.{at_rest, crashes_keep}
+use Rattle.dm_store.proofs.StoredLemmas.{at_rest, crashes_keep, weakened}
 
 -- no call of the file
 pub still_keeps : (store : Store (List Event)) (P : List ℕ → Type 0) → ((file : List ℕ) → KeepsRepo (kinds_in store) file (kept_in store) → P file) → IsStored seen may_leave file_may_leave store →
@@ -30,6 +30,15 @@ loses_nothing old new left others stored changes =
     (still_keeps old (LosesNothing (kinds_in old) (kept_in old) (kept_as old.base left) others) (λ file keeps. inl keeps) stored))
     (λ run. run)
     changes
+
+-- what loses nothing keeps the repository, or what stays
+pub keeps_either : (old new : Store (List Event)) (left : List Patch) (others : List ℕ → Type 0) →
+    LeavesOnly length left_since old.journal.device new.journal.device (LosesNothing (kinds_in old) (kept_in old) (kept_as old.base left) others) →
+    LeavesOnly length left_since old.journal.device new.journal.device (KeepsEither (kinds_in old) (kept_in old) (kept_as old.base left))
+keeps_either old new left others run =
+    weakened length left_since old.journal.device new.journal.device (LosesNothing (kinds_in old) (kept_in old) (kept_as old.base left) others) (KeepsEither (kinds_in old) (kept_in old) (kept_as old.base left))
+    (λ file lost. ⊎_elim (λ same. inl same) (λ gone. inr gone.0) lost)
+    run
 
 -- what a crash may leave now, it may have left at any moment since
 pub left_keeps : (old new : List Event) (kinds : Kinds) (kept : Kept) → LeavesOnly length left_since old new (λ file. KeepsRepo kinds file kept) → CrashesKeep kinds may_leave new kept

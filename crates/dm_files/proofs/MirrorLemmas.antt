@@ -20,7 +20,11 @@ use Rattle.dm_deliver.proofs.Runs.{followed}
 use Rattle.dm_files.specs.declared.word_fault.WordFault.{WordFault}
 use Rattle.dm_files.specs.declared.delivering.Stop.{Stop}
 use Rattle.dm_files.specs.declared.delivering.Stop.TheVariants.{Mirror, Beside}
-use Rattle.dm_files.specs.Mirrors.{AnswersSome, DeliversBy, MayGoOn}
+use Rattle.dm_disk.specs.Events.{Event}
+use Rattle.dm_disk.specs.States.{may_leave}
+use Rattle.dm_words.specs.declared.request.Apply.{Apply}
+use Rattle.dm_files.specs.Named.{CameAsNamed, darcs_rule, policy_for, rule_for}
+use Rattle.dm_files.specs.Mirrors.{AnswersAll, AnswersSome, DeliversBy, IsApplied, LeavesAnswered, MayGoOn}
 
 module _ {D : Type 0} {moment : D → ℕ} {left_since : D → ℕ → List ℕ → Type 0} {Says : Saying} {policy : Policy} {rule : BundleRule} where
   pub delivered_less : {Gave Told : List (List ℕ) → Type 0} {old new : Store D} {before now : Output} → ((texts : List (List ℕ)) → Gave texts → Told texts)
@@ -176,3 +180,16 @@ pub then_kept : {D : Type 0} (moment : D → ℕ) (left_since : D → ℕ → Li
 then_kept moment left_since Gave kinds policy rule before after old mid new texts answers came takes first second =
     followed moment left_since old mid new (KeepsSome Gave kinds before policy rule) first
     (weakened moment left_since mid new (λ file. KeepsRepo kinds file after) (KeepsSome Gave kinds before policy rule) (keeps_answered Gave kinds before after policy rule texts answers came takes) second)
+
+-- what was answered, and is kept
+applied_by : (had : List ℕ → List ℕ → Type 0) (asked : Apply) (status : ℕ) (kinds : Kinds) (held new : Kept) (file : List Event) (policy : Policy) (rule : BundleRule) →
+    policy ≡ policy_for asked.skip → rule ≡ rule_for asked.hash darcs_rule → AnswersAll (CameAsNamed had asked) kinds policy rule held new status → CrashesKeep kinds may_leave file new → IsApplied had asked status
+applied_by had asked status kinds held new file policy rule by under answers keeps =
+    record { kinds = kinds; held = held; new = new; answers = rw (by, under) at answers; kept = λ dry. (file, keeps) }
+
+pub applied : (had : List ℕ → List ℕ → Type 0) (asked : Apply) (result : Result ℕ Stop) (status : ℕ) (kinds : Kinds) (held : Kept) (file : List Event) (policy : Policy) (rule : BundleRule) →
+    result ≡ Ok status → policy ≡ policy_for asked.skip → rule ≡ rule_for asked.hash darcs_rule →
+    IfOk result (λ s. LeavesAnswered kinds may_leave file (λ new. AnswersAll (CameAsNamed had asked) kinds policy rule held new s)) → IsApplied had asked status
+applied had asked result status kinds held file policy rule is by under told =
+    let left = (rw is at told) in
+    applied_by had asked status kinds held left.0 file policy rule by under left.1 left.2

@@ -2,7 +2,7 @@
 use Rattle.std.proofs.Common.{◌≡◌, ◌++◌, ℕ, List, [], ◌∷◌, Option, Some, None, option_map, refl, ap, ◌∙◌}
 use Rattle.std.specs.Borrow.{Bor}
 use Rattle.std.specs.Option.{unwrap_or}
-use Rattle.clap.specs.declared.parser.matches.ArgMatches.{ArgMatches}
+use Rattle.dm_words.specs.declared.request.Apply.{Apply}
 use Rattle.dm_files.specs.Bundles.{Reads, names_in}
 use Rattle.dm_files.specs.Named.{CameAsNamed, CameAtMost}
 
@@ -31,8 +31,8 @@ but_last_read had names [] last left read = (names, refl)
 but_last_read had [] (t ∷ ts) last left read = absurd read
 but_last_read had (n ∷ ns) (t ∷ ts) last left read = let rest = but_last_read had ns ts last left read.1 in (rest.0, (read.0, rest.1))
 
-pub fewer : (had : List ℕ → List ℕ → Type 0) (words : ArgMatches) (texts : List (List ℕ)) (last : List ℕ) → CameAtMost had words (texts ++ last ∷ []) → CameAtMost had words texts
-fewer had words texts last came off = but_last_read had _ texts last _ (came off).1
+pub fewer : (had : List ℕ → List ℕ → Type 0) (asked : Apply) (texts : List (List ℕ)) (last : List ℕ) → CameAtMost had asked (texts ++ last ∷ []) → CameAtMost had asked texts
+fewer had asked texts last came off = but_last_read had _ texts last _ (came off).1
 
-pub at_most : (had : List ℕ → List ℕ → Type 0) (words : ArgMatches) (texts : List (List ℕ)) → CameAsNamed had words texts → CameAtMost had words texts
-at_most had words texts came off = ([], came off)
+pub at_most : (had : List ℕ → List ℕ → Type 0) (asked : Apply) (texts : List (List ℕ)) → CameAsNamed had asked texts → CameAtMost had asked texts
+at_most had asked texts came off = ([], came off)

@@ -2,3 +2,4 @@ pub mod Choosing
 pub mod Bundles
 pub mod Named
 pub mod Mirrors
+pub mod Obliterating

@@ -1,9 +1,14 @@
 -- What becomes of bundles that are taken into a mirror.
-use Rattle.std.specs.Prelude.{◌≡◌, ◌⊎◌, ℕ, List, All}
+use Rattle.std.specs.Prelude.{◌≡◌, ◌⊎◌, ℕ, List, All, false}
+use Rattle.dm_disk.specs.Events.{Event}
+use Rattle.dm_disk.specs.States.{may_leave}
+use Rattle.dm_words.specs.declared.request.Apply.{Apply}
+use Rattle.dm_files.specs.Named.{CameAsNamed, any_rule, darcs_rule, kinds_for, policy_for, rule_for}
 use Rattle.dm_named.specs.declared.limits.Kinds.{Kinds}
 use Rattle.dm_repo.specs.declared.policy.Policy.{Policy}
 use Rattle.dm_journal.specs.declared.fault.WriteError.{WriteError}
-use Rattle.dm_store.specs.Keeping.{CrashesKeep, Kept}
+use Rattle.dm_named.specs.Patches.{Patch}
+use Rattle.dm_store.specs.Keeping.{CrashesKeep, Kept, kept_as}
 use Rattle.dm_store.specs.declared.store.Store.{Store}
 use Rattle.dm_deliver.specs.declared.answers.Answer.{Answer}
 use Rattle.dm_deliver.specs.declared.fault.AnswerError.{AnswerError}
@@ -35,6 +40,20 @@ pub record AnswersSome (Gave : List (List ℕ) → Type 0) (kinds : Kinds) (poli
   pub answers : List Answer
   pub came : Gave texts
   pub takes : AnswersEach kinds old texts policy rule answers new
+
+-- `dm apply --mirror` took all that is named: each of the texts was answered in turn, by the repository that the one before it left, and unless the mirror was
+-- to stay as it is, its file, as it is left, keeps the last of these repositories
+pub record IsApplied (had : List ℕ → List ℕ → Type 0) (asked : Apply) (status : ℕ) : Type 0 where
+  pub kinds : Kinds
+  pub held : Kept
+  pub new : Kept
+  pub answers : AnswersAll (CameAsNamed had asked) kinds (policy_for asked.skip) (rule_for asked.hash darcs_rule) held new status
+  pub kept : asked.dry_run ≡ false → (file : List Event) × CrashesKeep kinds may_leave file new
+
+-- `dm apply` took all that is named into a repository in memory, which began with these patches
+pub record IsAppliedTo (had : List ℕ → List ℕ → Type 0) (asked : Apply) (start : List Patch) (status : ℕ) : Type 0 where
+  pub new : Kept
+  pub answers : AnswersAll (CameAsNamed had asked) (kinds_for asked.all_kinds) (policy_for asked.skip) (rule_for asked.hash any_rule) (kept_as 0 start) new status
 
 -- whichever texts came
 abbrev pub AnyTexts : List (List ℕ) → Type 0

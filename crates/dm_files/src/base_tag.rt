@@ -1,4 +1,6 @@
 //! What is said and refused of the tag with which a mirror begins.
+ghost use Rattle.std.specs.Prelude.{◌≡◌, IfOk};
+
 use crate::telling::{Output, write_refusal};
 use crate::word_fault::WordFault;
 use dm_commands::{base_tag, before_base_line};
@@ -33,7 +35,9 @@ pub fn refuse_before_base<'a>(
     repo: &Repo<Global>,
     base: usize,
     left: &str,
-) -> Result<u8, WordFault<'a>> {
+) -> Result<u8, WordFault<'a>>
+    ensures { IfOk result (λ status. status ≡ 1) }
+{
     let line = match output {
         Output::Json => own_line(rt.alloc(), repo, Answer::BeforeBase)?,
         _ => before_base_line(rt.alloc())?,

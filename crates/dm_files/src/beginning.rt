@@ -5,24 +5,25 @@ ghost use Rattle.dm_journal.specs.Device.{IsDurable, LeavesOnly};
 ghost use Rattle.dm_store.specs.Keeping.{IsOrKeeps, IsStored, kept_as, kept_in};
 ghost use Rattle.dm_store.specs.Kinds.{kinds_in};
 ghost use Rattle.dm_commands.specs.Mirrors.{IsInTheWay, IsMirrorOf};
-ghost use Rattle.dm_files.specs.Mirrors.{TellsOf};
+ghost use Rattle.dm_files.specs.Mirrors.{TellsOf, TellsUnkept};
 
 use crate::base_tag::say_begun;
-use crate::files::{BaseFile, base_of, read_base_in};
+use crate::files::{BaseFile, base_of, read_base};
 use crate::from_folder::read_beginning;
 use crate::mirror::{blame, find_file, of_kept, open_file, open_store};
 use crate::telling::{Manner, tell};
 use crate::word_fault::WordFault;
 use crate::words::new_kinds_of;
-use clap::ArgMatches;
 use dm_commands::{ToolFault, Unbegun, kept_or_new_mirror, new_mirror, repo_of, write_text};
 use dm_deliver::{Answer, DateRule, HashRule, date_fault_within, hash_fault_within};
 use dm_disk::{Access, DiskFile, Rehearsal};
+use dm_journal::OpenError;
 use dm_named::Kinds;
 use dm_remarks::{Colour, Reading, explain_base, explain_date, explain_hash_fault};
 use dm_repo::Repo;
-use dm_store::Store;
-use dm_told::begun_line;
+use dm_store::{Store, StoreError};
+use dm_told::{Said, begun_line};
+use dm_words::{Apply, BaseWords, Init};
 use std::alloc::Global;
 use std::io;
 use std::rt::Runtime;
@@ -38,11 +39,10 @@ struct Start {
 fn refuse_unfit_base<'a>(
     rt: &HostRuntime,
     colour: Colour,
-    words: &ArgMatches<'_>,
+    explains: bool,
     file: &BaseFile<'_>,
 ) -> Result<(), WordFault<'a>> {
     let base = file.base();
-    let explains = words.get_flag("explain");
     if let Some(fault) = hash_fault_within(
         rt.alloc(),
         base.text,
@@ -76,17 +76,18 @@ fn read_start<'a>(
     rt: &HostRuntime,
     colour: Colour,
     reading: Reading,
-    words: &ArgMatches<'a>,
+    base: BaseWords<'a>,
+    explains: bool,
 ) -> Result<Repo<Global>, WordFault<'a>> {
-    let file = read_base_in(rt, words, reading.kinds)?;
+    let file = read_base(rt, base, reading.kinds)?;
     if let Some(file) = &file {
-        refuse_unfit_base(rt, colour, words, file)?;
+        refuse_unfit_base(rt, colour, explains, file)?;
     }
     match (repo_of(rt.alloc(), base_of(&file)), &file) {
         (Ok(repo), _) => Ok(repo),
         (Err(fault), Some(file)) => {
             tell(rt, Manner::Full, WordFault::of_base(file.name, fault));
-            if let (true, ToolFault::BadBase(verdict)) = (words.get_flag("explain"), fault) {
+            if let (true, ToolFault::BadBase(verdict)) = (explains, fault) {
                 explain_base(rt, colour, reading, file.base(), verdict);
             }
             Err(WordFault::Said)
@@ -130,14 +131,14 @@ fn store_of<'a>(
 }
 
 /// Says that a base isn't used, where one is named, nor the kinds of a new mirror.
-fn say_unused(rt: &HostRuntime, words: &ArgMatches<'_>) {
-    if words.contains_id("base") {
+fn say_unused(rt: &HostRuntime, asked: &Apply<'_, '_>) {
+    if asked.base.base.is_some() {
         let _ = eprintln!(rt; "dm: the mirror is there already; --base isn't used");
     }
-    if words.contains_id("repository") {
+    if asked.base.repository.is_some() {
         let _ = eprintln!(rt; "dm: the mirror is there already; --repository isn't used");
     }
-    if words.get_flag("six-kinds") {
+    if asked.six_kinds {
         let _ = eprintln!(rt; "dm: the mirror is there already; --six-kinds isn't used");
     }
 }
@@ -147,24 +148,30 @@ fn say_unused(rt: &HostRuntime, words: &ArgMatches<'_>) {
 pub fn open_mirror<'a>(
     rt: &HostRuntime,
     colour: Colour,
-    words: &ArgMatches<'a>,
+    asked: &Apply<'_, 'a>,
     path: &'a str,
     is_terminal: bool,
 ) -> Result<Store<DiskFile>, WordFault<'a>>
     ensures { IfOk result (IsStored seen may_leave file_may_leave) }
 {
-    let found = match find_file(rt, words, path, Access::Write, is_terminal)? {
+    let found = match find_file(rt, path, asked.no_wait, Access::Write, is_terminal)? {
         Some(file) if !file.is_empty() => {
-            say_unused(rt, words);
+            say_unused(rt, asked);
             return open_store(rt, path, file);
         }
         found => found,
     };
-    let kinds = new_kinds_of(words);
-    let start = read_start(rt, colour, Reading::of_mirror(kinds), words)?;
+    let kinds = new_kinds_of(asked.six_kinds);
+    let start = read_start(
+        rt,
+        colour,
+        Reading::of_mirror(kinds),
+        asked.base,
+        asked.explain,
+    )?;
     let file = match found {
         Some(file) => file,
-        None => open_file(rt, words, path, Access::Create, is_terminal)?,
+        None => open_file(rt, path, asked.no_wait, Access::Create, is_terminal)?,
     };
     store_of(rt, path, file, start, kinds)
 }
@@ -188,26 +195,49 @@ pub fn rehearse_start<'a>(
     }
 }
 
+/// The mirror that a file keeps, of which nothing is written from here on.
+fn rehearse_kept<'a>(
+    rt: &HostRuntime,
+    path: &'a str,
+    file: DiskFile,
+) -> Result<Store<Rehearsal>, WordFault<'a>>
+    ensures stored { IfOk result (IsStored seen may_leave file_may_leave) }
+    ensures keeps { IfOk result (λ store. IsMirrorOf (kinds_in store) (seen file) (kept_in store)) }
+    ensures tells { IfErr result (TellsUnkept (seen file)) }
+{
+    match file.rehearse() {
+        Ok(rehearsal) => open_store(rt, path, rehearsal),
+        Err(error) => Err(WordFault::BadMirror(
+            path,
+            StoreError::Journal(OpenError::Device(error)),
+        )),
+    }
+}
+
 /// A mirror that is only tried: the one that a file keeps, or one that begins with what the words name. Nothing is written.
 pub fn rehearse_mirror<'a>(
     rt: &HostRuntime,
     colour: Colour,
-    words: &ArgMatches<'a>,
+    asked: &Apply<'_, 'a>,
     path: &'a str,
     is_terminal: bool,
 ) -> Result<Store<Rehearsal>, WordFault<'a>>
     ensures { IfOk result (IsStored seen may_leave file_may_leave) }
 {
-    if let Some(file) = find_file(rt, words, path, Access::Read, is_terminal)? {
+    if let Some(file) = find_file(rt, path, asked.no_wait, Access::Read, is_terminal)? {
         if !file.is_empty() {
-            say_unused(rt, words);
-            if let Some(rehearsal) = file.rehearse() {
-                return open_store(rt, path, rehearsal);
-            }
+            say_unused(rt, asked);
+            return rehearse_kept(rt, path, file);
         }
     }
-    let kinds = new_kinds_of(words);
-    let start = read_start(rt, colour, Reading::of_mirror(kinds), words)?;
+    let kinds = new_kinds_of(asked.six_kinds);
+    let start = read_start(
+        rt,
+        colour,
+        Reading::of_mirror(kinds),
+        asked.base,
+        asked.explain,
+    )?;
     rehearse_start(rt, start, kinds, path)
 }
 
@@ -248,39 +278,41 @@ fn read_first<'a>(
     rt: &HostRuntime,
     colour: Colour,
     reading: Reading,
-    words: &ArgMatches<'a>,
+    asked: &Init<'a>,
 ) -> Result<Start, WordFault<'a>> {
-    match words.get_str("names") {
+    match asked.names {
         Some(names) => {
-            let repo = read_beginning(rt, words, names)?;
+            let repo = read_beginning(rt, asked, names)?;
             let base = repo.len();
             Ok(Start { repo, base })
         }
         None => {
-            let repo = read_start(rt, colour, reading, words)?;
+            let repo = read_start(rt, colour, reading, asked.base, asked.explain)?;
             Ok(Start { repo, base: 0 })
         }
     }
 }
 
-/// A new mirror of `--mirror`, of what `--base` or `--repository` names, or of the names of `--names` and a folder. That is read
+/// A new mirror, of what `--base` or `--repository` names, or of the names of `--names` and a folder. That is read
 /// and taken before a file is made.
 fn make_mirror<'a>(
     rt: &HostRuntime,
     colour: Colour,
-    words: &ArgMatches<'a>,
-    path: &'a str,
+    asked: &Init<'a>,
     is_terminal: bool,
-) -> Result<Store<DiskFile>, WordFault<'a>> {
-    let found = match find_file(rt, words, path, Access::Write, is_terminal)? {
+) -> Result<Store<DiskFile>, WordFault<'a>>
+    ensures { IfOk result (IsStored seen may_leave file_may_leave) }
+{
+    let path = asked.mirror;
+    let found = match find_file(rt, path, asked.no_wait, Access::Write, is_terminal)? {
         Some(file) if !file.is_empty() => return Err(refuse_place(rt, path, file)),
         found => found,
     };
-    let reading = Reading::of_words(new_kinds_of(words));
-    let start = read_first(rt, colour, reading, words)?;
+    let reading = Reading::of_words(new_kinds_of(asked.six_kinds));
+    let start = read_first(rt, colour, reading, asked)?;
     let file = match found {
         Some(file) => file,
-        None => open_file(rt, words, path, Access::Create, is_terminal)?,
+        None => open_file(rt, path, asked.no_wait, Access::Create, is_terminal)?,
     };
     begin_store(rt, path, file, start, reading.kinds)
 }
@@ -288,32 +320,27 @@ fn make_mirror<'a>(
 /// The line that says with how many patches a mirror began.
 fn begun_text<'a>(
     rt: &HostRuntime,
-    words: &ArgMatches<'_>,
+    is_json: bool,
     path: &str,
     count: usize,
 ) -> Result<Vec<u8>, WordFault<'a>> {
-    let text = match count {
-        1 => format!(in rt.alloc(); "mirror {path}: 1 patch")?,
-        _ => format!(in rt.alloc(); "mirror {path}: {count} patches")?,
-    };
-    if words.get_flag("json") {
+    let said = Said::Began(path, count);
+    if is_json {
+        let text = format!(in rt.alloc(); "{said}")?;
         return Ok(begun_line(rt.alloc(), path, count, &text)?);
     }
-    let mut line = text.into_bytes();
-    line.push(b'\n')?;
-    Ok(line)
+    Ok(said.line(rt.alloc())?)
 }
 
 /// `dm init`.
 pub fn init<'a>(
     rt: &HostRuntime,
     colour: Colour,
-    words: &ArgMatches<'a>,
+    asked: &Init<'a>,
     is_terminal: bool,
 ) -> Result<u8, WordFault<'a>> {
-    let path = words.get_str("mirror").unwrap_or("");
-    let store = make_mirror(rt, colour, words, path, is_terminal)?;
-    let line = begun_text(rt, words, path, store.repo().len())?;
+    let store = make_mirror(rt, colour, asked, is_terminal)?;
+    let line = begun_text(rt, asked.json, asked.mirror, store.repo().len())?;
     write_text(&line, &mut io::writer(rt))?;
     say_begun(rt, store.repo(), store.base());
     Ok(0)

@@ -3,8 +3,8 @@ use crate::mirror::read_repo;
 use crate::progress::Meter;
 use crate::telling::NO_ANSWER;
 use crate::word_fault::WordFault;
-use clap::ArgMatches;
 use dm_checkout::{CheckoutFault, Names, SystemDisk, checkout};
+use dm_words::Checkout;
 use std::rt::Runtime;
 
 /// Says why a tree isn't written.
@@ -23,16 +23,16 @@ fn say_unwritten(rt: &HostRuntime, folder: &str, fault: &CheckoutFault) {
 /// `dm checkout`. Standard error may be a terminal. The mirror's file is let go before anything is written.
 pub fn check_out<'a>(
     rt: &HostRuntime,
-    words: &ArgMatches<'a>,
+    asked: &Checkout<'a>,
     is_terminal: bool,
 ) -> Result<u8, WordFault<'a>> {
-    let folder = words.get_str("folder").unwrap_or("");
-    let names = if words.get_flag("all-names") {
+    let folder = asked.folder;
+    let names = if asked.all_names {
         Names::All
     } else {
         Names::Safe
     };
-    let kept = read_repo(rt, words, is_terminal)?;
+    let kept = read_repo(rt, asked.mirror, asked.no_wait, is_terminal)?;
     let mut meter = Meter::new(*rt, is_terminal);
     let mut disk = SystemDisk::new(*rt);
     let written = checkout(

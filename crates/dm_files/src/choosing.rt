@@ -8,7 +8,6 @@ ghost use Rattle.dm_files.specs.declared.choosing.Unchosen.TheVariants.{NoMemory
 
 use crate::take_back_fault::TakeBackFault;
 use crate::word_fault::WordFault;
-use clap::ArgMatches;
 use dm_commands::ToolFault;
 use dm_info::Info;
 use dm_log::{Found, find_patch, hash_text};
@@ -106,14 +105,15 @@ fn refuse_choice<'a>(
     Ok(WordFault::Said)
 }
 
-/// The names of the patches that the words of a command choose.
+/// The names of the patches that these words choose.
 pub fn chosen_names<'a>(
     rt: &HostRuntime,
-    words: &ArgMatches<'a>,
+    words: &[&'a str],
     repo: &Repo<Global>,
-) -> Result<Vec<Info<Global>>, WordFault<'a>> {
-    let patches = words.get_strs("patches").unwrap_or(&[]);
-    match choose(rt.alloc(), repo, patches) {
+) -> Result<Vec<Info<Global>>, WordFault<'a>>
+    ensures { IfOk result (λ names. Chooses (infos_of repo.now.patches) (map (λ word. word.now) words.now) names.items) }
+{
+    match choose(rt.alloc(), repo, words) {
         Ok(names) => Ok(names),
         Err(fault) => Err(refuse_choice(rt, repo, fault)?),
     }

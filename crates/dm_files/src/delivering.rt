@@ -1,5 +1,5 @@
 //! Bundles that are taken one after the other, into a mirror or a repository in memory: `dm apply --mirror`.
-ghost use Rattle.std.specs.Prelude.{◌≡◌, ◌↔◌, [], All, List, ℕ, length, IfOk, IfErr, IsTrue, OnOk};
+ghost use Rattle.std.specs.Prelude.{◌≡◌, ◌↔◌, [], All, List, ℕ, length, Ok, IfOk, IfErr, IsTrue, OnOk};
 ghost use Rattle.dm_journal.specs.declared.fault.WriteError.{WriteError as WriteFault};
 ghost use Rattle.dm_journal.specs.Device.{LeavesOnly};
 ghost use Rattle.dm_disk.specs.States.{seen, may_leave, file_may_leave, left_since};
@@ -12,29 +12,29 @@ ghost use Rattle.dm_deliver.specs.Outputs.{output};
 ghost use Rattle.dm_told.specs.Forms.{says};
 ghost use Rattle.dm_files.specs.declared.delivering.Stop.TheVariants.{Mirror};
 ghost use Rattle.dm_files.specs.Bundles.{Reads, names_in};
-ghost use Rattle.dm_files.specs.Mirrors.{AnswersAll, AnswersSome, AnyTexts, DeliversBy, LeavesAnswered, MayGoOn};
-ghost use Rattle.dm_files.specs.Named.{CameAsNamed, CameAtMost};
+ghost use Rattle.dm_files.specs.Mirrors.{AnswersAll, AnswersSome, IsApplied, IsAppliedTo, AnyTexts, DeliversBy, LeavesAnswered, MayGoOn};
+ghost use Rattle.dm_files.specs.Named.{CameAsNamed, CameAtMost, form_for, rule_for};
 
 use crate::beginning::{open_mirror, rehearse_mirror, rehearse_start};
 use crate::bundles::Bundles;
-use crate::files::{Files, SystemFiles};
+use crate::files::Files;
 use crate::input::INPUT;
 use crate::listing::Listing;
 use crate::mirror::{blame, say_lost_rights};
 use crate::word_fault::WordFault;
 use crate::words::{kinds_of, policy_of, refuse_kinds};
-use clap::ArgMatches;
 use dm_commands::{ToolFault, push_repo, write_text};
 use dm_deliver::{
     AnswerError, BundleRule, DateRule, DeliverError, Framed, HashRule, Watched, deliver,
 };
 use dm_disk::DiskFile;
 use dm_journal::{Device, WriteError};
-use dm_named::Kinds;
+use dm_named::{Kinds, Limits};
 use dm_remarks::{Colour, Reading, Watcher};
 use dm_repo::{Policy, Repo};
 use dm_store::Store;
 use dm_told::AnswerForm;
+use dm_words::Apply;
 use std::alloc::Global;
 use std::io::{self, Write};
 use std::rt::Runtime;
@@ -72,9 +72,11 @@ const FIT_FOR_DARCS: BundleRule = BundleRule {
     date: DateRule::Readable,
 };
 
-/// What is asked of a bundle.
-fn rule_of(words: &ArgMatches<'_>, otherwise: BundleRule) -> BundleRule {
-    if words.get_flag("hash") {
+/// What is asked of a bundle: besides, that its hash is right, where that is wanted.
+fn rule_of(wants_hash: bool, otherwise: BundleRule) -> BundleRule
+    ensures { result ≡ rule_for wants_hash otherwise }
+{
+    if wants_hash {
         return BundleRule {
             hash: HashRule::Right,
             ..otherwise
@@ -165,19 +167,21 @@ fn take_stream<'a, D: Device, W: Write>(
     }
 }
 
-/// How what the words name is read into a store of these kinds.
-fn reading_of(words: &ArgMatches<'_>, kinds: Kinds) -> Reading {
-    if words.contains_id("mirror") {
+/// How bundles are read into a store of these kinds.
+fn reading_of(asked: &Apply<'_, '_>, kinds: Kinds) -> Reading {
+    if asked.mirror.is_some() {
         Reading::of_mirror(kinds)
     } else {
-        Reading::of_words(kinds_of(words))
+        Reading::of_words(kinds)
     }
 }
 
-/// How each answer is written.
-fn form_of(words: &ArgMatches<'_>, kinds: Kinds) -> AnswerForm {
-    if words.get_flag("json") {
-        AnswerForm::Json(reading_of(words, kinds).limits())
+/// How each answer is written, of texts that are read into a store of these kinds.
+fn form_of(is_json: bool, kinds: Kinds) -> AnswerForm
+    ensures { result ≡ form_for is_json kinds }
+{
+    if is_json {
+        AnswerForm::Json(Limits::STANDARD.with_kinds(kinds))
     } else {
         AnswerForm::Plain
     }
@@ -186,25 +190,25 @@ fn form_of(words: &ArgMatches<'_>, kinds: Kinds) -> AnswerForm {
 /// Prints what is shown of the repository.
 fn show<'a>(
     rt: &HostRuntime,
-    words: &ArgMatches<'a>,
+    asked: &Apply<'_, 'a>,
     repo: &Repo<Global>,
 ) -> Result<(), WordFault<'a>> {
-    if words.get_flag("quiet") || words.get_flag("json") {
+    if asked.quiet || asked.json {
         return Ok(());
     }
-    let as_bundle = words.get_flag("bundle");
+    let as_bundle = asked.bundle;
     let mut text = Vec::new(rt.alloc());
     push_repo(repo, as_bundle, &mut text)?;
     write_text(&text, &mut Listing::new(rt, as_bundle))?;
     Ok(())
 }
 
-/// Takes what the words name, and answers each.
-fn take_words<'a, D: Device, F: Files, W: Write>(
+/// Takes the bundles that are named, or that come as a stream, and answers each.
+fn take_words<'m, 'a, D: Device, F: Files, W: Write>(
     rt: &HostRuntime,
     files: &F,
     colour: Colour,
-    words: &ArgMatches<'a>,
+    asked: &Apply<'m, 'a>,
     store: &mut Store<D>,
     policy: Policy,
     rule: BundleRule,
@@ -212,24 +216,25 @@ fn take_words<'a, D: Device, F: Files, W: Write>(
     writer: &mut Watched<W>,
 ) -> Result<bool, Stop<'a>>
     requires { IsStored D.seen D.may_leave D.file_may_leave store.old }
-    // The texts came from the files that the words name, in their order; each was answered in turn, and a line written that says so.
-    ensures delivers { IfOk result (λ all. (d : Delivers D.moment D.left_since (says form) (CameAsNamed (F.had files.now) words.now) policy rule store.old store.new
+    // The texts came from the files that are named, in their order; each was answered in turn, and a line written that says so.
+    ensures delivers { IfOk result (λ all. (d : Delivers D.moment D.left_since (says form) (CameAsNamed (F.had files.now) asked.now) policy rule store.old store.new
         (output W.contents writer.old) (output W.contents writer.new)) × (IsTrue all ↔ All IsAcceptedAnswer d.answers)) }
-    ensures delivers_by { IfErr result (λ stop. DeliversBy D.seen D.moment D.left_since D.faults (says form) (CameAtMost (F.had files.now) words.now) policy rule stop store.old
+    ensures delivers_by { IfErr result (λ stop. DeliversBy D.seen D.moment D.left_since D.faults (says form) (CameAtMost (F.had files.now) asked.now) policy rule stop store.old
         store.new (output W.contents writer.old) (output W.contents writer.new)) }
     ensures kinds { kinds_in store.new ≡ kinds_in store.old }
     ensures stored { OnOk result (IsStored D.seen D.may_leave D.file_may_leave store.new) }
     ensures stored_err { IfErr result (λ e. MayGoOn e → IsStored D.seen D.may_leave D.file_may_leave store.new) }
     ensures any_moment { LeavesOnly D.moment D.left_since store.old.journal.device store.new.journal.device
-        (KeepsSome (CameAtMost (F.had files.now) words.now) (kinds_in store.old) (kept_in store.old) policy rule) }
+        (KeepsSome (CameAtMost (F.had files.now) asked.now) (kinds_in store.old) (kept_in store.old) policy rule) }
 {
-    let explains = words.get_flag("explain");
-    let reading = reading_of(words, store.kinds());
-    if words.get_flag("stream") {
-        let mut watcher = Watcher::new(*rt, colour, explains, reading, store.base(), &[]);
+    let explains = asked.explain;
+    let reading = reading_of(asked, store.kinds());
+    if asked.stream {
+        let none: &[&'a str] = &[];
+        let mut watcher = Watcher::new(*rt, colour, explains, reading, store.base(), none);
         return take_stream(rt, store, policy, rule, &mut watcher, form, writer);
     }
-    let names = words.get_strs("bundles").unwrap_or(&[INPUT]);
+    let names = asked.bundles.unwrap_or(&[INPUT]);
     let mut watcher = Watcher::new(*rt, colour, explains, reading, store.base(), names);
     match take_named(
         rt.alloc(),
@@ -247,32 +252,32 @@ fn take_words<'a, D: Device, F: Files, W: Write>(
     }
 }
 
-/// Takes what the words name, and prints what is shown of the repository then. Returns the exit status.
+/// Takes what is asked for, and prints what is shown of the repository then. Returns the exit status.
 fn take_and_show<'a, D: Device, F: Files>(
     rt: &HostRuntime,
     files: &F,
     colour: Colour,
-    words: &ArgMatches<'a>,
+    asked: &Apply<'_, 'a>,
     store: &mut Store<D>,
     policy: Policy,
     rule: BundleRule,
 ) -> Result<u8, Stop<'a>>
     requires { IsStored D.seen D.may_leave D.file_may_leave store.old }
-    ensures answers { IfOk result (AnswersAll (CameAsNamed (F.had files.now) words.now) (kinds_in store.old) policy rule (kept_in store.old) (kept_in store.new)) }
-    ensures answers_err { IfErr result (λ e. MayGoOn e → AnswersSome (CameAtMost (F.had files.now) words.now) (kinds_in store.old) policy rule (kept_in store.old) (kept_in store.new)) }
+    ensures answers { IfOk result (AnswersAll (CameAsNamed (F.had files.now) asked.now) (kinds_in store.old) policy rule (kept_in store.old) (kept_in store.new)) }
+    ensures answers_err { IfErr result (λ e. MayGoOn e → AnswersSome (CameAtMost (F.had files.now) asked.now) (kinds_in store.old) policy rule (kept_in store.old) (kept_in store.new)) }
     ensures kinds { kinds_in store.new ≡ kinds_in store.old }
     ensures stored { OnOk result (IsStored D.seen D.may_leave D.file_may_leave store.new) }
     ensures stored_err { IfErr result (λ e. MayGoOn e → IsStored D.seen D.may_leave D.file_may_leave store.new) }
     ensures any_moment { LeavesOnly D.moment D.left_since store.old.journal.device store.new.journal.device
-        (KeepsSome (CameAtMost (F.had files.now) words.now) (kinds_in store.old) (kept_in store.old) policy rule) }
+        (KeepsSome (CameAtMost (F.had files.now) asked.now) (kinds_in store.old) (kept_in store.old) policy rule) }
 {
     let mut writer = Watched::new(io::writer(rt));
-    let form = form_of(words, store.kinds());
+    let form = form_of(asked.json, store.kinds());
     let all_accepted = match take_words(
         rt,
         files,
         colour,
-        words,
+        asked,
         store,
         policy,
         rule,
@@ -282,7 +287,7 @@ fn take_and_show<'a, D: Device, F: Files>(
         Ok(all_accepted) => all_accepted,
         Err(stop) => return Err(stop),
     };
-    match show(rt, words, store.repo()) {
+    match show(rt, asked, store.repo()) {
         Ok(()) => Ok(if all_accepted { 0 } else { 1 }),
         Err(fault) => Err(Stop::Beside(fault)),
     }
@@ -318,7 +323,9 @@ fn say_unsettled(rt: &HostRuntime, path: &str, fault: WriteError, file: &DiskFil
 }
 
 /// The exit status of what was tried.
-fn status_of_trial<'a>(tried: Result<u8, Stop<'a>>, path: &'a str) -> Result<u8, WordFault<'a>> {
+fn status_of_trial<'a>(tried: Result<u8, Stop<'a>>, path: &'a str) -> Result<u8, WordFault<'a>>
+    ensures { IfOk result (λ status. tried.entry ≡ Ok status) }
+{
     match tried {
         Ok(status) => Ok(status),
         Err(Stop::Mirror(fault)) => Err(WordFault::Unwritten(path, fault)),
@@ -327,45 +334,48 @@ fn status_of_trial<'a>(tried: Result<u8, Stop<'a>>, path: &'a str) -> Result<u8,
 }
 
 /// `dm apply` without a mirror, of several bundles, or with what one alone isn't asked.
-pub fn apply_each<'a>(
+pub fn apply_each<'a, F: Files>(
     rt: &HostRuntime,
+    files: &F,
     colour: Colour,
-    words: &ArgMatches<'a>,
+    asked: &Apply<'_, 'a>,
     start: Repo<Global>,
-) -> Result<u8, WordFault<'a>> {
+) -> Result<u8, WordFault<'a>>
+    ensures { IfOk result (IsAppliedTo (F.had files.now) asked.now start.patches) }
+{
     let path = "the repository";
-    let mut store = rehearse_start(rt, start, kinds_of(words), path)?;
+    let mut store = rehearse_start(rt, start, kinds_of(asked.all_kinds), path)?;
     let tried = take_and_show(
         rt,
-        &SystemFiles::new(rt),
+        files,
         colour,
-        words,
+        asked,
         &mut store,
-        policy_of(words),
-        rule_of(words, ANY),
+        policy_of(asked.skip),
+        rule_of(asked.hash, ANY),
     );
     status_of_trial(tried, path)
 }
 
-/// Refuses words that ask for a bundle of the whole mirror, where it begins at a tag: a base isn't for others.
+/// Refuses a bundle of the whole mirror, where it begins at a tag: a base isn't for others.
 fn refuse_bundle_of_base<'a>(
-    words: &ArgMatches<'_>,
+    as_bundle: bool,
     path: &'a str,
     base: usize,
 ) -> Result<(), WordFault<'a>> {
-    if words.get_flag("bundle") && base > 0 {
+    if as_bundle && base > 0 {
         return Err(WordFault::BeginsAtTag(path));
     }
     Ok(())
 }
 
-/// Takes what the words name into a mirror, prints what is shown of it then, and makes a checkpoint where one is worth its while. Returns
+/// Takes what is asked for into a mirror, prints what is shown of it then, and makes a checkpoint where one is worth its while. Returns
 /// the exit status, and the mirror's file.
 fn take_into<'a, F: Files>(
     rt: &HostRuntime,
     files: &F,
     colour: Colour,
-    words: &ArgMatches<'a>,
+    asked: &Apply<'_, 'a>,
     path: &str,
     store: Store<DiskFile>,
     policy: Policy,
@@ -375,16 +385,16 @@ fn take_into<'a, F: Files>(
 
     // What was answered is kept, and nothing else is: all that came, or, where something else than the mirror failed, the first of it.
     ensures answers { IfOk result.0 (λ status. LeavesAnswered (kinds_in store) may_leave result.1
-        (λ new. AnswersAll (CameAsNamed (F.had files.now) words.now) (kinds_in store) policy rule (kept_in store) new status)) }
+        (λ new. AnswersAll (CameAsNamed (F.had files.now) asked.now) (kinds_in store) policy rule (kept_in store) new status)) }
     ensures answers_err { IfErr result.0 (λ stop. MayGoOn stop → LeavesAnswered (kinds_in store) may_leave result.1
-        (AnswersSome (CameAtMost (F.had files.now) words.now) (kinds_in store) policy rule (kept_in store))) }
+        (AnswersSome (CameAtMost (F.had files.now) asked.now) (kinds_in store) policy rule (kept_in store))) }
 
     // A crash at any moment of it leaves a file that keeps the repository after the first of the texts, some or all.
     ensures any_moment { LeavesOnly length left_since store.journal.device result.1
-        (KeepsSome (CameAtMost (F.had files.now) words.now) (kinds_in store) (kept_in store) policy rule) }
+        (KeepsSome (CameAtMost (F.had files.now) asked.now) (kinds_in store) (kept_in store) policy rule) }
 {
     let mut store = store;
-    match take_and_show(rt, files, colour, words, &mut store, policy, rule) {
+    match take_and_show(rt, files, colour, asked, &mut store, policy, rule) {
         Ok(status) => (Ok(status), settle(rt, path, store)),
         Err(Stop::Beside(fault)) => (Err(Stop::Beside(fault)), settle(rt, path, store)),
         Err(Stop::Mirror(fault)) => (Err(Stop::Mirror(fault)), store.into_device()),
@@ -392,26 +402,28 @@ fn take_into<'a, F: Files>(
 }
 
 /// `dm apply --mirror`.
-pub fn apply_to_mirror<'a>(
+pub fn apply_to_mirror<'a, F: Files>(
     rt: &HostRuntime,
+    files: &F,
     colour: Colour,
-    words: &ArgMatches<'a>,
+    asked: &Apply<'_, 'a>,
     path: &'a str,
     is_terminal: bool,
-) -> Result<u8, WordFault<'a>> {
-    refuse_kinds(words)?;
-    let files = SystemFiles::new(rt);
-    let policy = policy_of(words);
-    let rule = rule_of(words, FIT_FOR_DARCS);
-    if words.get_flag("dry-run") {
-        let mut store = rehearse_mirror(rt, colour, words, path, is_terminal)?;
-        refuse_bundle_of_base(words, path, store.base())?;
-        let tried = take_and_show(rt, &files, colour, words, &mut store, policy, rule);
+) -> Result<u8, WordFault<'a>>
+    ensures { IfOk result (IsApplied (F.had files.now) asked.now) }
+{
+    refuse_kinds(asked.all_kinds)?;
+    let policy = policy_of(asked.skip);
+    let rule = rule_of(asked.hash, FIT_FOR_DARCS);
+    if asked.dry_run {
+        let mut store = rehearse_mirror(rt, colour, asked, path, is_terminal)?;
+        refuse_bundle_of_base(asked.bundle, path, store.base())?;
+        let tried = take_and_show(rt, files, colour, asked, &mut store, policy, rule);
         return status_of_trial(tried, path);
     }
-    let store = open_mirror(rt, colour, words, path, is_terminal)?;
-    refuse_bundle_of_base(words, path, store.base())?;
-    let (taken, file) = take_into(rt, &files, colour, words, path, store, policy, rule);
+    let store = open_mirror(rt, colour, asked, path, is_terminal)?;
+    refuse_bundle_of_base(asked.bundle, path, store.base())?;
+    let (taken, file) = take_into(rt, files, colour, asked, path, store, policy, rule);
     match taken {
         Ok(status) => Ok(status),
         Err(Stop::Beside(fault)) => Err(fault),

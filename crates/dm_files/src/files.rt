@@ -3,10 +3,9 @@ ghost use Rattle.std.specs.Prelude.{ℕ, List, IfOk};
 
 use crate::input::{INPUT, Input, InputFault};
 use crate::word_fault::WordFault;
-use crate::words::kinds_of;
-use clap::ArgMatches;
 use dm_commands::{Base, ToolFault, read_within};
 use dm_named::{Kinds, Limits};
+use dm_words::BaseWords;
 
 /// Why there is no text of this name, where reading it gave a fault.
 pub fn blame_input<'a>(input: &Input, name: &'a str, fault: ToolFault) -> WordFault<'a> {
@@ -90,21 +89,13 @@ pub fn base_of<'f>(file: &'f Option<BaseFile<'_>>) -> Option<Base<'f>> {
     }
 }
 
-/// The file that `--base` or `--repository` names, if one of them is there, of the kinds that the words name.
+/// The file that a repository begins with, of these kinds, if one is named.
 pub fn read_base<'a>(
     rt: &HostRuntime,
-    words: &ArgMatches<'a>,
-) -> Result<Option<BaseFile<'a>>, WordFault<'a>> {
-    read_base_in(rt, words, kinds_of(words))
-}
-
-/// The same file, of these kinds.
-pub fn read_base_in<'a>(
-    rt: &HostRuntime,
-    words: &ArgMatches<'a>,
+    words: BaseWords<'a>,
     kinds: Kinds,
 ) -> Result<Option<BaseFile<'a>>, WordFault<'a>> {
-    let (name, limits) = match (words.get_str("base"), words.get_str("repository")) {
+    let (name, limits) = match (words.base, words.repository) {
         (Some(name), _) => (name, Limits::STANDARD),
         (None, Some(name)) => (name, Limits::OWN),
         (None, None) => return Ok(None),

@@ -2,7 +2,6 @@
 use crate::files::read_file;
 use crate::names_fault::NamesFault;
 use crate::word_fault::WordFault;
-use clap::ArgMatches;
 use dm_begin::BeginFault;
 use dm_bundle::read_bundle_within;
 use dm_commands::{StartFault, ToolFault, repo_at_tag};
@@ -12,6 +11,7 @@ use dm_named::{Kinds, Limits};
 use dm_repo::Repo;
 use dm_send::read_names;
 use dm_tree::Tree;
+use dm_words::Init;
 use std::alloc::Global;
 use std::rt::Runtime;
 
@@ -53,14 +53,12 @@ fn refuse_folder<'a>(rt: &HostRuntime, folder: &str, fault: &FolderFault) -> Wor
     WordFault::Said
 }
 
-/// The tree of the folder that the words name.
-fn read_tree<'a>(rt: &HostRuntime, words: &ArgMatches<'a>) -> Result<Tree<Global>, WordFault<'a>> {
-    let folder = words.get_str("folder").unwrap_or("");
-    let special = if words.get_flag("skip-special") {
-        Special::Skip
-    } else {
-        Special::Refuse
-    };
+/// The tree of a folder.
+fn read_tree<'a>(
+    rt: &HostRuntime,
+    folder: &str,
+    special: Special,
+) -> Result<Tree<Global>, WordFault<'a>> {
     let mut source = SystemFolder::new(*rt);
     match read_folder(rt.alloc(), &mut source, folder, special) {
         Ok(tree) => Ok(tree),
@@ -87,20 +85,23 @@ fn refuse_start<'a>(
     }
 }
 
-/// The repository that begins with the names of a file, and with the tree of the folder that the words name.
+/// The repository that begins with the names of a file, and with the tree of the folder that goes with them.
 pub fn read_beginning<'a>(
     rt: &HostRuntime,
-    words: &ArgMatches<'a>,
+    asked: &Init<'a>,
     name: &'a str,
 ) -> Result<Repo<Global>, WordFault<'a>> {
     let names = read_covered(rt, name)?;
     let count = names.len();
-    let tree = read_tree(rt, words)?;
+    let folder = asked.folder.unwrap_or("");
+    let special = if asked.skip_special {
+        Special::Skip
+    } else {
+        Special::Refuse
+    };
+    let tree = read_tree(rt, folder, special)?;
     match repo_at_tag(rt.alloc(), names, tree) {
         Ok(repo) => Ok(repo),
-        Err(fault) => {
-            let folder = words.get_str("folder").unwrap_or("");
-            Err(refuse_start(name, folder, count, fault))
-        }
+        Err(fault) => Err(refuse_start(name, folder, count, fault)),
     }
 }

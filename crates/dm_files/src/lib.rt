@@ -32,7 +32,7 @@ pub use beginning::init;
 pub use checking_out::check_out;
 pub use choosing::label_of;
 pub use delivering::{apply_each, apply_to_mirror};
-pub use files::{BaseFile, base_of, blame_input, read_base, read_file};
+pub use files::{BaseFile, Files, SystemFiles, base_of, blame_input, read_base, read_file};
 pub use input::{INPUT, Input};
 pub use listing::Listing;
 pub use mirror::{KeptRepo, read_repo};

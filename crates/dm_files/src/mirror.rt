@@ -10,7 +10,6 @@ ghost use Rattle.dm_commands.specs.Mirrors.{HasMirrorFault, IsMirrorOf};
 ghost use Rattle.dm_files.specs.Mirrors.{TellsOf, TellsUnkept};
 
 use crate::word_fault::WordFault;
-use clap::ArgMatches;
 use dm_commands::{MirrorFault, kept_mirror};
 use dm_disk::{Access, DiskFile, Lock, OpenFault};
 use dm_journal::{Device, Fault, Format, OpenError, unknown_field};
@@ -36,17 +35,17 @@ pub fn unopened<'a>(path: &'a str, fault: OpenFault) -> WordFault<'a> {
 /// The file of a mirror, locked. A wait for the lock is said on a terminal after a second.
 pub fn open_file<'a>(
     rt: &HostRuntime,
-    words: &ArgMatches<'a>,
     path: &'a str,
+    no_wait: bool,
     access: Access,
     is_terminal: bool,
 ) -> Result<DiskFile, WordFault<'a>>
     ensures { IfOk result (IsDurable seen may_leave file_may_leave) }
 {
-    if words.get_flag("no-wait") || is_terminal {
+    if no_wait || is_terminal {
         match DiskFile::open(rt, path, access, Lock::Try) {
             Ok(file) => return Ok(file),
-            Err(OpenFault::Busy) if !words.get_flag("no-wait") => {}
+            Err(OpenFault::Busy) if !no_wait => {}
             Err(fault) => return Err(unopened(path, fault)),
         }
         thread::sleep(rt, Duration::from_secs(1));
@@ -172,28 +171,29 @@ impl KeptRepo {
     }
 }
 
-/// The mirror of `--mirror`, to be read.
+/// The mirror of this file, to be read.
 fn read_mirror<'a>(
     rt: &HostRuntime,
-    words: &ArgMatches<'a>,
+    path: &'a str,
+    no_wait: bool,
     is_terminal: bool,
 ) -> Result<Store<DiskFile>, WordFault<'a>>
     ensures { IfOk result (IsStored seen may_leave file_may_leave) }
 {
-    let path = words.get_str("mirror").unwrap_or("");
-    let file = open_file(rt, words, path, Access::Read, is_terminal)?;
+    let file = open_file(rt, path, no_wait, Access::Read, is_terminal)?;
     open_store(rt, path, file)
 }
 
-/// What the mirror of `--mirror` keeps, whose file is let go.
+/// What the mirror of this file keeps; the file is let go.
 pub fn read_repo<'a>(
     rt: &HostRuntime,
-    words: &ArgMatches<'a>,
+    path: &'a str,
+    no_wait: bool,
     is_terminal: bool,
 ) -> Result<KeptRepo, WordFault<'a>>
     ensures { IfOk result (λ kept. MayHaveBase kept.repo.patches kept.base) }
 {
-    let store = read_mirror(rt, words, is_terminal)?;
+    let store = read_mirror(rt, path, no_wait, is_terminal)?;
     let kinds = store.kinds();
     let base = store.base();
     let format = store.format();
@@ -209,14 +209,14 @@ pub fn read_repo<'a>(
 /// The file of a mirror, if one stands at the path.
 pub fn find_file<'a>(
     rt: &HostRuntime,
-    words: &ArgMatches<'a>,
     path: &'a str,
+    no_wait: bool,
     access: Access,
     is_terminal: bool,
 ) -> Result<Option<DiskFile>, WordFault<'a>>
     ensures { IfOk result (λ found. IfSome found (IsDurable seen may_leave file_may_leave)) }
 {
-    match open_file(rt, words, path, access, is_terminal) {
+    match open_file(rt, path, no_wait, access, is_terminal) {
         Ok(file) => Ok(Some(file)),
         Err(WordFault::Unopened(_, OpenFault::Missing)) => Ok(None),
         Err(fault) => Err(fault),

@@ -1,14 +1,16 @@
 //! `dm obliterate`: patches are taken out of a mirror, and kept as a bundle.
-ghost use Rattle.std.specs.Prelude.{◌≡◌, ℕ, List, length, IfOk, IsTrue, OnOk};
+ghost use Rattle.std.specs.Prelude.{◌≡◌, ℕ, List, length, false, IfOk, IsTrue, OnOk};
 ghost use Rattle.dm_disk.specs.States.{seen, may_leave, file_may_leave, left_since};
 ghost use Rattle.dm_journal.specs.Device.{IsDurable, LeavesOnly};
 ghost use Rattle.dm_named.specs.Laws.{with_kinds};
 ghost use Rattle.dm_named.specs.Limits.{standard};
+ghost use Rattle.dm_named.specs.Patches.{Patch};
 ghost use Rattle.dm_scratch.specs.Taking.{ReadsWithin};
-ghost use Rattle.dm_store.specs.Keeping.{IsStored, KeepsEither, kept_as, kept_in};
+ghost use Rattle.dm_store.specs.Keeping.{CrashesKeep, IsStored, KeepsEither, kept_as, kept_in};
 ghost use Rattle.dm_store.specs.Kinds.{kinds_in};
 ghost use Rattle.dm_store.specs.LettingGo.{LosesNothing};
 ghost use Rattle.dm_commands.specs.Obliterating.{ObliteratesBehind, TakesOut};
+ghost use Rattle.dm_files.specs.Obliterating.{Goes, IsObliterated, MayGo};
 
 use crate::base_tag::refuse_before_base;
 use crate::choosing::{chosen_names, label_of};
@@ -16,7 +18,6 @@ use crate::mirror::{blame, open_file, open_store, say_lost_rights, unopened};
 use crate::take_back_fault::TakeBackFault;
 use crate::telling::{Output, write_refusal};
 use crate::word_fault::WordFault;
-use clap::ArgMatches;
 use dm_bundle::Bundle;
 use dm_commands::{
     ToolFault, Unkept, keep_and_let_go, obliterate_unless_base, refusal_line, text_of, write_text,
@@ -31,7 +32,8 @@ use dm_repo::{Refusal, Repo};
 use dm_scratch::Verdict;
 use dm_send::Obliterated;
 use dm_store::Store;
-use dm_told::{bound_line, made_line, own_line};
+use dm_told::{Said, bound_line, made_line, own_line};
+use dm_words::Obliterate;
 use std::alloc::Global;
 use std::io;
 use std::rt::Runtime;
@@ -82,9 +84,8 @@ fn print_gone<'a>(
         write_text(&line, &mut io::writer(rt))?;
         return Ok(());
     }
-    let count = kept.new_patches().len();
-    let line = format!(in rt.alloc(); "obliterated {count}\n")?;
-    write_text(line.as_bytes(), &mut io::writer(rt))?;
+    let line = Said::Obliterated(kept.new_patches().len()).line(rt.alloc())?;
+    write_text(&line, &mut io::writer(rt))?;
     Ok(())
 }
 
@@ -123,6 +124,7 @@ fn keep_in_file<'a>(
     requires durable { IsDurable seen may_leave file_may_leave file.old }
     requires takes_out { TakesOut (kinds_in store.old) store.old.repo.patches stays.patches text.now }
     ensures done { OnOk result (store.new.repo ≡ stays) }
+    ensures keeps { OnOk result (CrashesKeep (kinds_in store.old) may_leave store.new.journal.device (kept_as store.old.base stays.patches)) }
     // A crash at any moment of it loses no patch: the mirror's file keeps the repository, or what stays, and then the bundle's gives back
     // the rest.
     ensures any_moment { LeavesOnly length left_since store.old.journal.device store.new.journal.device
@@ -144,6 +146,7 @@ fn let_go<'a>(
 ) -> Result<(), WordFault<'a>>
     requires { IsStored seen may_leave file_may_leave store.old }
     ensures done { OnOk result (store.new.repo ≡ stays) }
+    ensures keeps { OnOk result (CrashesKeep (kinds_in store.old) may_leave store.new.journal.device (kept_as store.old.base stays.patches)) }
     // A crash at any moment of it leaves a file that keeps the repository, or what stays.
     ensures any_moment { LeavesOnly length left_since store.old.journal.device store.new.journal.device
         (KeepsEither (kinds_in store.old) (kept_in store.old) (kept_as store.old.base stays.patches)) }
@@ -164,6 +167,7 @@ fn print_and_let_go<'a>(
 ) -> Result<(), WordFault<'a>>
     requires { IsStored seen may_leave file_may_leave store.old }
     ensures done { OnOk result (store.new.repo ≡ stays) }
+    ensures keeps { OnOk result (CrashesKeep (kinds_in store.old) may_leave store.new.journal.device (kept_as store.old.base stays.patches)) }
     // A crash at any moment of it leaves a file that keeps the repository, or what stays.
     ensures any_moment { LeavesOnly length left_since store.old.journal.device store.new.journal.device
         (KeepsEither (kinds_in store.old) (kept_in store.old) (kept_as store.old.base stays.patches)) }
@@ -190,13 +194,12 @@ pub fn refuse_bound<'a>(
     rt: &HostRuntime,
     output: Output,
     bound: &[(Info<Global>, Info<Global>)],
-) -> Result<u8, WordFault<'a>> {
+) -> Result<u8, WordFault<'a>>
+    ensures { IfOk result (λ status. status ≡ 1) }
+{
     let line = match output {
         Output::Json => bound_line(rt.alloc(), bound)?,
-        _ => {
-            let count = bound.len();
-            format!(in rt.alloc(); "refused depends {count}\n")?.into_bytes()
-        }
+        _ => Said::Depends(bound.len()).line(rt.alloc())?,
     };
     write_refusal(rt, output, &line)?;
     say_bound(rt, bound)?;
@@ -209,7 +212,9 @@ pub fn refuse<'a>(
     output: Output,
     repo: &Repo<Global>,
     why: Refusal,
-) -> Result<u8, WordFault<'a>> {
+) -> Result<u8, WordFault<'a>>
+    ensures { IfOk result (λ status. status ≡ 1) }
+{
     let plain = refusal_line(rt.alloc(), why)?;
     let line = match output {
         Output::Json => own_line(rt.alloc(), repo, Answer::Verdict(Verdict::Refused(why)))?,
@@ -253,10 +258,10 @@ fn kept_text<'a>(
     }
 }
 
-/// Keeps the bundle where the words say, has the mirror let go of what it has, and says how many patches went.
+/// Keeps the bundle where that is asked for, has the mirror let go of what it has, and says how many patches went.
 fn keep_where_said<'a>(
     rt: &HostRuntime,
-    words: &ArgMatches<'a>,
+    asked: &Obliterate<'_, 'a>,
     path: &'a str,
     store: &mut Store<DiskFile>,
     kept: &Bundle<Global>,
@@ -265,9 +270,13 @@ fn keep_where_said<'a>(
 ) -> Result<u8, WordFault<'a>>
     requires stored { IsStored seen may_leave file_may_leave store.old }
     requires takes_out { TakesOut (kinds_in store.old) store.old.repo.patches stays.patches text.items }
+    ensures keeps { OnOk result (CrashesKeep (kinds_in store.old) may_leave store.new.journal.device (kept_as store.old.base stays.patches)) }
+    // A crash at any moment of it leaves a file that keeps the repository, or what stays.
+    ensures any_moment { LeavesOnly length left_since store.old.journal.device store.new.journal.device
+        (KeepsEither (kinds_in store.old) (kept_in store.old) (kept_as store.old.base stays.patches)) }
 {
-    let output = output_of(words);
-    match words.get_str("output") {
+    let output = output_of(asked);
+    match asked.output {
         Some(name) => {
             let mut file = open_kept(rt, name)?;
             keep_in_file(rt, path, store, name, &mut file, &text, stays)?;
@@ -282,10 +291,10 @@ fn keep_where_said<'a>(
     Ok(0)
 }
 
-/// The bundle of what goes is kept where the words say, and the mirror lets go of it; a trial prints it alone.
+/// The bundle of what goes is kept where that is asked for, and the mirror lets go of it; a trial prints it alone.
 fn keep_or_show<'a>(
     rt: &HostRuntime,
-    words: &ArgMatches<'a>,
+    asked: &Obliterate<'_, 'a>,
     path: &'a str,
     store: &mut Store<DiskFile>,
     kept: &Bundle<Global>,
@@ -294,20 +303,25 @@ fn keep_or_show<'a>(
     requires stored { IsStored seen may_leave file_may_leave store.old }
     requires takes_out { (text : List ℕ) → ReadsWithin (with_kinds standard (kinds_in store.old)) text kept.now
         → TakesOut (kinds_in store.old) store.old.repo.patches stays.patches text }
+    ensures keeps { OnOk result (asked.now.dry_run ≡ false
+        → CrashesKeep (kinds_in store.old) may_leave store.new.journal.device (kept_as store.old.base stays.patches)) }
+    // A crash at any moment of it leaves a file that keeps the repository, or what stays.
+    ensures any_moment { LeavesOnly length left_since store.old.journal.device store.new.journal.device
+        (KeepsEither (kinds_in store.old) (kept_in store.old) (kept_as store.old.base stays.patches)) }
 {
     let text = kept_text(rt, store.kinds(), kept)?;
-    if words.get_flag("dry-run") {
-        let shown = shown_of(rt, output_of(words), kept, text)?;
+    if asked.dry_run {
+        let shown = shown_of(rt, output_of(asked), kept, text)?;
         write_text(&shown, &mut io::writer(rt))?;
         return Ok(0);
     }
-    keep_where_said(rt, words, path, store, kept, text, stays)
+    keep_where_said(rt, asked, path, store, kept, text, stays)
 }
 
 /// Takes what goes out of a mirror.
 fn take_out<'a>(
     rt: &HostRuntime,
-    words: &ArgMatches<'a>,
+    asked: &Obliterate<'_, 'a>,
     path: &'a str,
     store: &mut Store<DiskFile>,
     chosen: &[Info<Global>],
@@ -315,37 +329,48 @@ fn take_out<'a>(
 ) -> Result<u8, WordFault<'a>>
     requires stored { IsStored seen may_leave file_may_leave store.old }
     requires obliterates { ObliteratesBehind store.old.repo.patches store.old.base chosen.now out.repo.patches out.bundle out.bound.items }
+    ensures keeps { OnOk result (asked.now.dry_run ≡ false
+        → CrashesKeep (kinds_in store.old) may_leave store.new.journal.device (kept_as store.old.base out.repo.patches)) }
+    // A crash at any moment of it leaves a file that keeps the repository, or what stays.
+    ensures any_moment { LeavesOnly length left_since store.old.journal.device store.new.journal.device
+        (KeepsEither (kinds_in store.old) (kept_in store.old) (kept_as store.old.base out.repo.patches)) }
 {
     let Obliterated { repo, bundle, .. } = out;
     if bundle.new_patches().is_empty() {
         return Err(WordFault::TakeBack(TakeBackFault::NothingToUndo));
     }
-    keep_or_show(rt, words, path, store, &bundle, repo)
+    keep_or_show(rt, asked, path, store, &bundle, repo)
 }
 
-/// What standard output is for, where the words may name a file for the bundle.
-fn output_of(words: &ArgMatches<'_>) -> Output {
-    if words.get_flag("json") {
+/// What standard output is for, where a file may get the bundle.
+fn output_of(asked: &Obliterate<'_, '_>) -> Output {
+    if asked.json {
         Output::Json
-    } else if words.contains_id("output") {
+    } else if asked.output.is_some() {
         Output::Lines
     } else {
         Output::Bundle
     }
 }
 
-/// Takes the patches that the words choose out of a mirror.
+/// Takes the patches that are chosen out of a mirror.
 fn take_chosen<'a>(
     rt: &HostRuntime,
     colour: Colour,
-    words: &ArgMatches<'a>,
+    asked: &Obliterate<'_, 'a>,
     path: &'a str,
     store: &mut Store<DiskFile>,
 ) -> Result<u8, WordFault<'a>>
     requires { IsStored seen may_leave file_may_leave store.old }
+    // Where patches went, the mirror keeps what stays once those that were chosen are out, with what is bound to them.
+    ensures goes { IfOk result (λ status. status ≡ 0 → asked.now.dry_run ≡ false → (stays : List Patch) × Goes asked.now (kept_in store.old) stays
+        × CrashesKeep (kinds_in store.old) may_leave store.new.journal.device (kept_as store.old.base stays)) }
+    // A crash at any moment of it leaves a file that keeps the repository, or that.
+    ensures any_moment { (stays : List Patch) × MayGo asked.now (kept_in store.old) stays × LeavesOnly length left_since store.old.journal.device store.new.journal.device
+        (KeepsEither (kinds_in store.old) (kept_in store.old) (kept_as store.old.base stays)) }
 {
-    let chosen = chosen_names(rt, words, store.repo())?;
-    let output = output_of(words);
+    let chosen = chosen_names(rt, asked.patches.unwrap_or(&[]), store.repo())?;
+    let output = output_of(asked);
     let out = match obliterate_unless_base(rt.alloc(), store.repo(), store.base(), &chosen) {
         Ok(Some(out)) => out,
         Ok(None) => return refuse_before_base(
@@ -357,36 +382,38 @@ fn take_chosen<'a>(
         ),
         Err(why) => return refuse(rt, output, store.repo(), why),
     };
-    if !out.bound.is_empty() && !words.get_flag("with-dependents") {
+    if !out.bound.is_empty() && !asked.with_dependents {
         let status = refuse_bound(rt, output, &out.bound)?;
         let _ = eprintln!(rt;
             "dm: nothing was taken out; --with-dependents takes these patches out too"
         );
         return Ok(status);
     }
-    if words.get_flag("explain") {
+    if asked.explain {
         say_bound(rt, &out.bound)?;
         explain_obliterated(rt, colour, &out)?;
     }
-    take_out(rt, words, path, store, &chosen, out)
+    take_out(rt, asked, path, store, &chosen, out)
 }
 
 /// `dm obliterate`.
 pub fn obliterate_chosen<'a>(
     rt: &HostRuntime,
     colour: Colour,
-    words: &ArgMatches<'a>,
+    asked: &Obliterate<'_, 'a>,
     is_terminal: bool,
-) -> Result<u8, WordFault<'a>> {
-    let path = words.get_str("mirror").unwrap_or("");
-    let access = if words.get_flag("dry-run") {
+) -> Result<u8, WordFault<'a>>
+    ensures { IfOk result (λ status. status ≡ 0 → asked.now.dry_run ≡ false → IsObliterated asked.now) }
+{
+    let path = asked.mirror;
+    let access = if asked.dry_run {
         Access::Read
     } else {
         Access::Write
     };
-    let file = open_file(rt, words, path, access, is_terminal)?;
+    let file = open_file(rt, path, asked.no_wait, access, is_terminal)?;
     let mut store = open_store(rt, path, file)?;
-    let taken = take_chosen(rt, colour, words, path, &mut store);
+    let taken = take_chosen(rt, colour, asked, path, &mut store);
     let file = store.into_device();
     say_lost_rights(rt, path, &file);
     match taken {

@@ -1,6 +1,5 @@
 //! What a command says on standard error besides an answer, and how it ends without one.
 use crate::word_fault::{Reason, Told, WordFault, has_reason};
-use clap::ArgMatches;
 use dm_commands::write_text;
 use std::io;
 use std::rt::Runtime;
@@ -20,8 +19,8 @@ pub enum Manner {
 }
 
 /// How `dm check`, `dm run` and `dm apply` without a mirror tell it: their lines are fixed, and `--explain` adds the reason.
-pub fn fixed_manner(words: &ArgMatches<'_>) -> Manner {
-    if words.get_flag("explain") {
+pub fn fixed_manner(explain: bool) -> Manner {
+    if explain {
         Manner::Explained
     } else {
         Manner::Short

@@ -6,13 +6,13 @@ use crate::obliterating::{refuse, refuse_bound};
 use crate::take_back_fault::TakeBackFault;
 use crate::telling::Output;
 use crate::word_fault::WordFault;
-use clap::ArgMatches;
 use dm_commands::{names_base, text_of, undo_chosen, write_text};
 use dm_date::is_readable;
 use dm_info::Info;
 use dm_repo::Repo;
 use dm_send::UndoFault;
 use dm_told::made_line;
+use dm_words::Rollback;
 use jiff_core::civil::DateTime;
 use jiff_core::{Offset, Timestamp};
 use std::alloc::Global;
@@ -40,9 +40,9 @@ fn read_clock(rt: &HostRuntime) -> Option<DateTime> {
     Some(Offset::UTC.to_datetime(stamp))
 }
 
-/// The date of a new patch: that of the words, or the system's.
-fn date_of<'a>(rt: &HostRuntime, words: &ArgMatches<'a>) -> Result<String, WordFault<'a>> {
-    if let Some(date) = words.get_str("date") {
+/// The date of a new patch: the one that is given, or the system's.
+fn date_of<'a>(rt: &HostRuntime, given: Option<&'a str>) -> Result<String, WordFault<'a>> {
+    if let Some(date) = given {
         let are_digits = date.len() == 14 && date.bytes().all(|byte| byte.is_ascii_digit());
         if !are_digits || !is_readable(date.as_bytes()) {
             return Err(WordFault::TakeBack(TakeBackFault::BadDate(date)));
@@ -58,14 +58,14 @@ fn date_of<'a>(rt: &HostRuntime, words: &ArgMatches<'a>) -> Result<String, WordF
     Ok(format!(in rt.alloc(); "{year:04}{month:02}{day:02}{hour:02}{minute:02}{second:02}")?)
 }
 
-/// The name of a new patch: that of the words, or one made of the first that is undone.
+/// The name of a new patch: the one that is given, or one made of the first that is undone.
 fn name_of<'a>(
     rt: &HostRuntime,
-    words: &ArgMatches<'a>,
+    given: Option<&str>,
     chosen: &[Info<Global>],
 ) -> Result<Vec<u8>, WordFault<'a>> {
     let mut name = Vec::new(rt.alloc());
-    if let Some(given) = words.get_str("name") {
+    if let Some(given) = given {
         name.extend_from_slice(given.as_bytes())?;
         return Ok(name);
     }
@@ -79,14 +79,13 @@ fn name_of<'a>(
 /// The patch info of a new patch.
 fn info_of<'a>(
     rt: &HostRuntime,
-    words: &ArgMatches<'a>,
+    asked: &Rollback<'_, 'a>,
     chosen: &[Info<Global>],
 ) -> Result<Info<Global>, WordFault<'a>> {
-    let name = name_of(rt, words, chosen)?;
-    let date = date_of(rt, words)?;
-    let author = words.get_str("author").unwrap_or("");
+    let name = name_of(rt, asked.name, chosen)?;
+    let date = date_of(rt, asked.date)?;
     let mut lines = Vec::new(rt.alloc());
-    if let Some(log) = words.get_str("log") {
+    if let Some(log) = asked.log {
         for line in log.as_bytes().split(|byte| *byte == b'\n') {
             lines.push(line)?;
         }
@@ -94,7 +93,7 @@ fn info_of<'a>(
     match Info::new(
         rt.alloc(),
         &name,
-        author.as_bytes(),
+        asked.author.as_bytes(),
         date.as_bytes(),
         &lines,
     ) {
@@ -127,7 +126,7 @@ fn refuse_undoing<'a>(
 /// `dm rollback`. The mirror's file is let go before anything is printed.
 pub fn roll_back_chosen<'a>(
     rt: &HostRuntime,
-    words: &ArgMatches<'a>,
+    asked: &Rollback<'_, 'a>,
     is_terminal: bool,
 ) -> Result<u8, WordFault<'a>> {
     let KeptRepo {
@@ -135,9 +134,9 @@ pub fn roll_back_chosen<'a>(
         base,
         kinds,
         ..
-    } = read_repo(rt, words, is_terminal)?;
-    let chosen = chosen_names(rt, words, &repo)?;
-    let output = if words.get_flag("json") {
+    } = read_repo(rt, asked.mirror, asked.no_wait, is_terminal)?;
+    let chosen = chosen_names(rt, asked.patches.unwrap_or(&[]), &repo)?;
+    let output = if asked.json {
         Output::Json
     } else {
         Output::Bundle
@@ -145,7 +144,7 @@ pub fn roll_back_chosen<'a>(
     if names_base(&repo, base, &chosen) {
         return refuse_before_base(rt, output, &repo, base, "no bundle was made");
     }
-    let info = info_of(rt, words, &chosen)?;
+    let info = info_of(rt, asked, &chosen)?;
     match undo_chosen(rt.alloc(), &repo, base, &chosen, info) {
         Ok(bundle) => {
             let text = text_of(rt.alloc(), kinds, &bundle)?;

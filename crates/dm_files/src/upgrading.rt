@@ -9,11 +9,12 @@ ghost use Rattle.dm_files.specs.Mirrors.{TellsOf};
 
 use crate::mirror::{blame, open_file, open_store, say_lost_rights};
 use crate::word_fault::WordFault;
-use clap::ArgMatches;
 use dm_commands::write_text;
 use dm_disk::{Access, DiskFile};
 use dm_journal::{ChecksumField, Format, KindsField};
 use dm_store::Store;
+use dm_told::Said;
+use dm_words::Upgrade;
 use std::io;
 use std::rt::Runtime;
 
@@ -46,11 +47,11 @@ fn is_current(store: &Store<DiskFile>) -> bool {
 /// `dm upgrade`.
 pub fn upgrade<'a>(
     rt: &HostRuntime,
-    words: &ArgMatches<'a>,
+    asked: &Upgrade<'a>,
     is_terminal: bool,
 ) -> Result<u8, WordFault<'a>> {
-    let path = words.get_str("mirror").unwrap_or("");
-    let file = open_file(rt, words, path, Access::Write, is_terminal)?;
+    let path = asked.mirror;
+    let file = open_file(rt, path, asked.no_wait, Access::Write, is_terminal)?;
     let store = open_store(rt, path, file)?;
     if is_current(&store) {
         let _ = eprintln!(rt; "dm: {path} reads all kinds already");
@@ -58,7 +59,7 @@ pub fn upgrade<'a>(
         let wider = widen_store(rt, path, store)?;
         say_lost_rights(rt, path, &wider.into_device());
     }
-    let line = format!(in rt.alloc(); "mirror {path}: all kinds\n")?;
-    write_text(line.as_bytes(), &mut io::writer(rt))?;
+    let line = Said::ReadsAllKinds(path).line(rt.alloc())?;
+    write_text(&line, &mut io::writer(rt))?;
     Ok(0)
 }

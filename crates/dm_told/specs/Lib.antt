@@ -1,2 +1,3 @@
 pub mod Told
 pub mod Forms
+pub mod Said

@@ -1,3 +1,4 @@
 pub mod WordLemmas
 pub mod GroupLemmas
 pub mod RunLemmas
+pub mod PlanLemmas

@@ -5,21 +5,18 @@
 //! `dm run` lets posters send bundles to mirrors, in threads, and prints what each mirror took, and its tree. `dm send` prints the
 //! bundle of what somebody lacks. `dm init` makes a mirror, which a file keeps, and `dm apply --mirror` takes bundles into it;
 //! `dm log` prints its patches, and `dm checkout` writes its tree. `dm obliterate` takes patches out of it, and `dm rollback` prints
-//! the bundle of a patch that undoes others.
+//! the bundle of a patch that undoes others. `dm upgrade` makes an old mirror read all kinds of primitives.
 //!
-//! What the commands answer is in `dm_commands`, what is done on files in `dm_files`, and what `--explain` adds in `dm_remarks`, each
-//! with its theorems. This crate asks them for what the words say.
+//! The words are read in `dm_words`. What the commands answer is in `dm_commands`, what is done on files in `dm_files`, and what
+//! `--explain` adds in `dm_remarks`, each with its theorems. This crate asks them for what was asked.
 #![tactic(auto)]
 
 mod commands;
-mod logging;
-mod plan_words;
-mod sending;
 
 use std::io::IsTerminal;
 use std::process::ExitCode;
 
 fn main(rt: HostRuntime) -> ExitCode {
     let is_terminal = rt.stderr().is_terminal();
-    ExitCode::from(commands::run(&rt, &rt, is_terminal))
+    ExitCode::from(commands::start(&rt, &rt, is_terminal))
 }

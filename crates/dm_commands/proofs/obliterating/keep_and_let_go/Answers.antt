@@ -16,6 +16,9 @@ returns-in-Err-clause-any_moment g c = inl refl
 pub returns-in-Ok-clause-any_moment : goal.returns-in-Ok-clause-any_moment
 returns-in-Ok-clause-any_moment g c = inr c.let_go.ensures.any_moment
 
+pub returns-in-Ok-clause-keeps : goal.returns-in-Ok-clause-keeps
+returns-in-Ok-clause-keeps g c = rw (c.let_go.ensures.kinds, c.let_go.ensures.base) at c.in-Ok.ensures.kept
+
 pub returns-in-Ok-clause-too_large : goal.returns-in-Ok-clause-too_large
 returns-in-Ok-clause-too_large g c = λ not may.
     let store = c.args.store.now in

@@ -7,7 +7,7 @@ use Rattle.dm_files.proofs.delivering.take_and_show.Goals.{then-all_accepted, el
 
 pub returns-in-Err-clause-answers_err : goal.returns-in-Err-clause-answers_err
 returns-in-Err-clause-answers_err g c =
-    some_answered (CameAtMost (g.F.Files.had c.args.files.now) c.args.words.now) c.args.store.now c.take_words.new.store (fewer (g.F.Files.had c.args.files.now) c.args.words.now) c.in-Err.ensures.delivers_by
+    some_answered (CameAtMost (g.F.Files.had c.args.files.now) c.args.asked.now) c.args.store.now c.take_words.new.store (fewer (g.F.Files.had c.args.files.now) c.args.asked.now) c.in-Err.ensures.delivers_by
 
 pub returns-after-all_accepted-clause-answers : goal.returns-after-all_accepted-clause-answers
 returns-after-all_accepted-clause-answers g c =
@@ -26,4 +26,4 @@ returns-after-all_accepted-clause-answers g c =
 pub returns-in-Err-show-clause-answers_err : goal.returns-in-Err-show-clause-answers_err
 returns-in-Err-show-clause-answers_err g c =
     let told = c.in-Ok.ensures.delivers.0 in
-    λ goes. record { texts = told.texts; answers = told.answers; came = at_most (g.F.Files.had c.args.files.now) c.args.words.now told.texts told.came; takes = told.takes }
+    λ goes. record { texts = told.texts; answers = told.answers; came = at_most (g.F.Files.had c.args.files.now) c.args.asked.now told.texts told.came; takes = told.takes }

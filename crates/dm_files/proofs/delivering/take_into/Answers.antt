@@ -22,8 +22,8 @@ returns-in-Ok-clause-any_moment g c =
     let old = c.args.store in
     let new = c.take_and_show.new.store in
     let all = c.in-Ok.ensures.answers in
-    then_kept length left_since (CameAtMost (g.F.Files.had c.args.files.now) c.args.words.now) (kinds_in old) c.args.policy c.args.rule (kept_in old) (kept_in new) old.journal.device new.journal.device c.settle.result
-    all.texts all.answers (at_most (g.F.Files.had c.args.files.now) c.args.words.now all.texts all.came) all.takes c.take_and_show.ensures.any_moment
+    then_kept length left_since (CameAtMost (g.F.Files.had c.args.files.now) c.args.asked.now) (kinds_in old) c.args.policy c.args.rule (kept_in old) (kept_in new) old.journal.device new.journal.device c.settle.result
+    all.texts all.answers (at_most (g.F.Files.had c.args.files.now) c.args.asked.now all.texts all.came) all.takes c.take_and_show.ensures.any_moment
     (subst (λ (k : Kinds). LeavesOnly length left_since new.journal.device c.settle.result (λ file. KeepsRepo k file (kept_in new))) c.take_and_show.ensures.kinds c.settle.ensures.any_moment)
 
 pub returns-in-Err-Beside-clause-answers_err : goal.returns-in-Err-Beside-clause-answers_err
@@ -40,6 +40,6 @@ returns-in-Err-Beside-clause-any_moment g c =
     let old = c.args.store in
     let new = c.take_and_show.new.store in
     let some = (rw c.in-Err-Beside.field-0-is at c.in-Err-Beside.ensures.answers_err) tt in
-    then_kept length left_since (CameAtMost (g.F.Files.had c.args.files.now) c.args.words.now) (kinds_in old) c.args.policy c.args.rule (kept_in old) (kept_in new) old.journal.device new.journal.device c.settle-in-Err-Beside.result
+    then_kept length left_since (CameAtMost (g.F.Files.had c.args.files.now) c.args.asked.now) (kinds_in old) c.args.policy c.args.rule (kept_in old) (kept_in new) old.journal.device new.journal.device c.settle-in-Err-Beside.result
     some.texts some.answers some.came some.takes c.take_and_show.ensures.any_moment
     (subst (λ (k : Kinds). LeavesOnly length left_since new.journal.device c.settle-in-Err-Beside.result (λ file. KeepsRepo k file (kept_in new))) c.take_and_show.ensures.kinds c.settle-in-Err-Beside.ensures.any_moment)

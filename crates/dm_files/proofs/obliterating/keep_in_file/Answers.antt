@@ -1,3 +1,4 @@
+use Rattle.dm_files.proofs.MirrorLemmas.{if_ok}
 use Rattle.dm_files.proofs.LettingGoLemmas.{loses_nothing}
 use Rattle.dm_files.proofs.obliterating.keep_in_file.Goals as goal
 
@@ -12,3 +13,6 @@ returns-in-Err-Bundle-clause-any_moment c =
 pub returns-in-Err-Mirror-clause-any_moment : goal.returns-in-Err-Mirror-clause-any_moment
 returns-in-Err-Mirror-clause-any_moment c =
     loses_nothing c.args.store.now c.keep_and_let_go.new.store c.args.stays.patches _ c.requires.stored c.keep_and_let_go.ensures.any_moment
+
+pub returns-in-Ok-clause-keeps : goal.returns-in-Ok-clause-keeps
+returns-in-Ok-clause-keeps c = if_ok c.finish.result (λ u done. rw (c.in-Ok.ensures.done done) at c.in-Ok.ensures.keeps) c.finish.ensures

@@ -1,8 +1,9 @@
 use Rattle.std.proofs.Common.{◌∙◌, sym, refl}
 use Rattle.dm_store.proofs.KeptBase.{fold_base}
-use Rattle.dm_store.specs.Keeping.{kept_in}
+use Rattle.dm_store.specs.Keeping.{kept_as, kept_in}
 use Rattle.dm_store.specs.Kinds.{kinds_in}
 use Rattle.dm_commands.proofs.TakenOut.{some_new, takes_gone}
+use Rattle.dm_files.proofs.LettingGoLemmas.{stays_either}
 use Rattle.dm_files.proofs.obliterating.take_out.Goals as goal
 
 pub keep_or_show-requires-clause-takes_out : goal.keep_or_show-requires-clause-takes_out
@@ -24,3 +25,8 @@ keep_or_show-requires-clause-takes_out c =
       is_taken = takes_gone store.repo.patches store.base c.args.chosen.now out.repo.patches out.bundle out.bound.items may o some;
       reads = reads;
     }
+
+pub returns-then-is_empty-clause-any_moment : goal.returns-then-is_empty-clause-any_moment
+returns-then-is_empty-clause-any_moment c =
+    let store = c.args.store.now in
+    stays_either store (kept_as store.base c.args.out.repo.patches) c.requires.stored
