@@ -1,7 +1,5 @@
 """Tests of dm.py: `python3 -m unittest` in this folder."""
-import contextlib
 import copy
-import io
 import mmap
 import os
 import pathlib
@@ -197,7 +195,11 @@ class Repositories(unittest.TestCase):
         self.assertEqual((verdicts.count(dm.Kind.TAKEN), verdicts.count(dm.Kind.NOTHING_NEW)), (1, 159))
 
 
-@unittest.skipUnless(os.environ.get("DM"), "DM=PROGRAM names the program that reads the mirror")
+# The hash of another bundle.
+HASHED = b"\nPatch bundle hash:\n%s\n" % (40 * b"0")
+
+
+@unittest.skipUnless(os.environ.get("DM"), "DM=PROGRAM names the program that the hook calls")
 class Hooks(unittest.TestCase):
     def test_a_mirror(self):
         with tempfile.TemporaryDirectory() as folder:
@@ -206,25 +208,29 @@ class Hooks(unittest.TestCase):
             words = "init", "--mirror", mirror, "--six-kinds", "--base", base
             subprocess.run([os.environ["DM"], *words], check=True, stdout=subprocess.PIPE)
             before = pathlib.Path(mirror).read_bytes()
+            wrong = os.path.join(folder, "wrong.bundle")
+            pathlib.Path(wrong).write_bytes(FIRST + HASHED)
             for bundle, line, status, said in (
-                (first, "taken 1\n", 0, "Taken:"),
-                (base, "nothing new\n", 0, ""),
-                (str(EXAMPLES / "walk-through" / "conflicts.bundle"), "refused conflicts 1 1\n", 1, "conflicts with"),
-                (str(EXAMPLES / "all-kinds.dpatch"), f"malformed unsupported {WIDER}\n", 1, "--all-kinds"),
+                (first, b"taken 1\n", 0, b"Taken:"),
+                (base, b"nothing new\n", 0, b""),
+                (str(EXAMPLES / "walk-through" / "conflicts.bundle"), b"refused conflicts 1 1\n", 1, b"conflicts with"),
+                (str(EXAMPLES / "all-kinds.dpatch"), b"malformed unsupported %d\n" % WIDER, 1, b"dm upgrade"),
+                (wrong, b"malformed wrong-hash", 1, b"hash"),
             ):
-                out, errors = io.StringIO(), io.StringIO()
-                with contextlib.redirect_stdout(out), contextlib.redirect_stderr(errors):
-                    found = hook.main(mirror, bundle)
-                self.assertEqual((found, out.getvalue()), (status, line))
-                self.assertIn(said, errors.getvalue())
+                ran = subprocess.run([sys.executable, hook.__file__, mirror, bundle], capture_output=True, check=False)
+                self.assertEqual((ran.returncode, ran.stdout[: len(line)]), (status, line), ran.stderr)
+                self.assertIn(said, ran.stderr)
+                asked = [os.environ["DM"], "apply", "--mirror", mirror, "--dry-run", "--quiet", bundle]
+                self.assertEqual(ran.stdout, subprocess.run(asked, capture_output=True, check=False).stdout)
             self.assertEqual(pathlib.Path(mirror).read_bytes(), before)
             subprocess.run([os.environ["DM"], "init", "--mirror", mirror + "2"], check=True, stdout=subprocess.PIPE)
             ran = subprocess.run([sys.executable, hook.__file__, mirror + "2"], input=ALL_KINDS, capture_output=True, check=False)
             self.assertEqual((ran.returncode, ran.stdout), (1, b"refused missing-context 0\n"), ran.stderr)
 
     def test_no_answer(self):
-        ran = subprocess.run([sys.executable, hook.__file__, "none"], stdin=subprocess.DEVNULL, capture_output=True, check=False)
-        self.assertEqual((ran.returncode, ran.stdout), (2, b""))
+        for mirror in "none", os.devnull:
+            ran = subprocess.run([sys.executable, hook.__file__, mirror], stdin=subprocess.DEVNULL, capture_output=True, check=False)
+            self.assertEqual((ran.returncode, ran.stdout), (2, b""))
 
 
 class Finding(unittest.TestCase):
