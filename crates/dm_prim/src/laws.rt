@@ -118,7 +118,7 @@ pub fn a_part_is_as_deep()
     ensures { PartIsAsDeep }
 {}
 
-/// A replace's file is as large in a part.
+/// A replace goes past the bound on its file in a part exactly where it does in the whole.
 pub fn a_part_is_as_large()
     ensures { PartIsAsLarge }
 {}

@@ -33,7 +33,7 @@ pub use glance::Glance;
 pub use hunk::{Hunk, HunkFault};
 pub use inverse::{invert, invert_all};
 pub use list::{commute_lists, commute_lists_owned};
-pub use pair::commute;
+pub use pair::{commute, commute_owned};
 pub use passing::MOST_PASSED;
 pub use preference::{BadPreference, Preference};
 pub use primitive::Primitive as Prim;

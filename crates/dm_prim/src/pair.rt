@@ -32,9 +32,9 @@ pub fn commute<A: Allocator, B: Allocator, C: Allocator + Copy>(
     commute_owned(alloc, first, second)
 }
 
-/// As `commute`, of primitives that are given up. What does not change is moved: only a path that a
-/// move changes, and lines that a replace changes, take memory.
-pub(crate) fn commute_owned<A: Allocator + Copy>(
+/// As [`commute`], of primitives that are given up. What does not change is moved: only a path that a
+/// move changes, and lines that a replace changes, take memory. At an error both are lost.
+pub fn commute_owned<A: Allocator + Copy>(
     alloc: A,
     p: Primitive<A>,
     q: Primitive<A>,

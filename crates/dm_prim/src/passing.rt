@@ -11,8 +11,8 @@ use dm_tokens::{TokenSet, Tokens, Turned, room_after, turn_into, turns};
 use dm_tree::Lines;
 use std::alloc::{AllocError, Allocator};
 
-/// The old lines of a hunk that passes a replace, and its new ones, have at most so many bytes, before and after, each with a newline. So
-/// no short text makes long hunks: a new token may be made of old ones of the next replace.
+/// The old lines of a hunk that passes a replace, and its new ones, have at most so many bytes, before and after, each with a newline: a new
+/// token may be made of old ones of the next replace. It bounds one hunk, and not what all hunks of a bundle take.
 pub const MOST_PASSED: usize = 65_536;
 
 /// What the old or the new lines of a hunk turn to; none where one of them doesn't turn, or they are too large. Where each stays as it is
