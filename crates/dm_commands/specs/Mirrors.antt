@@ -1,6 +1,6 @@
 -- What a device has before a mirror is opened or begun there, and what is left of it.
 use Rattle.std.specs.Prelude.{◌≡◌, ◌≢◌, ◌<◌, ℕ, List, []}
-use Rattle.dm_journal.specs.Device.{LeavesOnly}
+use Rattle.dm_journal.specs.Device.{LeavesOnly, Moment}
 use Rattle.dm_journal.specs.Faults.{HasFault}
 use Rattle.dm_journal.specs.Hidden.{Hides}
 use Rattle.dm_journal.specs.Ready.{IsFailure}
@@ -44,7 +44,7 @@ IsUnwritten (AlreadyKept fault) = ⊥
 IsUnwritten (Unwritten error) = Unit {0}
 
 -- the new mirror can't be written for this reason: the disk has failed since, the repository is past the limits or of other kinds, or memory is short. A crash at any moment since leaves no byte, or the mirror
-pub record FailsToBegin {D : Type 0} (moment : D → ℕ) (left_since : D → ℕ → List ℕ → Type 0) (faults : D → ℕ) (kinds : Kinds) (start : Kept) (old new : D) (error : WriteError) : Type 0 where
+pub record FailsToBegin {D : Type 0} (moment : D → Moment) (left_since : D → ℕ → List ℕ → Type 0) (faults : D → ℕ) (kinds : Kinds) (start : Kept) (old new : D) (error : WriteError) : Type 0 where
   pub failed : IsFailure error → faults old < faults new
   pub too_long : error ≡ TooLong → AreAllOf kinds start.patches → MayHaveBase start.patches start.base → (start.patches ≢ []) × (FitsOneEntry start.patches → ⊥)
   pub not_full : error ≢ Full

@@ -132,6 +132,7 @@ pub fn kept_or_new_mirror<D: Device>(
     ensures untouched { IfOk result (λ store. IsTrue is_empty
         ⊎ IsUntouched D.seen D.may_leave D.file_may_leave D.moment D.left_since device store.journal.device) }
     ensures any_moment { IfOk result (λ store. LeavesOnly D.moment D.left_since device store.journal.device (IsOrKeeps kinds (D.seen device) (kept_as base start.patches))) }
+    ensures opened { IfOk result (λ store. LeavesOnly D.moment D.left_since device store.journal.device (IsOrKeeps (kinds_in store) (D.seen device) (kept_in store))) }
     ensures no_other { IfErr result (λ e. e.0 ≢ IsThere) }
     ensures in_the_way { IfErr result (λ e. IsInTheWay (D.seen device) e.0) }
     ensures only_unwritten { IfErr result (λ e. IsTrue is_empty ↔ IsUnwritten e.0) }

@@ -9,7 +9,7 @@ use Rattle.dm_scratch.specs.declared.verdict.Verdict.{Verdict}
 use Rattle.dm_scratch.specs.declared.verdict.Verdict.TheVariants.{Taken, TakenSome, NothingNew, Malformed, Refused}
 use Rattle.dm_scratch.specs.Taking.{TakesIn}
 use Rattle.dm_scratch.proofs.OneOutcome.{taking_one}
-use Rattle.dm_journal.specs.Device.{LeavesOnly}
+use Rattle.dm_journal.specs.Device.{LeavesOnly, Moment}
 use Rattle.dm_journal.specs.declared.journal.Journal.{Journal}
 use Rattle.dm_store.proofs.StoredLemmas.{at_rest, weakened}
 use Rattle.dm_store.specs.Entries.{entry_of}
@@ -45,8 +45,8 @@ either_of : (kinds : Kinds) (kept : Kept) (text : List ℕ) (policy : Policy) (v
 either_of kinds kept text policy v after taken takes same c (inl k) = inl k
 either_of kinds kept text policy v after taken takes same c (inr k) = inr (subst (λ (r : Kept). KeepsRepo kinds c r) (one_after kinds kept text policy v after k.0 taken takes same k.1) k.2)
 
-module _ {D : Type 0} (moment : D → ℕ) (left_since : D → ℕ → List ℕ → Type 0) (may_leave : D → List ℕ → Type 0)
-    (only_now : (device : D) (c : List ℕ) → left_since device (moment device) c → may_leave device c) where
+module _ {D : Type 0} (moment : D → Moment) (left_since : D → ℕ → List ℕ → Type 0) (may_leave : D → List ℕ → Type 0)
+    (only_now : (device : D) (c : List ℕ) → left_since device (moment device).time c → may_leave device c) where
   -- nothing was done
   pub untaken : (kinds : Kinds) (journal : Journal D) (kept after : Kept) → CrashesKeep kinds may_leave journal.device kept → LeavesOnly moment left_since journal.device journal.device (KeepsEither kinds kept after)
   untaken kinds journal kept after keeps = at_rest moment left_since journal.device (KeepsEither kinds kept after) (λ c left. inl (keeps c (only_now journal.device c left)))

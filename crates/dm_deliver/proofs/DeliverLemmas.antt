@@ -14,7 +14,7 @@ use Rattle.dm_journal.specs.declared.device.DeviceError.TheVariants.{Failed}
 use Rattle.dm_journal.specs.declared.fault.WriteError.{WriteError}
 use Rattle.dm_journal.specs.declared.fault.WriteError.TheVariants.{Device as WritingDevice, TooLong, Full}
 use Rattle.dm_journal.specs.Ready.{IsFailure}
-use Rattle.dm_journal.specs.Device.{LeavesOnly}
+use Rattle.dm_journal.specs.Device.{LeavesOnly, Moment}
 use Rattle.dm_deliver.proofs.Runs.{followed}
 use Rattle.dm_store.specs.Kinds.{kinds_in}
 use Rattle.dm_store.specs.Keeping.{KeepsRepo, Kept, CrashesKeep, kept_as, kept_in}
@@ -149,12 +149,12 @@ all_more P all more vs v so_far (inr x) = (
 )
 
 -- texts were delivered, and this says whether all were accepted
-abbrev pub Accepts : {D : Type 0} → (D → ℕ) → (D → ℕ → List ℕ → Type 0) → Saying → (List (List ℕ) → Type 0) → Policy → BundleRule → Store D → Store D → Output → Output → Bool → Type 0
+abbrev pub Accepts : {D : Type 0} → (D → Moment) → (D → ℕ → List ℕ → Type 0) → Saying → (List (List ℕ) → Type 0) → Policy → BundleRule → Store D → Store D → Output → Output → Bool → Type 0
 Accepts moment left_since Says Gave policy rule old new before now all = (d : Delivers moment left_since Says Gave policy rule old new before now) × (IsTrue all ↔ All IsAcceptedAnswer d.answers)
 
-module _ {D : Type 0} (moment : D → ℕ) (left_since : D → ℕ → List ℕ → Type 0) (policy : Policy) (rule : BundleRule) (old : Store D) (before : Output) where
+module _ {D : Type 0} (moment : D → Moment) (left_since : D → ℕ → List ℕ → Type 0) (policy : Policy) (rule : BundleRule) (old : Store D) (before : Output) where
   -- behind the last line
-  behind_all : (may_leave : D → List ℕ → Type 0) (only_now : (device : D) (c : List ℕ) → left_since device (moment device) c → may_leave device c) (new : Store D) (now : Output)
+  behind_all : (may_leave : D → List ℕ → Type 0) (only_now : (device : D) (c : List ℕ) → left_since device (moment device).time c → may_leave device c) (new : Store D) (now : Output)
       (texts : List (List ℕ)) (answers : List Answer) (lines : List (List ℕ)) (count : ℕ) → length lines ≡ length texts → length texts ≤ count → kinds_in new ≡ kinds_in old →
       AnswersEach (kinds_in old) (kept_in old) texts policy rule answers (kept_in new) → PutsEach before lines now →
       CrashesKeep (kinds_in new) may_leave new.journal.device (kept_in new) → KeepsBehind moment left_since policy rule old new before now texts answers lines count
@@ -227,9 +227,9 @@ module _ {D : Type 0} (moment : D → ℕ) (left_since : D → ℕ → List ℕ 
         (λ c keeps. all_are_first (kinds_in old) (kept_in b.mid) (drop count texts) policy rule (drop count answers) (kept_in mid) c b.rest keeps) run);
   }
 
-module _ {D : Type 0} (moment : D → ℕ) (left_since : D → ℕ → List ℕ → Type 0) (Says : Saying) where
+module _ {D : Type 0} (moment : D → Moment) (left_since : D → ℕ → List ℕ → Type 0) (Says : Saying) where
   -- nothing came yet
-  pub begun : (may_leave : D → List ℕ → Type 0) (only_now : (device : D) (c : List ℕ) → left_since device (moment device) c → may_leave device c)
+  pub begun : (may_leave : D → List ℕ → Type 0) (only_now : (device : D) (c : List ℕ) → left_since device (moment device).time c → may_leave device c)
       (Gave : List (List ℕ) → Type 0) (policy : Policy) (rule : BundleRule) (store : Store D) (out : Output) → Gave [] → CrashesKeep (kinds_in store) may_leave store.journal.device (kept_in store) →
       Accepts moment left_since Says Gave policy rule store store out out true
   begun may_leave only_now Gave policy rule store out none keeps = (
@@ -251,7 +251,7 @@ module _ {D : Type 0} (moment : D → ℕ) (left_since : D → ℕ → List ℕ 
   )
 
   -- one text more was answered, and its line written
-  pub one_more : (may_leave : D → List ℕ → Type 0) (only_now : (device : D) (c : List ℕ) → left_since device (moment device) c → may_leave device c)
+  pub one_more : (may_leave : D → List ℕ → Type 0) (only_now : (device : D) (c : List ℕ) → left_since device (moment device).time c → may_leave device c)
       (Gave Gives : List (List ℕ) → Type 0) (policy : Policy) (rule : BundleRule) (old mid new : Store D) (before out now : Output) (all more : Bool)
       (s : Accepts moment left_since Says Gave policy rule old mid before out all) (text : List ℕ) (v : Answer) → Gives (s.0.texts ++ text ∷ []) →
       CrashesKeep (kinds_in new) may_leave new.journal.device (kept_in new) →

@@ -7,7 +7,7 @@ use Rattle.dm_repo.specs.declared.policy.Policy.{Policy}
 use Rattle.dm_journal.specs.declared.device.DeviceError.TheVariants.{Failed}
 use Rattle.dm_journal.specs.declared.fault.WriteError.TheVariants.{Device as WritingDevice, TooLong, Full}
 use Rattle.dm_journal.specs.declared.fault.WriteError.{WriteError}
-use Rattle.dm_journal.specs.Device.{LeavesOnly}
+use Rattle.dm_journal.specs.Device.{LeavesOnly, Moment}
 use Rattle.dm_journal.specs.Ready.{IsFailure}
 use Rattle.dm_store.specs.declared.store.Store.{Store}
 use Rattle.dm_store.specs.Kinds.{kinds_in}
@@ -42,7 +42,7 @@ pub record KeepsFirst (kinds : Kinds) (kept : Kept) (texts : List (List ℕ)) (p
 
 -- Behind the first so many lines: the store as it was when they were written, and what was written. Every crash since then left a file that keeps what
 -- they say: the repository after their texts, or after more of the texts.
-pub record KeepsBehind {D : Type 0} (moment : D → ℕ) (left_since : D → ℕ → List ℕ → Type 0) (policy : Policy) (rule : BundleRule) (old new : Store D)
+pub record KeepsBehind {D : Type 0} (moment : D → Moment) (left_since : D → ℕ → List ℕ → Type 0) (policy : Policy) (rule : BundleRule) (old new : Store D)
     (before now : Output) (texts : List (List ℕ)) (answers : List Reply) (lines : List (List ℕ)) (count : ℕ) : Type 0 where
   pub mid : Store D
   pub written : Output
@@ -55,7 +55,7 @@ pub record KeepsBehind {D : Type 0} (moment : D → ℕ) (left_since : D → ℕ
 
 -- These texts came, each was answered by the repository that the one before it left, and a line that says so written, and flushed before the next
 -- was begun. A crash at any moment of it left a file that keeps the repository after the first of them; behind each line, after its text at least.
-pub record Delivers {D : Type 0} (moment : D → ℕ) (left_since : D → ℕ → List ℕ → Type 0) (Says : Saying) (Gave : List (List ℕ) → Type 0) (policy : Policy)
+pub record Delivers {D : Type 0} (moment : D → Moment) (left_since : D → ℕ → List ℕ → Type 0) (Says : Saying) (Gave : List (List ℕ) → Type 0) (policy : Policy)
     (rule : BundleRule) (old new : Store D) (before now : Output) : Type 0 where
   pub texts : List (List ℕ)
   pub answers : List Reply
@@ -70,7 +70,7 @@ pub record Delivers {D : Type 0} (moment : D → ℕ) (left_since : D → ℕ �
   pub behind : (count : ℕ) → count ≤ length texts → KeepsBehind moment left_since policy rule old new before now texts answers lines count
 
 -- One text more came after those that were delivered, and isn't answered: what was done of it, and why, by the store as it was before it.
-pub record DeliversButLast {D : Type 0} (seen : D → List ℕ) (moment : D → ℕ) (left_since : D → ℕ → List ℕ → Type 0) (faults : D → ℕ) (Says : Saying) (Gave : List (List ℕ) → Type 0) (policy : Policy)
+pub record DeliversButLast {D : Type 0} (seen : D → List ℕ) (moment : D → Moment) (left_since : D → ℕ → List ℕ → Type 0) (faults : D → ℕ) (Says : Saying) (Gave : List (List ℕ) → Type 0) (policy : Policy)
     (rule : BundleRule) (error : AnswerError) (old new : Store D) (before now : Output) : Type 0 where
   pub last : List ℕ
   pub mid : Store D
@@ -85,7 +85,7 @@ pub record DeliversButLast {D : Type 0} (seen : D → List ℕ) (moment : D → 
 
 -- One text more came after those that were delivered, and isn't taken, since a checkpoint failed before it, which leaves the repository as it is: why, by
 -- the store as it was before that.
-pub record DeliversAllBut {D : Type 0} (moment : D → ℕ) (left_since : D → ℕ → List ℕ → Type 0) (faults : D → ℕ) (Says : Saying) (Gave : List (List ℕ) → Type 0) (policy : Policy)
+pub record DeliversAllBut {D : Type 0} (moment : D → Moment) (left_since : D → ℕ → List ℕ → Type 0) (faults : D → ℕ) (Says : Saying) (Gave : List (List ℕ) → Type 0) (policy : Policy)
     (rule : BundleRule) (error : WriteError) (old new : Store D) (before now : Output) : Type 0 where
   pub last : List ℕ
   pub mid : Store D
@@ -98,7 +98,7 @@ pub record DeliversAllBut {D : Type 0} (moment : D → ℕ) (left_since : D → 
   pub kind : (error ≢ TooLong) × (error ≢ Full)
 
 -- what was delivered by an error: all texts that came, or all but the last
-abbrev pub DeliversUntil : {E D : Type 0} → (D → List ℕ) → (D → ℕ) → (D → ℕ → List ℕ → Type 0) → (D → ℕ) → Saying → (List (List ℕ) → Type 0) → Policy →
+abbrev pub DeliversUntil : {E D : Type 0} → (D → List ℕ) → (D → Moment) → (D → ℕ → List ℕ → Type 0) → (D → ℕ) → Saying → (List (List ℕ) → Type 0) → Policy →
     BundleRule → DeliverError E → Store D → Store D → Output → Output → Type 0
 DeliversUntil seen moment left_since faults Says Gave policy rule (Source why) old new before now = Delivers moment left_since Says Gave policy rule old new before now
 DeliversUntil seen moment left_since faults Says Gave policy rule (Checkpoint why) old new before now = DeliversAllBut moment left_since faults Says Gave policy rule why old new before now

@@ -1,9 +1,9 @@
 -- What a crash may leave after a write and after a sync.
 use Rattle.std.proofs.Common.{◌≡◌, inl, inr, ℕ, ◌+◌, ◌-◌, ◌≤◌, Bool, true, false, ap, append_assoc, List, [], ◌∷◌, ◌++◌, length, take, drop, refl, subst, ◌∙◌, arith, length-append}
 use Rattle.std.proofs.lemmas.List.{take_at, drop_at, length-drop, length-take-le}
-use Rattle.dm_journal.specs.Device.{Torn, Elapses}
-use Rattle.dm_disk.specs.Events.{Event, opened, wrote, synced, wrote_beside, synced_beside, renamed, synced_folder, gave_back, refused}
-use Rattle.dm_disk.specs.States.{overwritten, beside, beside_may_leave, seen, file_may_leave, may_leave, left_since, left_now, IsGivenBack}
+use Rattle.dm_journal.specs.Device.{Torn, Elapses, IsSince}
+use Rattle.dm_disk.specs.Events.{Event, named, opened, wrote, synced, wrote_beside, synced_beside, renamed, synced_folder, gave_back, refused}
+use Rattle.dm_disk.specs.States.{overwritten, beside, beside_may_leave, seen, file_may_leave, may_leave, moment, left_since, left_now, IsGivenBack}
 
 -- a crash may leave the new file as it is
 beside_stays : (history : List Event) → beside_may_leave history (beside history)
@@ -12,6 +12,7 @@ beside_stays (wrote_beside mode bytes done ∷ earlier) = tt
 beside_stays (renamed made old new done ∷ earlier) = tt
 beside_stays (synced_beside true ∷ earlier) = refl
 beside_stays (synced_beside false ∷ earlier) = beside_stays earlier
+beside_stays (named name ∷ earlier) = beside_stays earlier
 beside_stays (opened size bytes ∷ earlier) = beside_stays earlier
 beside_stays (wrote at bytes done ∷ earlier) = beside_stays earlier
 beside_stays (synced done ∷ earlier) = beside_stays earlier
@@ -25,6 +26,7 @@ unwritten at n file = record { before = refl; after = refl; no_shorter = omega a
 -- a crash may leave the file as it is
 seen_stays : (history : List Event) → file_may_leave history (seen history)
 seen_stays [] = refl
+seen_stays (named name ∷ earlier) = seen_stays earlier
 seen_stays (opened size bytes ∷ earlier) = refl
 seen_stays (wrote at bytes true ∷ earlier) = inl refl
 seen_stays (wrote at bytes false ∷ earlier) = inr (seen earlier, seen_stays earlier, unwritten at (length bytes) (seen earlier))
@@ -77,7 +79,7 @@ module _ (history : List Event) where
   keeps : (e : Event) (mid : List Event) → length history ≤ length mid → Keeps mid → Keeps (e ∷ mid)
   keeps e mid longer before t c le left = inr (omega (arith, le, longer), before t c le left)
 
-  elapsed : (new : List Event) → length history ≤ length new → Quiet new → Keeps new → Elapses (length history) (length new) (left_since history) (left_since new) (may_leave new)
+  elapsed : (new : List Event) → IsSince (moment history) (moment new) → Quiet new → Keeps new → Elapses (moment history) (moment new) (left_since history) (left_since new) (may_leave new)
   elapsed new longer past since = record { later = longer; nothing_else = λ t c le left. inl (past t c le left); keeps = since }
 
   abbrev settled : List Event
@@ -96,8 +98,8 @@ module _ (history : List Event) where
     all_within : (c : List ℕ) → may_leave (synced_folder again ∷ gave_back done ∷ settled) c → may_leave history c
     all_within c left = back_within c (synced_folder_within again (gave_back done ∷ settled) c left)
 
-    all_elapsed : Elapses (length history) (length (synced_folder again ∷ gave_back done ∷ settled)) (left_since history) (left_since (synced_folder again ∷ gave_back done ∷ settled)) (may_leave (synced_folder again ∷ gave_back done ∷ settled))
-    all_elapsed = elapsed (synced_folder again ∷ gave_back done ∷ settled) (omega arith)
+    all_elapsed : Elapses (moment history) (moment (synced_folder again ∷ gave_back done ∷ settled)) (left_since history) (left_since (synced_folder again ∷ gave_back done ∷ settled)) (may_leave (synced_folder again ∷ gave_back done ∷ settled))
+    all_elapsed = elapsed (synced_folder again ∷ gave_back done ∷ settled) (record { same = refl; later = omega arith })
         (quiet (synced_folder again) (gave_back done ∷ settled) (quiet (gave_back done) settled settled_quiet back_within) all_within)
         (keeps (synced_folder again) (gave_back done ∷ settled) (omega arith) (keeps (gave_back done) settled (omega arith) settled_keeps))
 
@@ -117,9 +119,9 @@ module _ (history : List Event) where
     ]
 
     -- time goes on meanwhile
-    pub time_of_giving_back : Elapses (length history) (length new) (left_since history) (left_since new) (may_leave new)
+    pub time_of_giving_back : Elapses (moment history) (moment new) (left_since history) (left_since new) (may_leave new)
     time_of_giving_back = elim given [
-      | inl same ↦ rw same (elapsed settled (omega arith) settled_quiet settled_keeps)
+      | inl same ↦ rw same (elapsed settled (record { same = refl; later = omega arith }) settled_quiet settled_keeps)
       | inr back ↦ rw back.2 (all_elapsed back.0 back.1)
     ]
 

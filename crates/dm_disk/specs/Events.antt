@@ -4,6 +4,8 @@ use Rattle.dm_disk.specs.declared.beside.Rights.{Rights}
 
 -- one call; where it wasn't done, the system may still have done all of it, a part, or nothing
 pub data Event : Type 0 where
+  -- the file was opened by this name
+  named : (name : List ℕ) → Event
   -- a sync had put the file and its name on the disk, these bytes were read, and the system told this size
   opened : (size : ℕ) (bytes : List ℕ) → Event
   -- these bytes were written at this place
@@ -34,9 +36,10 @@ event_of_kind kind at rights bytes done =
     if kind == 5 then renamed at (take 3 rights) (drop 3 rights) done else
     if kind == 6 then synced_folder done else
     if kind == 7 then gave_back done else
-    refused
+    if kind == 8 then refused else
+    named bytes
 
--- the event that the kind, the place, size or mode, a 1 for done, the owners, groups and modes, and the bytes stand for
+-- the event that the kind, the place, size or mode, a 1 for done, the owners, groups and modes, and the bytes or the name stand for
 abbrev pub event_of : List ℕ → List ℕ → Event
 event_of numbers bytes = event_of_kind (slice_index numbers 0) (slice_index numbers 1) (drop 3 numbers) bytes (slice_index numbers 2 == 1)
 

@@ -2,8 +2,8 @@
 use Rattle.std.specs.Prelude.{◌≡◌, ◌⊎◌, ◌≤◌, ℕ, ◌+◌, ◌-◌, ◌/◌, ◌%◌, ◌==◌, Bool, true, false, not, if◌then◌else◌, List, [], ◌∷◌, ◌++◌, length, take, drop, refl}
 use mathlib.Core.Logic.{inl, inr}
 use Rattle.std.proofs.Math.Nat.{not-suc-le_self}
-use Rattle.dm_journal.specs.Device.{Torn}
-use Rattle.dm_disk.specs.Events.{Event, opened, wrote, synced, wrote_beside, synced_beside, renamed, synced_folder, gave_back, refused}
+use Rattle.dm_journal.specs.Device.{Torn, Moment}
+use Rattle.dm_disk.specs.Events.{Event, named, opened, wrote, synced, wrote_beside, synced_beside, renamed, synced_folder, gave_back, refused}
 
 -- a file with these bytes at this place
 abbrev pub overwritten : ℕ → List ℕ → List ℕ → List ℕ
@@ -62,8 +62,13 @@ abbrev pub left_since : List Event → ℕ → List ℕ → Type 0
 left_since [] t c = may_leave [] c
 left_since (e ∷ earlier) t c = may_leave (e ∷ earlier) c ⊎ ((t ≤ length earlier) × left_since earlier t c)
 
+-- what a crash may have left under the name since the file was opened, which was its first two events
+abbrev pub left_since_opening : List Event → List ℕ → Type 0
+left_since_opening history c = left_since history 2 c
+
 -- whether a call failed, or was refused
 abbrev pub is_fault : Event → Bool
+is_fault (named name) = false
 is_fault (opened size bytes) = false
 is_fault (wrote at bytes done) = not done
 is_fault (synced done) = not done
@@ -79,9 +84,25 @@ abbrev pub faults : List Event → ℕ
 faults [] = 0
 faults (e ∷ earlier) = if is_fault e then faults earlier + 1 else faults earlier
 
--- it was opened, as many bytes were read as the system tells that it has, and nothing has happened since
-abbrev pub IsFresh : List Event → Type 0
-IsFresh history = (bytes : List ℕ) × (history ≡ opened (length bytes) bytes ∷ [])
+-- the name that the file was opened by
+abbrev pub opened_by : List Event → List ℕ
+opened_by [] = []
+opened_by (named name ∷ earlier) = name
+opened_by (e ∷ earlier) = opened_by earlier
+
+-- the bytes that it had then
+abbrev pub read_first : List Event → List ℕ
+read_first [] = []
+read_first (opened size bytes ∷ earlier) = bytes
+read_first (e ∷ earlier) = read_first earlier
+
+-- which file it is, and how many events there were
+abbrev pub moment : List Event → Moment
+moment history = record { origin = record { name = opened_by history; bytes = read_first history }; time = length history }
+
+-- it was opened by this name, as many bytes were read as the system tells that it has, and nothing has happened since
+abbrev pub IsFresh : List ℕ → List Event → Type 0
+IsFresh name history = (bytes : List ℕ) × (history ≡ opened (length bytes) bytes ∷ named name ∷ [])
 
 -- the mode of a new file that takes the name: where an access control list may stand behind the group's bits, only its owner has any
 abbrev pub lesser_mode : ℕ → ℕ
@@ -122,6 +143,7 @@ left_only_now (e ∷ earlier) c (inr before) = absurd (not-suc-le_self (length e
 -- a crash at any moment leaves something
 beside_leaves_some : (history : List Event) → (c : List ℕ) × beside_may_leave history c
 beside_leaves_some [] = ([], tt)
+beside_leaves_some (named name ∷ earlier) = beside_leaves_some earlier
 beside_leaves_some (opened size bytes ∷ earlier) = beside_leaves_some earlier
 beside_leaves_some (wrote at bytes done ∷ earlier) = beside_leaves_some earlier
 beside_leaves_some (synced done ∷ earlier) = beside_leaves_some earlier
@@ -135,6 +157,7 @@ beside_leaves_some (refused ∷ earlier) = beside_leaves_some earlier
 
 file_leaves_some : (history : List Event) → (c : List ℕ) × file_may_leave history c
 file_leaves_some [] = ([], refl)
+file_leaves_some (named name ∷ earlier) = file_leaves_some earlier
 file_leaves_some (opened size bytes ∷ earlier) = (bytes, refl)
 file_leaves_some (wrote at bytes done ∷ earlier) = (overwritten at bytes (seen earlier), inl refl)
 file_leaves_some (synced true ∷ earlier) = (seen earlier, refl)

@@ -1,15 +1,16 @@
 //! A file on a disk. Each method makes the call that it notes, and notes it with its outcome.
-ghost use Rattle.std.specs.Prelude.{◌≡◌, ◌<◌, ℕ, List, [], length, IfOk, OnOk, IsErrOf, Ok, IfSome, IsTrue};
+ghost use Rattle.std.specs.Prelude.{◌≡◌, ◌<◌, ℕ, List, [], IfOk, OnOk, IsErrOf, Ok, IfSome, IsTrue};
 ghost use Rattle.dm_journal.specs.declared.device.DeviceError.TheVariants.{Failed};
 ghost use Rattle.dm_journal.specs.Device.{IsDurable};
-ghost use Rattle.dm_disk.specs.States.{seen, may_leave, file_may_leave, beside, beside_may_leave, other_may_leave, left_since, faults, IsFresh, KeepsRights, IsGivenBack, HasNoOther, left_now, leaves_some, left_only_now};
+ghost use Rattle.dm_disk.specs.States.{seen, may_leave, file_may_leave, beside, beside_may_leave, other_may_leave, moment, left_since, faults, IsFresh, KeepsRights, IsGivenBack, HasNoOther, left_now, leaves_some, left_only_now};
 
 use crate::back::{OldFile, give_back, hold, old_file};
 use crate::beside::{NEW_MODE, NOT_TAKEN, NewFile, take_name, write_new};
+use crate::closed::ClosedFile;
 use crate::fault::OpenFault;
 use crate::limit::{size_limit, write_within};
 use crate::opening::{
-    Access, Lock, folder_of, open_locked, read_whole, refuse_name, settle, stands_at,
+    Access, Lock, folder_of, make_durable, open_locked, read_whole, refuse_name, stands_at,
 };
 use crate::record::Record;
 use crate::rehearsal::Rehearsal;
@@ -82,7 +83,7 @@ impl Drop for DiskFile {
 impl Model for DiskFile {
     ghost use Rattle.std.specs.Prelude.{◌≡◌, List, ℕ, IfSome};
     ghost use Rattle.dm_disk.specs.Events.{Event};
-    ghost use Rattle.dm_disk.specs.States.{seen, other_may_leave, KeepsRights};
+    ghost use Rattle.dm_disk.specs.States.{seen, other_may_leave, KeepsRights, opened_by};
     ghost use Rattle.dm_disk.specs.declared.file.Phase.TheVariants.{Ready};
 
     ghost Value = { List Event };
@@ -91,7 +92,8 @@ impl Model for DiskFile {
 
     ghost invariant = { λ d. IfSome d.bytes (λ bytes. bytes.items ≡ seen d.log.events)
         × (d.phase ≡ Ready → (c : List ℕ) → other_may_leave d.log.events c → ⊥)
-        × KeepsRights d.log.events };
+        × KeepsRights d.log.events
+        × (d.path.bytes.items ≡ opened_by d.log.events) };
 }
 
 impl Device for DiskFile {
@@ -105,7 +107,7 @@ impl Device for DiskFile {
 
     ghost beside_may_leave = { λ history. beside_may_leave history };
 
-    ghost moment = { λ history. length history };
+    ghost moment = { λ history. moment history };
 
     ghost left_since = { λ history. left_since history };
 
@@ -236,16 +238,17 @@ impl DiskFile {
         access: Access,
         lock: Lock,
     ) -> Result<DiskFile, OpenFault>
-        ensures fresh { IfOk result IsFresh }
+        ensures fresh { IfOk result (IsFresh path.now) }
         ensures durable { IfOk result (IsDurable seen may_leave file_may_leave) }
     {
         refuse_name(rt, path, access)?;
         let limit = size_limit(rt)?;
         let mut file = open_locked(rt, path, access, lock)?;
         let folder = File::open(rt, folder_of(path))?;
-        settle(&file, &folder)?;
+        make_durable(&file, &folder)?;
         let (size, bytes) = read_whole(rt, &mut file)?;
         let mut log = Record::new();
+        log.named(path);
         log.opened(size, &bytes);
         Ok(DiskFile {
             rt: *rt,
@@ -263,17 +266,40 @@ impl DiskFile {
         })
     }
 
-    /// The same file as it was when it was opened, for a rehearsal: what is taken into it is written nowhere. The lock is let go.
+    /// Lets the file go, and its lock.
+    pub fn close(self) -> ClosedFile
+        ensures { result ≡ self }
+    {
+        let DiskFile {
+            rt: _,
+            file: _,
+            folder: _,
+            new_file: _,
+            old_file: _,
+            path: _,
+            limit: _,
+            phase: _,
+            bytes: _,
+            failure: _,
+            lost_rights: _,
+            log,
+        } = self;
+        ClosedFile { log }
+    }
+
+    /// The same file as it was when it was opened, for a rehearsal: what is taken into it is written nowhere. The file itself is let go,
+    /// and its lock.
     ///
     /// # Errors
     ///
     /// [`DeviceError::Failed`] where the bytes were handed out or written over.
-    pub fn rehearse(mut self) -> Result<Rehearsal, DeviceError>
-        ensures seen { IfOk result (λ rehearsal. seen rehearsal ≡ seen self) }
-        ensures durable { IfOk result (IsDurable seen may_leave file_may_leave) }
+    pub fn rehearse(mut self) -> Result<(Rehearsal, ClosedFile), DeviceError>
+        ensures seen { IfOk result (λ r. seen r.0 ≡ seen self) }
+        ensures durable { IfOk result (λ r. IsDurable seen may_leave file_may_leave r.0) }
+        ensures closed { IfOk result (λ r. r.1 ≡ self) }
     {
         match self.bytes.take() {
-            Some(bytes) => Ok(Rehearsal::new(bytes)),
+            Some(bytes) => Ok((Rehearsal::new(bytes), self.close())),
             None => Err(DeviceError::Failed),
         }
     }

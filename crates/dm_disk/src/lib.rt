@@ -35,6 +35,7 @@
 
 mod back;
 mod beside;
+mod closed;
 mod fault;
 mod file;
 mod limit;
@@ -43,6 +44,7 @@ mod opening;
 mod record;
 mod rehearsal;
 
+pub use closed::ClosedFile;
 pub use fault::OpenFault;
 pub use file::DiskFile;
 pub use opening::{Access, Lock};

@@ -1,6 +1,6 @@
 //! The events by name.
 ghost use Rattle.std.specs.Prelude.{◌≡◌, ◌∷◌};
-ghost use Rattle.dm_disk.specs.Events.{opened, wrote, synced, wrote_beside, synced_beside, renamed, synced_folder, gave_back, refused, rights};
+ghost use Rattle.dm_disk.specs.Events.{named, opened, wrote, synced, wrote_beside, synced_beside, renamed, synced_folder, gave_back, refused, rights};
 
 use crate::beside::Taken;
 use crate::record::Record;
@@ -23,7 +23,16 @@ const GAVE_BACK: u64 = 7;
 
 const REFUSED: u64 = 8;
 
+const NAMED: u64 = 9;
+
 impl Record {
+    // The file was opened by this name.
+    pub(crate) fn named(&mut self, name: &str)
+        ensures { self.new.events ≡ named name.now ∷ self.old.events }
+    {
+        self.note(&[NAMED, 0, 1], name.as_bytes());
+    }
+
     // The file and its name are on the disk, these bytes were read, and the system told this size.
     pub(crate) fn opened(&mut self, size: u64, bytes: &[u8])
         ensures { self.new.events ≡ opened size bytes.now ∷ self.old.events }

@@ -258,7 +258,7 @@ pub(crate) fn folder_of(path: &str) -> &str {
 }
 
 // Syncs the file and its folder.
-pub(crate) fn settle(file: &File, folder: &File) -> Result<(), OpenFault> {
+pub(crate) fn make_durable(file: &File, folder: &File) -> Result<(), OpenFault> {
     match sync_both(file, folder) {
         Ok(()) => Ok(()),
         Err(error) => Err(OpenFault::Sync(error)),

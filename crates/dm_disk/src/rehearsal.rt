@@ -1,7 +1,7 @@
 //! A file that is only read: what would be written to it is noted, and not written.
-ghost use Rattle.std.specs.Prelude.{◌≡◌, ℕ, List, length, IfSome};
+ghost use Rattle.std.specs.Prelude.{◌≡◌, ℕ, List, IfSome};
 ghost use Rattle.dm_journal.specs.Device.{IsDurable};
-ghost use Rattle.dm_disk.specs.States.{seen, may_leave, file_may_leave, beside, beside_may_leave, left_since, faults, left_now, leaves_some, left_only_now};
+ghost use Rattle.dm_disk.specs.States.{seen, may_leave, file_may_leave, beside, beside_may_leave, moment, left_since, faults, left_now, leaves_some, left_only_now};
 
 use crate::beside::{NEW_MODE, NOT_TAKEN};
 use crate::record::Record;
@@ -63,7 +63,7 @@ impl Device for Rehearsal {
 
     ghost beside_may_leave = { λ history. beside_may_leave history };
 
-    ghost moment = { λ history. length history };
+    ghost moment = { λ history. moment history };
 
     ghost left_since = { λ history. left_since history };
 

@@ -1,7 +1,7 @@
 -- One more content joins those that a file has had.
 use Rattle.std.proofs.Common.{◌≡◌, ◌⊎◌, inl, inr, ⊎_elim, ℕ, zero, suc, ◌≤◌, List, [], ◌∷◌, ◌++◌, length, drop, Vec, refl, sym, ◌∙◌, subst, arith, length-append}
 use Rattle.std.specs.declared.alloc.Global.{Global}
-use Rattle.dm_journal.specs.Device.{Elapses}
+use Rattle.dm_journal.specs.Device.{Elapses, nameless}
 use Rattle.dm_journal.specs.Past.{HadBeen}
 
 abbrev Contents : Type 0
@@ -31,12 +31,12 @@ drop_push (suc t) (p ∷ past) v le = drop_push t past v (omega arith)
 abbrev Since : Contents → List ℕ → ℕ → List ℕ → Type 0
 Since past bytes t c = (c ≡ bytes) ⊎ HadBeen (drop t past) c
 
-pub elapses_same : (past : Contents) (bytes : List ℕ) → Elapses (length past) (length past) (Since past bytes) (Since past bytes) (λ c. c ≡ bytes)
-elapses_same past bytes = record { later = omega arith; nothing_else = λ t c le left. inl left; keeps = λ t c le left. left }
+pub elapses_same : (past : Contents) (bytes : List ℕ) → Elapses (nameless (length past)) (nameless (length past)) (Since past bytes) (Since past bytes) (λ c. c ≡ bytes)
+elapses_same past bytes = record { later = record { same = refl; later = omega arith }; nothing_else = λ t c le left. inl left; keeps = λ t c le left. left }
 
-elapses_push : (past : Contents) (v : Vec ℕ Global) (old new : List ℕ) → v.items ≡ old → Elapses (length past) (length (past ++ v ∷ [])) (Since past old) (Since (past ++ v ∷ []) new) (λ c. c ≡ new)
+elapses_push : (past : Contents) (v : Vec ℕ Global) (old new : List ℕ) → v.items ≡ old → Elapses (nameless (length past)) (nameless (length (past ++ v ∷ []))) (Since past old) (Since (past ++ v ∷ []) new) (λ c. c ≡ new)
 elapses_push past v old new is = record {
-  later = omega (arith, length-append past (v ∷ []));
+  later = record { same = refl; later = omega (arith, length-append past (v ∷ [])) };
   nothing_else = λ t c le left. ⊎_elim (λ now. inr now) (λ had. inl (was t c (adds (drop t past) v c (subst (λ (l : Contents). HadBeen l c) (drop_push t past v le) had)))) left;
   keeps = λ t c le left. inr (subst (λ (l : Contents). HadBeen l c) (sym (drop_push t past v le)) (⊎_elim (λ now. newest (drop t past) v c (now ∙ sym is)) (keeps (drop t past) v c) left));
 }
@@ -45,6 +45,6 @@ elapses_push past v old new is = record {
     was t c (inl had) = inr had
     was t c (inr new) = inl (new ∙ is)
 
-pub elapses_to : (past later : Contents) (v : Vec ℕ Global) (old new : List ℕ) → v.items ≡ old → later ≡ past ++ v ∷ [] → Elapses (length past) (length later) (Since past old) (Since later new) (λ c. c ≡ new)
+pub elapses_to : (past later : Contents) (v : Vec ℕ Global) (old new : List ℕ) → v.items ≡ old → later ≡ past ++ v ∷ [] → Elapses (nameless (length past)) (nameless (length later)) (Since past old) (Since later new) (λ c. c ≡ new)
 elapses_to past later v old new is same =
-    subst (λ (l : Contents). Elapses (length past) (length l) (Since past old) (Since l new) (λ c. c ≡ new)) (sym same) (elapses_push past v old new is)
+    subst (λ (l : Contents). Elapses (nameless (length past)) (nameless (length l)) (Since past old) (Since l new) (λ c. c ≡ new)) (sym same) (elapses_push past v old new is)

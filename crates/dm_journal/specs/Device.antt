@@ -1,5 +1,5 @@
 -- What the calls of a device do to its file, and what a crash may leave.
-use Rattle.std.specs.Prelude.{◌<◌, ◌≡◌, ◌⊎◌, ℕ, ◌+◌, ◌≤◌, max, List, ◌++◌, length, take, drop, Result, IsErrOf}
+use Rattle.std.specs.Prelude.{◌<◌, ◌≡◌, ◌⊎◌, ℕ, ◌+◌, ◌≤◌, max, List, [], ◌++◌, length, take, drop, Result, IsErrOf}
 use Rattle.dm_journal.specs.declared.device.DeviceError.{DeviceError}
 use Rattle.dm_journal.specs.declared.device.DeviceError.TheVariants.{Failed}
 
@@ -30,17 +30,36 @@ Follows step old new = (c : List ℕ) → new c → (d : List ℕ) × old d × s
 abbrev pub Only : List ℕ → (List ℕ → Type 0) → Type 0
 Only file outcomes = (c : List ℕ) → outcomes c → c ≡ file
 
--- time goes on: a crash since t might have left what it might have left before, or what it may leave now
-pub record Elapses (before now : ℕ) (past since : ℕ → List ℕ → Type 0) (may_leave : List ℕ → Type 0) : Type 0 where
-  pub later : before ≤ now
-  pub nothing_else : (t : ℕ) (c : List ℕ) → t ≤ before → since t c → past t c ⊎ may_leave c
-  pub keeps : (t : ℕ) (c : List ℕ) → t ≤ before → past t c → since t c
+-- which file it is: the name that it was opened by, and the bytes that it had then
+pub record Origin : Type 0 where
+  pub name : List ℕ
+  pub bytes : List ℕ
 
--- a crash at any moment since old leaves a file that has P, also as seen from a run that began earlier
-pub record LeavesOnly {D : Type 0} (moment : D → ℕ) (left_since : D → ℕ → List ℕ → Type 0) (old new : D) (P : List ℕ → Type 0) : Type 0 where
-  pub later : moment old ≤ moment new
-  pub each : (c : List ℕ) → left_since new (moment old) c → P c
-  pub before : (t : ℕ) (c : List ℕ) → t ≤ moment old → left_since new t c → left_since old t c ⊎ P c
+-- a moment of a file, and how far its time has gone
+pub record Moment : Type 0 where
+  pub origin : Origin
+  pub time : ℕ
+
+-- of a file without a name, which had nothing
+abbrev pub nameless : ℕ → Moment
+nameless time = record { origin = record { name = []; bytes = [] }; time = time }
+
+-- a moment of the same file, and none that is earlier
+pub record IsSince (before now : Moment) : Type 0 where
+  pub same : now.origin ≡ before.origin
+  pub later : before.time ≤ now.time
+
+-- time goes on: a crash since t might have left what it might have left before, or what it may leave now
+pub record Elapses (before now : Moment) (past since : ℕ → List ℕ → Type 0) (may_leave : List ℕ → Type 0) : Type 0 where
+  pub later : IsSince before now
+  pub nothing_else : (t : ℕ) (c : List ℕ) → t ≤ before.time → since t c → past t c ⊎ may_leave c
+  pub keeps : (t : ℕ) (c : List ℕ) → t ≤ before.time → past t c → since t c
+
+-- it is the same file, and a crash at any moment since old leaves it with P, also as seen from a run that began earlier
+pub record LeavesOnly {D : Type 0} (moment : D → Moment) (left_since : D → ℕ → List ℕ → Type 0) (old new : D) (P : List ℕ → Type 0) : Type 0 where
+  pub later : IsSince (moment old) (moment new)
+  pub each : (c : List ℕ) → left_since new (moment old).time c → P c
+  pub before : (t : ℕ) (c : List ℕ) → t ≤ (moment old).time → left_since new t c → left_since old t c ⊎ P c
 
 -- `Failed` is told only where the disk has failed since
 pub record HasCause {T : Type 0} (before now : ℕ) (result : Result T DeviceError) : Type 0 where

@@ -1,6 +1,6 @@
 -- When a journal may take a text, what it is to have afterwards, and what an opening leaves alone.
 use Rattle.std.specs.Prelude.{◌≡◌, ◌⊎◌, ℕ, ◌<◌, ◌^◌, List, [], ◌∷◌, ◌++◌, length}
-use Rattle.dm_journal.specs.Device.{IsDurable, LeavesOnly}
+use Rattle.dm_journal.specs.Device.{IsDurable, LeavesOnly, Moment}
 use Rattle.dm_journal.specs.Journal.{Closes, StandsIn}
 use Rattle.dm_journal.specs.Reading.{IsEnd}
 use Rattle.dm_journal.specs.declared.device.DeviceError.TheVariants.{Failed}
@@ -29,7 +29,7 @@ abbrev pub StandsForEither : Format → List (List ℕ) → Format → List (Lis
 StandsForEither format old renewed new file = StandsIn format file old ⊎ StandsIn renewed file new
 
 -- the device reads as before, and a crash at any moment since leaves just that
-pub record IsUntouched {D : Type 0} (seen : D → List ℕ) (may_leave file_may_leave : D → List ℕ → Type 0) (moment : D → ℕ) (left_since : D → ℕ → List ℕ → Type 0) (old new : D) : Type 0 where
+pub record IsUntouched {D : Type 0} (seen : D → List ℕ) (may_leave file_may_leave : D → List ℕ → Type 0) (moment : D → Moment) (left_since : D → ℕ → List ℕ → Type 0) (old new : D) : Type 0 where
   pub same : seen new ≡ seen old
   pub durable : IsDurable seen may_leave file_may_leave new
   pub any_moment : LeavesOnly moment left_since old new (λ c. c ≡ seen old)

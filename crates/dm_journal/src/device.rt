@@ -1,7 +1,7 @@
 //! The disk as the journal sees it: what a read returns, and what a crash may leave.
 ghost use Rattle.std.specs.Prelude.{◌≡◌, ◌⊎◌, ◌≤◌, List, ℕ, length, IfOk, OnOk};
 ghost use Rattle.dm_journal.specs.declared.device.DeviceError.TheVariants.{Memory};
-ghost use Rattle.dm_journal.specs.Device.{Only, Within, Follows, Torn, IsWrittenAt, Elapses, HasCause};
+ghost use Rattle.dm_journal.specs.Device.{Only, Within, Follows, Torn, IsWrittenAt, Moment, Elapses, HasCause};
 
 use std::alloc::{AllocError, AllocFailed, Global};
 use thiserror::Error;
@@ -51,10 +51,10 @@ pub trait Device {
     /// What a crash at this moment may leave of that file.
     ghost beside_may_leave: { Self → List ℕ → Type 0 };
 
-    /// The moment, as a number that doesn't fall.
-    ghost moment: { Self → ℕ };
+    /// Which file it is, and the time, a number that doesn't fall.
+    ghost moment: { Self → Moment };
 
-    /// What a crash at some moment from that one on might have left under the name, during a call or between two.
+    /// What a crash at some moment from that time on might have left under the name, during a call or between two.
     ghost left_since: { Self → ℕ → List ℕ → Type 0 };
 
     /// How often the disk has failed.
@@ -124,11 +124,11 @@ pub trait Device {
         ensures cause { HasCause (faults self.old) (faults self.new) result };
 
     /// This moment is one of those since an earlier one.
-    ghost counts_now: { (file : Self) (t : ℕ) (c : List ℕ) → t ≤ moment file → may_leave file c → left_since file t c };
+    ghost counts_now: { (file : Self) (t : ℕ) (c : List ℕ) → t ≤ (moment file).time → may_leave file c → left_since file t c };
 
     /// A crash at any moment leaves something.
     ghost leaves_some: { (file : Self) → (c : List ℕ) × may_leave file c };
 
     /// Since this moment there is no other.
-    ghost only_now: { (file : Self) (c : List ℕ) → left_since file (moment file) c → may_leave file c };
+    ghost only_now: { (file : Self) (c : List ℕ) → left_since file (moment file).time c → may_leave file c };
 }

@@ -1,6 +1,7 @@
 //! A device in memory.
 ghost use Rattle.std.specs.Prelude.{◌≡◌, ◌⊎◌, [], ◌∷◌, ◌++◌, length, drop, refl, OnOk, OnErr};
 ghost use Rattle.std.proofs.Common.{inl};
+ghost use Rattle.dm_journal.specs.Device.{nameless};
 ghost use Rattle.dm_journal.specs.Past.{HadBeen, only_bytes};
 
 use crate::device::{Device, DeviceError};
@@ -67,7 +68,7 @@ impl Device for Memory {
 
     ghost beside_may_leave = { λ m c. c ≡ m.beside.items };
 
-    ghost moment = { λ m. length m.past.items };
+    ghost moment = { λ m. nameless (length m.past.items) };
 
     ghost left_since = { λ m t c. (c ≡ m.bytes.items) ⊎ HadBeen (drop t m.past.items) c };
 

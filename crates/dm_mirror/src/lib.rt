@@ -3,7 +3,7 @@
 //! A [`Plan`] has the bundles of each poster, and the base and the policy of each mirror. [`run`] starts a thread for each: a poster sends
 //! its bundles to every mirror and then its closing mark; a mirror takes what comes into its own repository, in the order
 //! in which it comes. The [`Outcome`] has what each mirror took, with the verdicts and the repository; [`report_text`]
-//! prints it.
+//! prints it. Nothing is kept in a file: the mirror of `--mirror` is that of `dm_store`.
 //!
 //! The crate stands on dm_mail for the mail of a mirror, on dm_scratch for taking a text, and on `bumpalo` for each
 //! mirror's arena. Its theorem is the contract of [`run`]: in every order of the threads' steps each mirror took all that

@@ -7,7 +7,7 @@ use Rattle.dm_repo.specs.declared.policy.Policy.{Policy}
 use Rattle.dm_scratch.specs.declared.verdict.Verdict.{Verdict}
 use Rattle.dm_scratch.specs.declared.verdict.Verdict.TheVariants.{Taken, TakenSome, NothingNew, Malformed, Refused}
 use Rattle.dm_scratch.specs.Taking.{TakesIn, bundle, malformed, no_memory}
-use Rattle.dm_journal.specs.Device.{LeavesOnly}
+use Rattle.dm_journal.specs.Device.{LeavesOnly, Moment}
 use Rattle.dm_journal.specs.Journal.{StandsIn}
 use Rattle.dm_journal.specs.declared.format.Format.{Format}
 use Rattle.dm_journal.specs.Ready.{HasTexts, StandsWithOrWithout}
@@ -56,10 +56,10 @@ module _ {D : Type 0} (seen : D → List ℕ) (may_leave file_may_leave : D → 
   pub crashes_keep : CrashesKeep (kinds_of journal.end.format) may_leave journal.device kept
   crashes_keep c may = subst (λ (f : List ℕ). KeepsRepo (kinds_of journal.end.format) f kept) (sym (has.durable.only c may)) keeps
 
-module _ {D : Type 0} (moment : D → ℕ) (left_since : D → ℕ → List ℕ → Type 0) where
+module _ {D : Type 0} (moment : D → Moment) (left_since : D → ℕ → List ℕ → Type 0) where
   -- no call of the device
-  pub at_rest : (device : D) (P : List ℕ → Type 0) → ((c : List ℕ) → left_since device (moment device) c → P c) → LeavesOnly moment left_since device device P
-  at_rest device P only = record { later = omega arith; each = only; before = λ t c le left. inl left }
+  pub at_rest : (device : D) (P : List ℕ → Type 0) → ((c : List ℕ) → left_since device (moment device).time c → P c) → LeavesOnly moment left_since device device P
+  at_rest device P only = record { later = record { same = refl; later = omega arith }; each = only; before = λ t c le left. inl left }
 
   -- what has P has Q
   pub weakened : (old new : D) (P Q : List ℕ → Type 0) → ((c : List ℕ) → P c → Q c) → LeavesOnly moment left_since old new P → LeavesOnly moment left_since old new Q
