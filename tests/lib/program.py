@@ -54,14 +54,18 @@ def with_memory(most):
     return limited(resource.RLIMIT_AS, most)
 
 
+# What the stack may take in work, beyond what it has at the start. The system kills a program whose stack can't grow, whatever it does.
+STACK = 1 << 17
+
+
 def least_memory(step):
-    """The least address space, in such steps, in which the program starts; none where it doesn't in 1 GiB."""
+    """The least address space, in such steps, in which the program starts, with room for its stack; none where it doesn't in 1 GiB."""
     sizes = range(step, 1 << 30, step)
     starts = lambda most: answer(["--version"], preexec_fn=with_memory(most))[0] == 0
     if not starts(1 << 30):
         tell("the program doesn't start in 1 GiB: not tried with less")
         return None
-    return next(it for it in sizes if starts(it))
+    return next(it for it in sizes if starts(it)) + STACK
 
 
 class Place:
