@@ -85,7 +85,7 @@ elements_back e f f' e' h =
     }
 
 -- past an inverse
-no_shadows_merge : (s : Side) (p q : Prim) (ks : List (List Prim)) → EachMerges (shadows_of (at_side s (Plain p) (Plain q))) ks
+pub no_shadows_merge : (s : Side) (p q : Prim) (ks : List (List Prim)) → EachMerges (shadows_of (at_side s (Plain p) (Plain q))) ks
 no_shadows_merge After p q ks k d l = absurd (omega arith)
 no_shadows_merge Before p q ks k d l = absurd (omega arith)
 

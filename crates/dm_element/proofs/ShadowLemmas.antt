@@ -1,7 +1,7 @@
 -- Shadows that pass a list, and shadows that merge.
-use Rattle.std.proofs.Common.{◌≡◌, ℕ, zero, suc, ◌+◌, ◌<◌, ◌≤◌, List, [], ◌∷◌, ◌++◌, Vec, length, take, map, get_or, All, ap, ap₂, sym, refl, ◌∙◌, arith}
+use Rattle.std.proofs.Common.{◌≡◌, ℕ, suc, ◌+◌, ◌<◌, ◌≤◌, List, [], ◌∷◌, ◌++◌, Vec, length, map, get_or, All, ap, ap₂, sym, refl, ◌∙◌, append-nil, arith}
 use borrow.Author.Count.{below_more}
-use Rattle.std.proofs.lemmas.List.{map_push, get_or-map, take_all}
+use Rattle.std.proofs.lemmas.List.{map_push, map-append, get_or-map}
 use Rattle.dm_prim.specs.Rectangles.{CellRow, Rectangle, empty, row}
 use Rattle.dm_prim.specs.Rectangles as rectangles
 use Rattle.dm_prim.specs.Primitives.{Prim, inv_all}
@@ -11,7 +11,7 @@ use Rattle.dm_prim.specs.declared.primitive.Primitive.{Primitive}
 use Rattle.dm_prim.proofs.LawProofs.{lists_past_inverse, rectangles_turn, inv_all-inv_all}
 use Rattle.dm_prim.proofs.Single.{lists_one}
 use Rattle.dm_element.specs.Lists.{lists_of}
-use Rattle.dm_element.proofs.CopyLemmas.{count, read_more}
+use Rattle.dm_element.proofs.CopyLemmas.{count}
 use Rattle.dm_element.specs.Elements.{Passes, EachPasses, none, next, Merge, EachMerges}
 
 passes_back : {xs m m' : List Prim} → Passes xs m m' → Passes (inv_all xs) m' m
@@ -51,15 +51,34 @@ pub each_passes_lengths : {xs : List Prim} {ms ms' : List (List Prim)} → EachP
 each_passes_lengths none = refl
 each_passes_lengths (next h r) = ap₂ (λ a b. a ∷ b) (rectangle_lengths h.commute).0 (each_passes_lengths r)
 
--- a loop over the shadows: those before a place have passed
+-- a loop over the shadows: those that are gone have passed
 each_passes_push : {xs m m' : List Prim} {ms ms' : List (List Prim)} → EachPasses xs ms ms' → Passes xs m m' → EachPasses xs (ms ++ m ∷ []) (ms' ++ m' ∷ [])
 each_passes_push none p = next p none
 each_passes_push (next h r) p = next h (each_passes_push r p)
 
-passes_at : {xs : List Prim} {ms ms' : List (List Prim)} (i : ℕ) (d : List Prim) → EachPasses xs ms ms' → i < length ms → (m' : List Prim) × Passes xs (get_or ms i d) m'
-passes_at i d none l = absurd (omega arith)
-passes_at zero d (next {m' = m'} h r) l = (m', h)
-passes_at (suc i) d (next h r) l = passes_at i d r (omega arith)
+passes_within : {xs m : List Prim} (front rest : List (List Prim)) {ms' : List (List Prim)} → EachPasses xs (front ++ m ∷ rest) ms' → (m' : List Prim) × Passes xs m m'
+passes_within [] rest (next {m' = m'} h r) = (m', h)
+passes_within (l ∷ front) rest (next h r) = passes_within front rest r
+
+module _ {Z Y : Type 0} (all gone : List (Vec (Primitive Z) Y)) where
+  module _ (l : Vec (Primitive Z) Y) where
+    pub passed_more : (xs : List Prim) (ts ts' : List (Vec (Primitive Z) Y)) (t rest : Vec (Primitive Z) Y) → ListsCommute xs (prims_of l.items) (prims_of t.items) (prims_of rest.items) →
+        ts' ≡ ts ++ t ∷ [] → EachPasses xs (lists_of gone) (lists_of ts) → EachPasses xs (lists_of (gone ++ l ∷ [])) (lists_of ts')
+    passed_more xs ts ts' t rest c e h =
+        let p : Passes xs (prims_of l.items) (prims_of t.items) = record { passed = prims_of rest.items; commute = c } in
+        let read : Vec (Primitive Z) Y → List Prim = λ v. prims_of v.items in
+        rw (e, map_push read ts t, map_push read gone l) (each_passes_push h p)
+
+    pub passed_not : (xs : List Prim) (left : List (Vec (Primitive Z) Y)) → all ≡ gone ++ l ∷ left → ((ys' xs' : List Prim) → ListsCommute xs (prims_of l.items) ys' xs' → ⊥) →
+        (ms' : List (List Prim)) → EachPasses xs (lists_of all) ms' → ⊥
+    passed_not xs left w n ms' h =
+        let read : Vec (Primitive Z) Y → List Prim = λ v. prims_of v.items in
+        let parts : lists_of all ≡ lists_of gone ++ prims_of l.items ∷ lists_of left = ap (map read) w ∙ map-append read gone (l ∷ left) in
+        let r = passes_within {xs = xs} {m = prims_of l.items} (lists_of gone) (lists_of left) (rw parts at h) in n r.0 r.1.passed r.1.commute
+
+  pub passed_all : (xs : List Prim) (left ts : List (Vec (Primitive Z) Y)) → all ≡ gone ++ left → length left ≡ 0 → EachPasses xs (lists_of gone) (lists_of ts) → EachPasses xs (lists_of all) (lists_of ts)
+  passed_all xs [] ts w l h = rw (w ∙ append-nil gone) h
+  passed_all xs (k ∷ left) ts w l h = absurd (omega (arith, l))
 
 pub count_lists : {Z Y : Type 0} (ls : List (Vec (Primitive Z) Y)) → length (lists_of ls) ≡ length ls
 count_lists {Z} {Y} ls = let read : Vec (Primitive Z) Y → List Prim = λ v. prims_of v.items in count read read ls
@@ -68,18 +87,6 @@ module _ {Z Y : Type 0} (ls : List (Vec (Primitive Z) Y)) where
   module _ (i : ℕ) (l : Vec (Primitive Z) Y) (below : i < length ls) (is : l ≡ get_or ls i l) where
     at_place : (d : List Prim) → get_or (lists_of ls) i d ≡ prims_of l.items
     at_place d = let read : Vec (Primitive Z) Y → List Prim = λ v. prims_of v.items in get_or-map read ls i l d below ∙ sym (ap read is)
-
-    pub passed_more : (xs : List Prim) (ts ts' : List (Vec (Primitive Z) Y)) (t rest : Vec (Primitive Z) Y) → ListsCommute xs (prims_of l.items) (prims_of t.items) (prims_of rest.items) →
-        ts' ≡ ts ++ t ∷ [] → EachPasses xs (take i (lists_of ls)) (lists_of ts) → EachPasses xs (take (i + 1) (lists_of ls)) (lists_of ts')
-    passed_more xs ts ts' t rest c e h =
-        let p : Passes xs (prims_of l.items) (prims_of t.items) = record { passed = prims_of rest.items; commute = c } in
-        let read : Vec (Primitive Z) Y → List Prim = λ v. prims_of v.items in
-        rw (e, map_push read ts t, read_more read read ls i l below is) (each_passes_push h p)
-
-    pub passed_not : (xs : List Prim) → ((ys' xs' : List Prim) → ListsCommute xs (prims_of l.items) ys' xs' → ⊥) → (ms' : List (List Prim)) → EachPasses xs (lists_of ls) ms' → ⊥
-    passed_not xs n ms' h =
-        let r : (m' : List Prim) × Passes xs (prims_of l.items) m' = rw (at_place []) at (passes_at i [] h (rw (count_lists ls) below)) in
-        n r.0 r.1.passed r.1.commute
 
     -- what holds of each list
     module _ (P : List Prim → Type 0) where
@@ -90,8 +97,5 @@ module _ {Z Y : Type 0} (ls : List (Vec (Primitive Z) Y)) where
       each_more h here = below_more (λ k. (d : List Prim) → P (get_or (lists_of ls) k d)) i h (λ d. rw (at_place d) here)
 
   module _ (i : ℕ) (end : length ls ≤ i) where
-    pub passed_all : (xs : List Prim) (ts : List (Vec (Primitive Z) Y)) → EachPasses xs (take i (lists_of ls)) (lists_of ts) → EachPasses xs (lists_of ls) (lists_of ts)
-    passed_all xs ts h = rw (take_all i (lists_of ls) (rw (count_lists ls) end)) at h
-
     pub each_all : (P : List Prim → Type 0) → ((k : ℕ) → k < i → (d : List Prim) → P (get_or (lists_of ls) k d)) → All P (lists_of ls)
     each_all P h k d l = h k (omega (arith, end, count_lists ls)) d

@@ -1,11 +1,10 @@
 -- Which element a value of the code is, and what commuting such values returns.
-use Rattle.std.specs.Prelude.{◌≡◌, List, [], Vec, map, length, Option, Some, None}
+use Rattle.std.specs.Prelude.{List, Vec, map, Option, Some, None}
 use Rattle.dm_prim.specs.Prims.{prim_of}
 use Rattle.dm_prim.specs.Rectangles.{CellRow}
 use Rattle.dm_element.specs.Elements as elements
-use Rattle.dm_element.specs.Elements.{Conflict, ElementCommutes, ElementListsCommute, effect_of, shadows_of, side_of, AreAlike}
+use Rattle.dm_element.specs.Elements.{Conflict, ElementCommutes, ElementListsCommute}
 use Rattle.dm_element.specs.Laws.{ElementLaws, ElementListLaws}
-use Rattle.dm_element.specs.declared.side.Side.TheVariants.{After}
 use Rattle.dm_element.specs.declared.element.Element.{Element}
 use Rattle.dm_element.specs.declared.element.Element.TheVariants.{Plain, Conflicted}
 
@@ -16,20 +15,6 @@ element_of (Conflicted c) = elements.Conflicted c
 
 abbrev pub elements_of : {Z : Type 0} → List (Element Z) → List elements.Element
 elements_of es = map element_of es
-
--- its side, its effect and its shadows, as a conflict has them
-abbrev pub parts_of : elements.Element → Conflict
-parts_of e = record { side = side_of e; effect = effect_of e; shadows = shadows_of e }
-
--- an element like e can have these parts: a plain one has one primitive and no shadow
-abbrev pub CanHave : elements.Element → Conflict → Type 0
-CanHave (elements.Plain p) c = (c.side ≡ After) × (length c.effect ≡ 1) × (c.shadows ≡ [])
-CanHave (elements.Conflicted d) c = c.side ≡ d.side
-
--- e' is like e, and has these parts
-pub record IsLike (e : elements.Element) (c : Conflict) (e' : elements.Element) : Type 0 where
-  pub alike : AreAlike e e'
-  pub parts : parts_of e' ≡ c
 
 -- c then d change places to the conflicts that are returned; where none are, they change places to nothing
 abbrev pub ConflictsCommuteTo : Conflict → Conflict → Option (Conflict × Conflict) → Type 0

@@ -77,16 +77,17 @@ impl<A: Allocator> Conflicted<A> {
         self.shadows.as_slice()
     }
 
-    /// What it does to a tree, where the rest is given up.
-    pub(crate) fn into_effect(self) -> Vec<Prim<A>, A>
-        ensures { prims_of result.items ≡ self.effect }
+    /// What it does to a tree, and its shadows.
+    pub(crate) fn into_parts(self) -> (Vec<Prim<A>, A>, Vec<Vec<Prim<A>, A>, A>)
+        ensures effect { prims_of result.0.items ≡ self.effect }
+        ensures shadows { lists_of result.1.items ≡ self.shadows }
     {
         let Conflicted {
             side: _,
             effect,
-            shadows: _,
+            shadows,
         } = self;
-        effect
+        (effect, shadows)
     }
 
     /// The same conflict with another allocator.

@@ -1,10 +1,11 @@
 //! Elements, over any allocator.
-ghost use Rattle.std.specs.Prelude.{◌≡◌, IfOk};
+ghost use Rattle.std.specs.Prelude.{◌≡◌, IfOk, MatchResult};
+ghost use Rattle.dm_prim.specs.Prims.{prim_of};
+ghost use Rattle.dm_element.specs.Elements as elements;
 ghost use Rattle.dm_element.specs.Elements.{inv_element};
-ghost use Rattle.dm_element.specs.Values.{element_of, parts_of, CanHave, IsLike};
+ghost use Rattle.dm_element.specs.Values.{element_of};
 
 use crate::conflicted::Conflicted;
-use crate::side::Side;
 use dm_prim::{Prim, invert};
 use std::alloc::{AllocError, Allocator};
 
@@ -44,35 +45,13 @@ impl<A: Allocator> Element<A> {
             Element::Conflicted(conflict) => Element::Conflicted(conflict.invert()),
         }
     }
-
-    /// A copy of its side, what it does and its shadows, as a conflict has them.
-    pub fn copy_parts<B: Allocator + Copy>(&self, alloc: B) -> Result<Conflicted<B>, AllocError>
-        ensures { IfOk result (λ parts. parts ≡ parts_of (element_of self.now)) }
+    /// The primitive or the conflict that it is. Takes no memory.
+    pub fn into_plain(self) -> Result<Prim<A>, Conflicted<A>>
+        ensures { MatchResult result (λ prim. element_of self ≡ elements.Plain (prim_of prim)) (λ conflict. element_of self ≡ elements.Conflicted conflict) }
     {
         match self {
-            Element::Plain(prim) => {
-                let mut effect = Vec::new(alloc);
-                effect.push(prim.copy_into(alloc)?)?;
-                Ok(Conflicted::new(Side::After, effect, Vec::new(alloc)))
-            }
-            Element::Conflicted(conflict) => conflict.copy_into(alloc),
-        }
-    }
-
-    /// An element like this one, with other parts.
-    pub(crate) fn with_parts<B: Allocator>(&self, parts: Conflicted<B>) -> Element<B>
-        requires { CanHave (element_of self.now) parts }
-        ensures { IsLike (element_of self.now) parts (element_of result) }
-    {
-        match self {
-            Element::Plain(_) => {
-                let mut effect = parts.into_effect();
-                let Some(prim) = effect.pop() else {
-                    unreachable!()
-                };
-                Element::Plain(prim)
-            }
-            Element::Conflicted(_) => Element::Conflicted(parts),
+            Element::Plain(prim) => Ok(prim),
+            Element::Conflicted(conflict) => Err(conflict),
         }
     }
 }

@@ -18,5 +18,5 @@ mod side;
 pub use conflicted::Conflicted;
 pub use element::Element;
 pub use list::commute_element_lists_owned;
-pub use pair::commute_elements;
+pub use pair::{commute_elements, commute_elements_owned};
 pub use side::Side;

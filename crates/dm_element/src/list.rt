@@ -3,13 +3,13 @@ ghost use Rattle.std.specs.Prelude.{IfOk};
 ghost use Rattle.dm_element.specs.Values.{element_of, elements_of, ElementPassesTo, ElementListsCommuteTo, ElementListLawsHold};
 
 use crate::element::Element;
-use crate::pair::commute_elements;
+use crate::pair::commute_elements_owned;
 use std::alloc::{AllocError, Allocator};
 use std::collections::VecDeque;
 
 /// For es then fs the lists fs', es' that do the same in that order; none where there is no rectangle
 /// of pairs that change places. An empty list changes places with every list. Takes as many steps as
-/// the product of the lengths.
+/// the product of the lengths, and memory where [`commute_elements_owned`] does.
 pub fn commute_element_lists_owned<A: Allocator + Copy>(
     alloc: A,
     es: Vec<Element<A>, A>,
@@ -50,7 +50,7 @@ fn pass<A: Allocator + Copy>(
         let Some(second) = row.pop_front() else {
             unreachable!()
         };
-        let Some((passed, moved)) = commute_elements(alloc, &first, &second)? else {
+        let Some((passed, moved)) = commute_elements_owned(alloc, first, second)? else {
             return Ok(None);
         };
         let Ok(()) = row.push_back(passed) else {

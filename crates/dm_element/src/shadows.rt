@@ -4,21 +4,23 @@ ghost use Rattle.dm_prim.specs.Prims.{prims_of};
 ghost use Rattle.dm_element.specs.Elements.{Merge, EachMerges};
 ghost use Rattle.dm_element.specs.Lists.{lists_of, EachPassesTo};
 
-use crate::copies::inverse_of;
-use dm_prim::{Prim, commute_lists};
+use crate::copies::{copy_prims, inverse_of};
+use dm_prim::{Prim, commute_lists, commute_lists_owned};
 use std::alloc::{AllocError, Allocator};
 
-/// What each becomes that passes `by`, in order; none where one doesn't pass.
+/// What each becomes that passes `by`, in order; none where one doesn't pass. A copy of `by` is taken
+/// for each.
 pub(crate) fn pass_each<A: Allocator + Copy>(
     alloc: A,
     by: &[Prim<A>],
-    shadows: &[Vec<Prim<A>, A>],
+    shadows: Vec<Vec<Prim<A>, A>, A>,
 ) -> Result<Option<Vec<Vec<Prim<A>, A>, A>>, AllocError>
-    ensures { IfOk result (EachPassesTo (prims_of by.now) (lists_of shadows.now)) }
+    ensures { IfOk result (EachPassesTo (prims_of by.now) (lists_of shadows.items)) }
 {
-    let mut turned = Vec::new(alloc);
+    let mut turned = Vec::with_capacity(alloc, shadows.len())?;
     for shadow in shadows {
-        let Some((passed, _rest)) = commute_lists(alloc, by, shadow.as_slice())? else {
+        let first = copy_prims(alloc, by)?;
+        let Some((passed, _rest)) = commute_lists_owned(alloc, first, shadow)? else {
             return Ok(None);
         };
         turned.push(passed)?;

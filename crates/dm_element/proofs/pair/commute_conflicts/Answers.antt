@@ -18,7 +18,7 @@ returns-in_default-2 g c d' c' h =
     ap (λ z. prims_of z) c.as_slice-2.ensures.value ∙ c.in_ok-backwards.ensures ∙
     ap inv_all (picked (λ z. prims_of z) c.side.result _ c.pick.result.now c.as_slice.result.now c.effect-3.result.now _ _ c.pick.ensures c.side.ensures (ap (λ z. prims_of z) c.as_slice.ensures.value) c.effect-3.ensures) in
     no_first c.args.e.now c.args.f.now (prims_of c.in-Some.second.items) (prims_of c.in-Some.first.items) effects d' c' h
-    (rw (c.in_default-2.is, by, c.shadows.ensures) at c.in_ok-first_shadows.ensures)
+    (rw (c.in_default-2.is, by, c.in_ok-copy_lists.ensures, c.shadows.ensures) at c.in_ok-first_shadows.ensures)
 
 pub returns-in_default-3 : goal.returns-in_default-3
 returns-in_default-3 g c d' c' h =
@@ -27,7 +27,7 @@ returns-in_default-3 g c d' c' h =
     let by : prims_of c.pick-forwards.result.now ≡ at_side c.args.f.now.side c.args.e.now.effect (prims_of c.in-Some.first.items) =
     picked (λ z. prims_of z) c.side-2.result _ c.pick-forwards.result.now c.effect-4.result.now c.as_slice-3.result.now _ _ c.pick-forwards.ensures c.side-2.ensures c.effect-4.ensures (ap (λ z. prims_of z) c.as_slice-3.ensures.value) in
     no_second c.args.e.now c.args.f.now (prims_of c.in-Some.second.items) (prims_of c.in-Some.first.items) effects d' c' h
-    (rw (c.in_default-3.is, by, c.shadows-2.ensures) at c.in_ok-second_shadows.ensures)
+    (rw (c.in_default-3.is, by, c.in_ok-copy_lists-2.ensures, c.shadows-2.ensures) at c.in_ok-second_shadows.ensures)
 
 pub returns-then-not-branch : goal.returns-then-not-branch
 returns-then-not-branch g c d' c' h =
@@ -44,8 +44,8 @@ returns-then-not-branch g c d' c' h =
     picked (λ z. lists_of z) c.side-4.result _ c.pick-others.result.now c.as_slice-5.result.now c.shadows-4.result.now _ _ c.pick-others.ensures c.side-4.ensures (ap (λ z. lists_of z) c.as_slice-5.ensures.value) c.shadows-4.ensures in
     no_merge c.args.e.now c.args.f.now (prims_of c.in-Some.second.items) (prims_of c.in-Some.first.items) effects d' c' h
     (lists_of c.in-Some-2.first_shadows.items) (lists_of c.in-Some-3.second_shadows.items)
-    (rw (c.in-Some-2.is, by, c.shadows.ensures) at c.in_ok-first_shadows.ensures)
-    (rw (c.in-Some-3.is, by2, c.shadows-2.ensures) at c.in_ok-second_shadows.ensures)
+    (rw (c.in-Some-2.is, by, c.in_ok-copy_lists.ensures, c.shadows.ensures) at c.in_ok-first_shadows.ensures)
+    (rw (c.in-Some-3.is, by2, c.in_ok-copy_lists-2.ensures, c.shadows-2.ensures) at c.in_ok-second_shadows.ensures)
     (λ m. let y : c.in_ok-each_merges.field-0 ≡ true = c.in_ok-each_merges.ensures.1 (rw (ones, others) m) in let w : ⊥ = cc in w)
 
 pub returns : goal.returns
@@ -66,6 +66,6 @@ returns g c =
     (record { side = c.args.f.now.side; effect = prims_of c.in-Some.second.items; shadows = lists_of c.in-Some-3.second_shadows.items })
     (record { side = c.args.e.now.side; effect = prims_of c.in-Some.first.items; shadows = lists_of c.in-Some-2.first_shadows.items })
     refl refl effects
-    (rw (c.in-Some-2.is, by, c.shadows.ensures) at c.in_ok-first_shadows.ensures)
-    (rw (c.in-Some-3.is, by2, c.shadows-2.ensures) at c.in_ok-second_shadows.ensures)
+    (rw (c.in-Some-2.is, by, c.in_ok-copy_lists.ensures, c.shadows.ensures) at c.in_ok-first_shadows.ensures)
+    (rw (c.in-Some-3.is, by2, c.in_ok-copy_lists-2.ensures, c.shadows-2.ensures) at c.in_ok-second_shadows.ensures)
     (rw (ones, others) at (c.in_ok-each_merges.ensures.0 y)))
