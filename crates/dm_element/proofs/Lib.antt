@@ -4,3 +4,5 @@ pub mod ElementLemmas
 pub mod ConflictLemmas
 pub mod RowLemmas
 pub mod ListLemmas
+pub mod SettledLemmas
+pub mod SettledLawLemmas

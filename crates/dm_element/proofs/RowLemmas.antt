@@ -8,7 +8,7 @@ empty_of : {X : Type 0} (xs : List X) → length xs ≤ 0 → xs ≡ []
 empty_of [] l = refl
 empty_of (x ∷ xs) l = absurd (omega arith)
 
-ends_in : {X : Type 0} (xs : List X) → 0 < length xs → (front : List X) × (x : X) × (xs ≡ front ++ x ∷ [])
+pub ends_in : {X : Type 0} (xs : List X) → 0 < length xs → (front : List X) × (x : X) × (xs ≡ front ++ x ∷ [])
 ends_in [] l = absurd (omega arith)
 ends_in (x ∷ []) l = ([], x, refl)
 ends_in (x ∷ y ∷ xs) l = let r = ends_in (y ∷ xs) (omega arith) in (x ∷ r.0, r.1, ap (λ z. x ∷ z) r.2)

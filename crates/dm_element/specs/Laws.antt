@@ -1,8 +1,9 @@
 -- What holds of all elements that change places, and of all lists of them.
-use Rattle.std.specs.Prelude.{◌≡◌, ◌↔◌, List, length, map}
+use Rattle.std.specs.Prelude.{◌≡◌, ◌↔◌, ℕ, List, [], ◌∷◌, ◌++◌, length, map, All}
 use Rattle.dm_prim.specs.Primitives.{Prim, inv_all, LawfulMap, LeadsAll}
 use Rattle.dm_prim.specs.Commuting.{Commutes, ListsCommute}
-use Rattle.dm_element.specs.Elements.{Element, Plain, effect_of, effects_of, shadows_of, AreAlike, inv_element, inv_elements, ElementCommutes, ElementListsCommute}
+use Rattle.dm_element.specs.Elements.{Element, Plain, Conflicted, effect_of, effects_of, shadows_of, AreAlike, inv_element, inv_elements, ElementCommutes, ElementListsCommute}
+use Rattle.dm_element.specs.Settled.{Patch, IsSettledPatch, AreSettled, IsFirstUnsettled}
 
 -- what holds of a pair that changes places
 pub record ElementLaws (e f f' e' : Element) : Type 0 where
@@ -72,3 +73,20 @@ EffectsCommute = (es fs fs' es' : List Element) → ElementListsCommute es fs fs
 abbrev pub CommutedElementsEndAlike : Type 0
 CommutedElementsEndAlike = (es fs fs' es' : List Element) → ElementListsCommute es fs fs' es' → (s u z : LawfulMap) → LeadsAll (effects_of es) s u → LeadsAll (effects_of fs) u z →
     (m : LawfulMap) × LeadsAll (effects_of fs') s m × LeadsAll (effects_of es') m z
+
+-- an element that is no conflict
+abbrev pub IsPlain : Element → Type 0
+IsPlain (Plain p) = Unit {0}
+IsPlain (Conflicted c) = ⊥
+
+-- patches of primitives alone are settled
+abbrev pub PlainPatchesAreSettled : Type 0
+PlainPatchesAreSettled = (ps : List Patch) → All (λ p. All IsPlain p.elements) ps → AreSettled ps
+
+-- one more patch unsettles none before it: all are settled exactly if the new one is, with nothing after it
+abbrev pub SettledPatchesStay : Type 0
+SettledPatchesStay = (ps : List Patch) (p : Patch) → AreSettled ps → AreSettled (ps ++ p ∷ []) ↔ IsSettledPatch (length ps) p []
+
+-- at most one place is that of the first that isn't settled, and there is none where all are settled
+abbrev pub OneFirstUnsettled : Type 0
+OneFirstUnsettled = (ps : List Patch) (m : ℕ) → IsFirstUnsettled ps m → (¬ AreSettled ps) × ((n : ℕ) → IsFirstUnsettled ps n → m ≡ n)

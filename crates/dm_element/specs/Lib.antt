@@ -1,4 +1,5 @@
 pub mod Elements
 pub mod Laws
 pub mod Lists
+pub mod Settled
 pub mod Values

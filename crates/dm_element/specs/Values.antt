@@ -6,7 +6,9 @@ use Rattle.dm_element.specs.Elements as elements
 use Rattle.dm_element.specs.Elements.{Conflict, ElementCommutes, ElementListsCommute}
 use Rattle.dm_element.specs.Laws.{ElementLaws, ElementListLaws}
 use Rattle.dm_element.specs.declared.element.Element.{Element}
+use Rattle.dm_element.specs.Settled as settled
 use Rattle.dm_element.specs.declared.element.Element.TheVariants.{Plain, Conflicted}
+use Rattle.dm_element.specs.declared.settled.Patch.{Patch}
 
 -- the element that a value is
 abbrev pub element_of : {Z : Type 0} → Element Z → elements.Element
@@ -45,3 +47,15 @@ ElementListsCommuteTo es fs (Some r) = ElementListsCommute es fs (elements_of r.
 abbrev pub ElementListLawsHold : {Z Y : Type 0} → List elements.Element → List elements.Element → Option (Vec (Element Z) Y × Vec (Element Z) Y) → Type 0
 ElementListLawsHold es fs None = Unit {0}
 ElementListLawsHold es fs (Some r) = ElementListLaws es fs (elements_of r.0.items) (elements_of r.1.items)
+
+-- e passes all of fs and is then the one that is returned; where none is, it does not pass
+abbrev pub PassesOver : {Z : Type 0} → elements.Element → List elements.Element → Option (Element Z) → Type 0
+PassesOver e fs None = (ys : List elements.Element) (x : elements.Element) → CellRow ElementCommutes e fs ys x → ⊥
+PassesOver e fs (Some e') = (ys : List elements.Element) × CellRow ElementCommutes e fs ys (element_of e')
+
+-- the patch that a value is
+abbrev pub patch_of : {Z : Type 0} → Patch Z → settled.Patch
+patch_of p = record { elements = elements_of p.elements.now; names = p.names.now }
+
+abbrev pub patches_of : {Z : Type 0} → List (Patch Z) → List settled.Patch
+patches_of ps = map patch_of ps

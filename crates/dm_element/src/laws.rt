@@ -1,6 +1,6 @@
-//! The laws of the definitions alone, for all elements. Each call does nothing; whoever calls it knows
+//! The laws of the definitions alone, for all elements and all lists of patches. Each call does nothing; whoever calls it knows
 //! the law from there on.
-ghost use Rattle.dm_element.specs.Laws.{ElementsCommuteBack, ElementsCommutePastAnInverse, OneWayToCommuteElements, ElementsKeepTheirShape, PlainElementsCommute, InversesUndoEffects, ElementListsCommuteBack, ElementListsCommutePastAnInverse, ElementRectanglesTurn, OneWayToCommuteElementLists, ListInversesUndoEffects, EffectsCommute, CommutedElementsEndAlike};
+ghost use Rattle.dm_element.specs.Laws.{ElementsCommuteBack, ElementsCommutePastAnInverse, OneWayToCommuteElements, ElementsKeepTheirShape, PlainElementsCommute, InversesUndoEffects, ElementListsCommuteBack, ElementListsCommutePastAnInverse, ElementRectanglesTurn, OneWayToCommuteElementLists, ListInversesUndoEffects, EffectsCommute, CommutedElementsEndAlike, PlainPatchesAreSettled, SettledPatchesStay, OneFirstUnsettled};
 
 /// Two elements that changed places change places back to what they were.
 pub fn commuting_elements_back()
@@ -68,4 +68,20 @@ pub fn effects_commute()
 /// lists that they change places to.
 pub fn commuted_elements_end_alike()
     ensures { CommutedElementsEndAlike }
+{}
+
+/// Patches of primitives alone are settled.
+pub fn plain_patches_are_settled()
+    ensures { PlainPatchesAreSettled }
+{}
+
+/// Where all patches of a list are settled, and one more is added at its end, all are settled exactly
+/// if that one is, with nothing after it.
+pub fn settled_patches_stay()
+    ensures { SettledPatchesStay }
+{}
+
+/// At most one place is that of the first patch that isn't settled, and none where all are settled.
+pub fn one_first_unsettled()
+    ensures { OneFirstUnsettled }
 {}

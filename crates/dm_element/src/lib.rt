@@ -3,7 +3,9 @@
 //! It stands on `dm_prim`. A conflicted element changes a tree by its effect, a list of primitives, and carries shadows: lists of
 //! primitives that all start at one tree, the one after it or the one before it. Where two elements change places their effects
 //! do, and each shadow passes the other element's effect. [`commute_elements`] returns what this relates, and none only where it
-//! relates nothing; [`commute_element_lists_owned`] does the same for lists. The laws of all elements stand in [`laws`].
+//! relates nothing; [`commute_element_lists_owned`] does the same for lists. [`find_unsettled`] returns the place of the first patch
+//! of a list with a conflict that nothing after it settles, and none only where all are settled. The laws of all elements, and of
+//! all lists of patches, stand in [`laws`].
 #![tactic(auto)]
 
 mod conflicted;
@@ -12,6 +14,7 @@ mod element;
 pub mod laws;
 mod list;
 mod pair;
+mod settled;
 mod shadows;
 mod side;
 
@@ -19,4 +22,5 @@ pub use conflicted::Conflicted;
 pub use element::Element;
 pub use list::commute_element_lists_owned;
 pub use pair::{commute_elements, commute_elements_owned};
+pub use settled::{Patch, find_unsettled};
 pub use side::Side;
