@@ -6,7 +6,7 @@ use Rattle.std.proofs.lemmas.Bool.{cases_order}
 use Rattle.std.proofs.lemmas.List.{drop_more, take-append-drop, length-take-le, same_from_push}
 use Rattle.dm_element.specs.Elements.{Conflicted}
 use Rattle.dm_element.specs.Settled.{Patch, elements_in, IsNamed, IsSettled, IsSettledPatch, IsUnsettledPatch, AreSettled, IsFirstUnsettled}
-use Rattle.dm_element.specs.Laws.{IsPlain, PlainPatchesAreSettled, SettledPatchesStay, OneFirstUnsettled}
+use Rattle.dm_element.specs.Laws.{IsPlainElement, PlainPatchesAreSettled, SettledPatchesStay, OneFirstUnsettled}
 use Rattle.dm_element.proofs.RowLemmas.{ends_in}
 use Rattle.dm_element.proofs.SettledLemmas.{same_parts, passes_front, elements_in-append}
 
@@ -42,9 +42,9 @@ settled_stay ps p h = (λ k. k ps [] p refl, stays ps p h)
 
 pub plain_settled : PlainPatchesAreSettled
 plain_settled ps h before later p w front rest c e =
-    let a : All IsPlain p.elements = rw (ap (λ z. get_or z (length before) p) w ∙ get_or-append_seam before p later p) at
+    let a : All IsPlainElement p.elements = rw (ap (λ z. get_or z (length before) p) w ∙ get_or-append_seam before p later p) at
     (h (length before) p (let k : length ps ≡ length before + length (p ∷ later) = ap length w ∙ length-append before (p ∷ later) in omega (arith, k))) in
-    let b : IsPlain (Conflicted c) = rw (ap (λ z. get_or z (length front) (Conflicted c)) e ∙ get_or-append_seam front (Conflicted c) rest (Conflicted c)) at
+    let b : IsPlainElement (Conflicted c) = rw (ap (λ z. get_or z (length front) (Conflicted c)) e ∙ get_or-append_seam front (Conflicted c) rest (Conflicted c)) at
     (a (length front) (Conflicted c) (let k : length p.elements ≡ length front + length (Conflicted c ∷ rest) = ap length e ∙ length-append front (Conflicted c ∷ rest) in omega (arith, k))) in
     absurd b
 

@@ -1,5 +1,5 @@
 -- Shadows that pass a list, and shadows that merge.
-use Rattle.std.proofs.Common.{◌≡◌, ℕ, suc, ◌+◌, ◌<◌, ◌≤◌, List, [], ◌∷◌, ◌++◌, Vec, length, map, get_or, All, ap, ap₂, sym, refl, ◌∙◌, append-nil, arith}
+use Rattle.std.proofs.Common.{◌≡◌, ℕ, suc, ◌+◌, ◌<◌, ◌≤◌, List, [], ◌∷◌, ◌++◌, Vec, length, map, get_or, All, Any, ◌⊎◌, inl, inr, ap, ap₂, sym, refl, ◌∙◌, append-nil, arith}
 use borrow.Author.Count.{below_more}
 use Rattle.std.proofs.lemmas.List.{map_push, map-append, get_or-map}
 use Rattle.dm_prim.specs.Rectangles.{CellRow, Rectangle, empty, row}
@@ -10,6 +10,7 @@ use Rattle.dm_prim.specs.Prims.{prims_of}
 use Rattle.dm_prim.specs.declared.primitive.Primitive.{Primitive}
 use Rattle.dm_prim.proofs.LawProofs.{lists_past_inverse, rectangles_turn, inv_all-inv_all}
 use Rattle.dm_prim.proofs.Single.{lists_one}
+use Rattle.dm_element.specs.Laws.{MergingTurns}
 use Rattle.dm_element.specs.Lists.{lists_of}
 use Rattle.dm_element.proofs.CopyLemmas.{count}
 use Rattle.dm_element.specs.Elements.{Passes, EachPasses, none, next, Merge, EachMerges}
@@ -35,8 +36,15 @@ merge_turn {m} {k} h =
     let c : ListsCommute (inv_all m) k h.second (inv_all (inv_all h.first)) = rw (inv_all-inv_all h.first) h.commute in
     record { second = inv_all h.first; first = inv_all h.second; commute = rectangles_turn m k h.second (inv_all h.first) c }
 
+pub merges_turn : MergingTurns
+merges_turn m k h = merge_turn h
+
 pub each_merges_turn : (ms ks : List (List Prim)) → EachMerges ms ks → EachMerges ks ms
 each_merges_turn ms ks h j d l i c n = merge_turn (h i c n j d l)
+
+pub neither : {X Y : Type 0} → (X → ⊥) → (Y → ⊥) → X ⊎ Y → ⊥
+neither n k (inl x) = n x
+neither n k (inr y) = k y
 
 -- lists that commute keep their lengths
 row_length : {x x' : Prim} {ys ys' : List Prim} → CellRow Commutes x ys ys' x' → length ys' ≡ length ys
@@ -88,6 +96,9 @@ module _ {Z Y : Type 0} (ls : List (Vec (Primitive Z) Y)) where
     at_place : (d : List Prim) → get_or (lists_of ls) i d ≡ prims_of l.items
     at_place d = let read : Vec (Primitive Z) Y → List Prim = λ v. prims_of v.items in get_or-map read ls i l d below ∙ sym (ap read is)
 
+    pub any_at : (P : List Prim → Type 0) → P (prims_of l.items) → Any P (lists_of ls)
+    any_at P h = (i, prims_of l.items, rw (count_lists ls) below, at_place (prims_of l.items), h)
+
     -- what holds of each list
     module _ (P : List Prim → Type 0) where
       pub each_at : All P (lists_of ls) → P (prims_of l.items)
@@ -99,3 +110,6 @@ module _ {Z Y : Type 0} (ls : List (Vec (Primitive Z) Y)) where
   module _ (i : ℕ) (end : length ls ≤ i) where
     pub each_all : (P : List Prim → Type 0) → ((k : ℕ) → k < i → (d : List Prim) → P (get_or (lists_of ls) k d)) → All P (lists_of ls)
     each_all P h k d l = h k (omega (arith, end, count_lists ls)) d
+
+    pub none_of : (P : List Prim → Type 0) → ((k : ℕ) → k < i → (d : List Prim) → P (get_or (lists_of ls) k d)) → Any (λ m. P m → ⊥) (lists_of ls) → ⊥
+    none_of P h (k, x, l, e, n) = n (rw e at (h k (omega (arith, end, l, count_lists ls)) x))

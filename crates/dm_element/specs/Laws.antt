@@ -2,7 +2,7 @@
 use Rattle.std.specs.Prelude.{◌≡◌, ◌↔◌, ℕ, List, [], ◌∷◌, ◌++◌, length, map, All}
 use Rattle.dm_prim.specs.Primitives.{Prim, inv_all, LawfulMap, LeadsAll}
 use Rattle.dm_prim.specs.Commuting.{Commutes, ListsCommute}
-use Rattle.dm_element.specs.Elements.{Element, Plain, Conflicted, effect_of, effects_of, shadows_of, AreAlike, inv_element, inv_elements, ElementCommutes, ElementListsCommute}
+use Rattle.dm_element.specs.Elements.{Element, Plain, Conflicted, effect_of, effects_of, shadows_of, AreAlike, inv_element, inv_elements, ElementCommutes, ElementListsCommute, Merge}
 use Rattle.dm_element.specs.Settled.{Patch, IsSettledPatch, AreSettled, IsFirstUnsettled}
 
 -- what holds of a pair that changes places
@@ -75,13 +75,13 @@ CommutedElementsEndAlike = (es fs fs' es' : List Element) → ElementListsCommut
     (m : LawfulMap) × LeadsAll (effects_of fs') s m × LeadsAll (effects_of es') m z
 
 -- an element that is no conflict
-abbrev pub IsPlain : Element → Type 0
-IsPlain (Plain p) = Unit {0}
-IsPlain (Conflicted c) = ⊥
+abbrev pub IsPlainElement : Element → Type 0
+IsPlainElement (Plain p) = Unit {0}
+IsPlainElement (Conflicted c) = ⊥
 
 -- patches of primitives alone are settled
 abbrev pub PlainPatchesAreSettled : Type 0
-PlainPatchesAreSettled = (ps : List Patch) → All (λ p. All IsPlain p.elements) ps → AreSettled ps
+PlainPatchesAreSettled = (ps : List Patch) → All (λ p. All IsPlainElement p.elements) ps → AreSettled ps
 
 -- one more patch unsettles none before it: all are settled exactly if the new one is, with nothing after it
 abbrev pub SettledPatchesStay : Type 0
@@ -90,3 +90,7 @@ SettledPatchesStay = (ps : List Patch) (p : Patch) → AreSettled ps → AreSett
 -- at most one place is that of the first that isn't settled, and there is none where all are settled
 abbrev pub OneFirstUnsettled : Type 0
 OneFirstUnsettled = (ps : List Patch) (m : ℕ) → IsFirstUnsettled ps m → (¬ AreSettled ps) × ((n : ℕ) → IsFirstUnsettled ps n → m ≡ n)
+
+-- lists that merge, merge in either order
+abbrev pub MergingTurns : Type 0
+MergingTurns = (m k : List Prim) → Merge m k → Merge k m

@@ -1,5 +1,6 @@
 pub mod Elements
 pub mod Laws
 pub mod Lists
+pub mod Reasons
 pub mod Settled
 pub mod Values

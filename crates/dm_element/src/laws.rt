@@ -1,6 +1,6 @@
 //! The laws of the definitions alone, for all elements and all lists of patches. Each call does nothing; whoever calls it knows
 //! the law from there on.
-ghost use Rattle.dm_element.specs.Laws.{ElementsCommuteBack, ElementsCommutePastAnInverse, OneWayToCommuteElements, ElementsKeepTheirShape, PlainElementsCommute, InversesUndoEffects, ElementListsCommuteBack, ElementListsCommutePastAnInverse, ElementRectanglesTurn, OneWayToCommuteElementLists, ListInversesUndoEffects, EffectsCommute, CommutedElementsEndAlike, PlainPatchesAreSettled, SettledPatchesStay, OneFirstUnsettled};
+ghost use Rattle.dm_element.specs.Laws.{ElementsCommuteBack, ElementsCommutePastAnInverse, OneWayToCommuteElements, ElementsKeepTheirShape, PlainElementsCommute, InversesUndoEffects, ElementListsCommuteBack, ElementListsCommutePastAnInverse, ElementRectanglesTurn, OneWayToCommuteElementLists, ListInversesUndoEffects, EffectsCommute, CommutedElementsEndAlike, PlainPatchesAreSettled, SettledPatchesStay, OneFirstUnsettled, MergingTurns};
 
 /// Two elements that changed places change places back to what they were.
 pub fn commuting_elements_back()
@@ -84,4 +84,9 @@ pub fn settled_patches_stay()
 /// At most one place is that of the first patch that isn't settled, and none where all are settled.
 pub fn one_first_unsettled()
     ensures { OneFirstUnsettled }
+{}
+
+/// Two lists of primitives that merge, merge in either order.
+pub fn merging_turns()
+    ensures { MergingTurns }
 {}

@@ -4,8 +4,9 @@
 //! primitives that all start at one tree, the one after it or the one before it. Where two elements change places their effects
 //! do, and each shadow passes the other element's effect. [`commute_elements`] returns what this relates, and none only where it
 //! relates nothing; [`commute_element_lists_owned`] does the same for lists. [`find_unsettled`] returns the place of the first patch
-//! of a list with a conflict that nothing after it settles, and none only where all are settled. The laws of all elements, and of
-//! all lists of patches, stand in [`laws`].
+//! of a list with a conflict that nothing after it settles, and none only where all are settled. [`lists_merge`] says whether two
+//! lists that start at one tree merge, and [`has_reason`] whether a conflict is one. The laws of all elements, and of all lists of
+//! patches, stand in [`laws`].
 #![tactic(auto)]
 
 mod conflicted;
@@ -13,6 +14,7 @@ mod copies;
 mod element;
 pub mod laws;
 mod list;
+mod merge;
 mod pair;
 mod settled;
 mod shadows;
@@ -21,6 +23,7 @@ mod side;
 pub use conflicted::Conflicted;
 pub use element::Element;
 pub use list::commute_element_lists_owned;
+pub use merge::{has_reason, lists_merge};
 pub use pair::{commute_elements, commute_elements_owned};
 pub use settled::{Patch, find_unsettled};
 pub use side::Side;
