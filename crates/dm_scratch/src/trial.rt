@@ -48,6 +48,22 @@ fn take_owned<A: Allocator + Copy>(
     }
 }
 
+/// Takes a bundle that was read in the repository's own memory: its patches are moved. So its text can be given up before the tree
+/// is made.
+pub fn take_read<A: Allocator + Copy>(
+    repo: &mut Repo<A>,
+    alloc: A,
+    bundle: Bundle<A>,
+    policy: Policy,
+) -> Verdict
+    ensures { TakesBundle repo.old.patches bundle policy result repo.new.patches }
+{
+    match take_owned(repo, alloc, bundle, policy) {
+        Ok(verdict) => verdict,
+        Err(refusal) => Verdict::Refused(refusal),
+    }
+}
+
 /// Takes the bundle of a text that is read within these limits, without an arena: all that the text and the trial need is made
 /// in the memory of the repository, whose allocator `alloc` is.
 ///
@@ -66,10 +82,7 @@ pub fn take_within<A: Allocator + Copy>(
         Ok(bundle) => bundle,
         Err(fault) => return Verdict::unread(fault),
     };
-    match take_owned(repo, alloc, bundle, policy) {
-        Ok(verdict) => verdict,
-        Err(refusal) => Verdict::Refused(refusal),
-    }
+    take_read(repo, alloc, bundle, policy)
 }
 
 /// Takes the bundle of a text into a repository, with an arena for all that is tried.

@@ -5,6 +5,7 @@ pub mod FoldLemmas
 pub mod StoredLemmas
 pub mod OnceLemmas
 pub mod WholeLemmas
+pub mod AgainLemmas
 pub mod KeptKinds
 pub mod KeptBase
 pub mod WideLemmas

@@ -4,4 +4,5 @@ pub mod Growth
 pub mod Keeping
 pub mod LettingGo
 pub mod Opening
+pub mod WholeEntries
 pub mod Laws

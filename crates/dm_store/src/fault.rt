@@ -1,8 +1,9 @@
 //! Why a store could not be opened.
 ghost use Rattle.std.specs.Prelude.{◌≡◌};
-ghost use Rattle.dm_store.specs.declared.fault.StoreError.TheVariants.{Journal as OpeningJournal};
+ghost use Rattle.dm_store.specs.declared.fault.StoreError.TheVariants.{Journal as OpeningJournal, NoMemory};
 
 use dm_journal::OpenError;
+use std::alloc::AllocError;
 use thiserror::Error;
 
 /// Why a store was not opened.
@@ -24,5 +25,13 @@ impl From<OpenError> for StoreError {
 
     fn from(error: OpenError) -> Self {
         StoreError::Journal(error)
+    }
+}
+
+impl From<AllocError> for StoreError {
+    ghost from_gives = { λ _ e. e ≡ NoMemory };
+
+    fn from(_: AllocError) -> Self {
+        StoreError::NoMemory
     }
 }

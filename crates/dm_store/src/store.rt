@@ -74,13 +74,14 @@ impl<D: Device> Store<D> {
             Ok(opened) => opened,
             Err((error, device)) => return Err((StoreError::Journal(error), device)),
         };
-        match take_again(alloc, kinds_of(journal.format()), &entries) {
+        let growth = growth_of(&entries);
+        match take_again(alloc, kinds_of(journal.format()), entries) {
             Ok(TakenAgain { repo, base, arena }) => Ok(Store {
                 journal,
                 repo,
                 base,
                 arena,
-                growth: growth_of(&entries),
+                growth,
             }),
             Err(error) => Err((error, journal.device)),
         }

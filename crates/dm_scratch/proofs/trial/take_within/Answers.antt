@@ -6,12 +6,7 @@ use Rattle.dm_scratch.proofs.trial.take_within.Goals as goal
 pub returns-in-Err : goal.returns-in-Err
 returns-in-Err g c = unread_takes c.args.limits c.args.repo.now.patches c.args.text.now c.in-Err.fault c.args.policy c.unread.result c.args.repo.now.patches c.in-Err.ensures.err c.unread.ensures refl
 
-pub returns-in-Ok-take_owned : goal.returns-in-Ok-take_owned
-returns-in-Ok-take_owned g c =
+pub returns : goal.returns
+returns g c =
     let b = c.in-Ok.bundle in
-    bundle b (reads c.args.limits c.args.text.now b c.in-Ok.ensures.ok c.in-Ok.ensures.few (λ large. no_err b _ (c.in-Ok.ensures.too_large large))) c.in-Ok-take_owned.ensures.ok
-
-pub returns-in-Err-take_owned : goal.returns-in-Err-take_owned
-returns-in-Err-take_owned g c =
-    let b = c.in-Ok.bundle in
-    bundle b (reads c.args.limits c.args.text.now b c.in-Ok.ensures.ok c.in-Ok.ensures.few (λ large. no_err b _ (c.in-Ok.ensures.too_large large))) c.in-Err-take_owned.ensures.err
+    bundle b (reads c.args.limits c.args.text.now b c.in-Ok.ensures.ok c.in-Ok.ensures.few (λ large. no_err b _ (c.in-Ok.ensures.too_large large))) c.take_read.ensures
