@@ -2,3 +2,4 @@ pub mod MirrorLemmas
 pub mod NamedLemmas
 pub mod LettingGoLemmas
 pub mod ChoosingLemmas
+pub mod DoneLemmas

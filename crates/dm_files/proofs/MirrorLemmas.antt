@@ -1,32 +1,28 @@
 -- What was delivered, told with less of the texts that came.
-use Rattle.std.proofs.Common.{◌≡◌, ◌++◌, ◌↔◌, ◌⊎◌, inl, inr, ⊎_elim, ℕ, List, [], ◌∷◌, Bool, All, IsTrue, Result, Ok, Err, IfOk, IfErr, length, refl, subst, sym, append-nil, ap}
+use Rattle.std.proofs.Common.{◌≡◌, ◌++◌, ◌↔◌, ◌⊎◌, inl, inr, ⊎_elim, ℕ, List, [], ◌∷◌, Bool, All, IsTrue, Result, Ok, Err, IfOk, IfErr, subst, sym, ap, refl}
 use Rattle.dm_named.specs.declared.limits.Kinds.{Kinds}
 use Rattle.dm_repo.specs.declared.policy.Policy.{Policy}
 use Rattle.dm_journal.specs.declared.fault.WriteError.{WriteError}
-use Rattle.dm_journal.specs.Device.{LeavesOnly}
+use Rattle.dm_journal.specs.Device.{LeavesOnly, Moment}
 use Rattle.dm_store.specs.declared.store.Store.{Store}
-use Rattle.dm_store.specs.Keeping.{CrashesKeep, IsStored, KeepsRepo, Kept, kept_in}
+use Rattle.dm_store.specs.Keeping.{KeepsRepo, Kept, kept_in}
 use Rattle.dm_store.specs.Kinds.{kinds_in}
-use Rattle.dm_store.proofs.StoredLemmas.{at_rest, crashes_keep, weakened}
+use Rattle.dm_store.proofs.StoredLemmas.{weakened}
 use Rattle.dm_deliver.specs.declared.answers.Answer.{Answer}
 use Rattle.dm_deliver.specs.declared.bundle_rule.BundleRule.{BundleRule}
 use Rattle.dm_deliver.specs.declared.fault.AnswerError.{AnswerError}
 use Rattle.dm_deliver.specs.declared.fault.AnswerError.TheVariants.{Store as OfStore, NoMemory, Write}
 use Rattle.dm_deliver.specs.Outputs.{Output}
 use Rattle.dm_deliver.specs.Answering.{Answers, AnswersEach, IsAcceptedAnswer, IsOfStore, LeavesUnanswered, Saying}
-use Rattle.dm_deliver.specs.Delivering.{Delivers, DeliversAllBut, DeliversButLast, KeepsFirst, KeepsSome}
+use Rattle.dm_deliver.specs.Delivering.{Delivers, DeliversAllBut, DeliversButLast, KeepsSome}
 use Rattle.dm_deliver.proofs.DeliverLemmas.{all_are_first, answers_more}
 use Rattle.dm_deliver.proofs.Runs.{followed}
 use Rattle.dm_files.specs.declared.word_fault.WordFault.{WordFault}
 use Rattle.dm_files.specs.declared.delivering.Stop.{Stop}
 use Rattle.dm_files.specs.declared.delivering.Stop.TheVariants.{Mirror, Beside}
-use Rattle.dm_disk.specs.Events.{Event}
-use Rattle.dm_disk.specs.States.{may_leave}
-use Rattle.dm_words.specs.declared.request.Apply.{Apply}
-use Rattle.dm_files.specs.Named.{CameAsNamed, darcs_rule, policy_for, rule_for}
-use Rattle.dm_files.specs.Mirrors.{AnswersAll, AnswersSome, DeliversBy, IsApplied, LeavesAnswered, MayGoOn}
+use Rattle.dm_files.specs.Mirrors.{AnswersSome, DeliversBy, MayGoOn}
 
-module _ {D : Type 0} {moment : D → ℕ} {left_since : D → ℕ → List ℕ → Type 0} {Says : Saying} {policy : Policy} {rule : BundleRule} where
+module _ {D : Type 0} {moment : D → Moment} {left_since : D → ℕ → List ℕ → Type 0} {Says : Saying} {policy : Policy} {rule : BundleRule} where
   pub delivered_less : {Gave Told : List (List ℕ) → Type 0} {old new : Store D} {before now : Output} → ((texts : List (List ℕ)) → Gave texts → Told texts)
       → Delivers moment left_since Says Gave policy rule old new before now → Delivers moment left_since Says Told policy rule old new before now
   delivered_less less d = record {
@@ -99,7 +95,7 @@ abbrev why_of : WriteError → Stop → WriteError
 why_of otherwise (Mirror why) = why
 why_of otherwise (Beside fault) = otherwise
 
-pub by_checkpoint : {D : Type 0} (seen : D → List ℕ) (moment : D → ℕ) (left_since : D → ℕ → List ℕ → Type 0) (faults : D → ℕ) (Says : Saying) (Gave Told : List (List ℕ) → Type 0) (policy : Policy) (rule : BundleRule) (old new : Store D) (before now : Output) (fault : WriteError)
+pub by_checkpoint : {D : Type 0} (seen : D → List ℕ) (moment : D → Moment) (left_since : D → ℕ → List ℕ → Type 0) (faults : D → ℕ) (Says : Saying) (Gave Told : List (List ℕ) → Type 0) (policy : Policy) (rule : BundleRule) (old new : Store D) (before now : Output) (fault : WriteError)
     → ((texts : List (List ℕ)) → Gave texts → Told texts)
     → DeliversAllBut moment left_since faults Says Gave policy rule fault old new before now → DeliversBy seen moment left_since faults Says Told policy rule (Mirror fault) old new before now
 by_checkpoint seen moment left_since faults Says Gave Told policy rule old new before now fault less d = record {
@@ -108,7 +104,7 @@ by_checkpoint seen moment left_since faults Says Gave Told policy rule old new b
 }
 
 -- a text has no answer
-pub by_answer : {D : Type 0} (seen : D → List ℕ) (moment : D → ℕ) (left_since : D → ℕ → List ℕ → Type 0) (faults : D → ℕ) (Says : Saying) (Gave Told : List (List ℕ) → Type 0) (policy : Policy) (rule : BundleRule) (old new : Store D) (before now : Output) (stop : Stop) (error : AnswerError)
+pub by_answer : {D : Type 0} (seen : D → List ℕ) (moment : D → Moment) (left_since : D → ℕ → List ℕ → Type 0) (faults : D → ℕ) (Says : Saying) (Gave Told : List (List ℕ) → Type 0) (policy : Policy) (rule : BundleRule) (old new : Store D) (before now : Output) (stop : Stop) (error : AnswerError)
     → (MayGoOn stop → IsOfStore error → ⊥) → ((why : WriteError) → stop ≡ Mirror why → error ≡ OfStore why) → ((texts : List (List ℕ)) → Gave texts → Told texts)
     → DeliversButLast seen moment left_since faults Says Gave policy rule error old new before now → DeliversBy seen moment left_since faults Says Told policy rule stop old new before now
 by_answer seen moment left_since faults Says Gave Told policy rule old new before now stop error other same less d = record {
@@ -121,6 +117,10 @@ pub if_ok : {T E : Type 0} {P Q : T → Type 0} (result : Result T E) → ((x : 
 if_ok (Ok x) to p = to x p
 if_ok (Err e) to p = tt
 
+pub if_ok_is : {T E : Type 0} {Q : T → Type 0} (result : Result T E) → ((x : T) → result ≡ Ok x → Q x) → IfOk result Q
+if_ok_is (Ok x) to = to x refl
+if_ok_is (Err e) to = tt
+
 pub if_err : {T E : Type 0} {P Q : E → Type 0} (result : Result T E) → ((e : E) → P e → Q e) → IfErr result P → IfErr result Q
 if_err (Ok x) to p = tt
 if_err (Err e) to p = to e p
@@ -131,7 +131,7 @@ pub some_less : {Gave Told : List (List ℕ) → Type 0} {kinds : Kinds} {kept :
 some_less less file (texts, answers, came, first) = (texts, answers, less texts came, first)
 
 -- the file keeps the repository that the texts leave
-keeps_answered : (Gave : List (List ℕ) → Type 0) (kinds : Kinds) (kept new : Kept) (policy : Policy) (rule : BundleRule) (texts : List (List ℕ)) (answers : List Answer) → Gave texts → AnswersEach kinds kept texts policy rule answers new
+pub keeps_answered : (Gave : List (List ℕ) → Type 0) (kinds : Kinds) (kept new : Kept) (policy : Policy) (rule : BundleRule) (texts : List (List ℕ)) (answers : List Answer) → Gave texts → AnswersEach kinds kept texts policy rule answers new
     → (file : List ℕ) → KeepsRepo kinds file new → KeepsSome Gave kinds kept policy rule file
 keeps_answered Gave kinds kept new policy rule texts answers came takes file keeps = (texts, answers, came, all_are_first kinds kept texts policy rule answers new file takes keeps)
 
@@ -157,7 +157,7 @@ last_of Says (OfStore why) kinds kept text policy rule after before now other u 
 last_of Says NoMemory kinds kept text policy rule after before now other u = u.0
 last_of Says Write kinds kept text policy rule after before now other u = inr (u.0, u.1)
 
-answered_but_last : {D : Type 0} {seen : D → List ℕ} {moment : D → ℕ} {left_since : D → ℕ → List ℕ → Type 0} {faults : D → ℕ} {Says : Saying} {policy : Policy} {rule : BundleRule} (Gave : List (List ℕ) → Type 0) (old new : Store D) {before now : Output} (error : AnswerError)
+answered_but_last : {D : Type 0} {seen : D → List ℕ} {moment : D → Moment} {left_since : D → ℕ → List ℕ → Type 0} {faults : D → ℕ} {Says : Saying} {policy : Policy} {rule : BundleRule} (Gave : List (List ℕ) → Type 0) (old new : Store D) {before now : Output} (error : AnswerError)
     → ((texts : List (List ℕ)) (last : List ℕ) → Gave (texts ++ last ∷ []) → Gave texts) → (IsOfStore error → ⊥) → DeliversButLast seen moment left_since faults Says Gave policy rule error old new before now
     → AnswersSome Gave (kinds_in old) policy rule (kept_in old) (kept_in new)
 answered_but_last {Says = Says} {policy = policy} {rule = rule} Gave old new {now = now} error fewer other d =
@@ -167,29 +167,16 @@ answered_but_last {Says = Says} {policy = policy} {rule = rule} Gave old new {no
     (last_of Says error (kinds_in old) (kept_in d.mid) d.last policy rule (kept_in new) d.written now other unanswered)
 
 -- what was delivered was answered, where something else than the mirror stopped it
-pub some_answered : {D : Type 0} {seen : D → List ℕ} {moment : D → ℕ} {left_since : D → ℕ → List ℕ → Type 0} {faults : D → ℕ} {Says : Saying} {policy : Policy} {rule : BundleRule} (Gave : List (List ℕ) → Type 0) (old new : Store D) {before now : Output} {stop : Stop}
+pub some_answered : {D : Type 0} {seen : D → List ℕ} {moment : D → Moment} {left_since : D → ℕ → List ℕ → Type 0} {faults : D → ℕ} {Says : Saying} {policy : Policy} {rule : BundleRule} (Gave : List (List ℕ) → Type 0) (old new : Store D) {before now : Output} {stop : Stop}
     → ((texts : List (List ℕ)) (last : List ℕ) → Gave (texts ++ last ∷ []) → Gave texts) → DeliversBy seen moment left_since faults Says Gave policy rule stop old new before now → MayGoOn stop
     → AnswersSome Gave (kinds_in old) policy rule (kept_in old) (kept_in new)
 some_answered Gave old new fewer d goes =
     ⊎_elim (λ m. record { texts = m.texts; answers = m.answers; came = m.came; takes = m.takes }) (λ m. answered_but_last Gave old new m.0 fewer m.1 m.2) (d.beside goes)
 
 -- a run, and then one that leaves the repository as it is
-pub then_kept : {D : Type 0} (moment : D → ℕ) (left_since : D → ℕ → List ℕ → Type 0) (Gave : List (List ℕ) → Type 0) (kinds : Kinds) (policy : Policy) (rule : BundleRule) (before after : Kept) (old mid new : D) (texts : List (List ℕ)) (answers : List Answer) →
+pub then_kept : {D : Type 0} (moment : D → Moment) (left_since : D → ℕ → List ℕ → Type 0) (Gave : List (List ℕ) → Type 0) (kinds : Kinds) (policy : Policy) (rule : BundleRule) (before after : Kept) (old mid new : D) (texts : List (List ℕ)) (answers : List Answer) →
     Gave texts → AnswersEach kinds before texts policy rule answers after → LeavesOnly moment left_since old mid (KeepsSome Gave kinds before policy rule) → LeavesOnly moment left_since mid new (λ file. KeepsRepo kinds file after) →
     LeavesOnly moment left_since old new (KeepsSome Gave kinds before policy rule)
 then_kept moment left_since Gave kinds policy rule before after old mid new texts answers came takes first second =
     followed moment left_since old mid new (KeepsSome Gave kinds before policy rule) first
     (weakened moment left_since mid new (λ file. KeepsRepo kinds file after) (KeepsSome Gave kinds before policy rule) (keeps_answered Gave kinds before after policy rule texts answers came takes) second)
-
--- what was answered, and is kept
-applied_by : (had : List ℕ → List ℕ → Type 0) (asked : Apply) (status : ℕ) (kinds : Kinds) (held new : Kept) (file : List Event) (policy : Policy) (rule : BundleRule) →
-    policy ≡ policy_for asked.skip → rule ≡ rule_for asked.hash darcs_rule → AnswersAll (CameAsNamed had asked) kinds policy rule held new status → CrashesKeep kinds may_leave file new → IsApplied had asked status
-applied_by had asked status kinds held new file policy rule by under answers keeps =
-    record { kinds = kinds; held = held; new = new; answers = rw (by, under) at answers; kept = λ dry. (file, keeps) }
-
-pub applied : (had : List ℕ → List ℕ → Type 0) (asked : Apply) (result : Result ℕ Stop) (status : ℕ) (kinds : Kinds) (held : Kept) (file : List Event) (policy : Policy) (rule : BundleRule) →
-    result ≡ Ok status → policy ≡ policy_for asked.skip → rule ≡ rule_for asked.hash darcs_rule →
-    IfOk result (λ s. LeavesAnswered kinds may_leave file (λ new. AnswersAll (CameAsNamed had asked) kinds policy rule held new s)) → IsApplied had asked status
-applied had asked result status kinds held file policy rule is by under told =
-    let left = (rw is at told) in
-    applied_by had asked status kinds held left.0 file policy rule by under left.1 left.2

@@ -3,3 +3,5 @@ pub mod Bundles
 pub mod Named
 pub mod Mirrors
 pub mod Obliterating
+pub mod Beginning
+pub mod Bases

@@ -1,22 +1,26 @@
 //! How a mirror begins: `dm init`, and `dm apply --mirror` where there is none yet.
-ghost use Rattle.std.specs.Prelude.{◌≡◌, ◌⊎◌, ℕ, List, [], length, IfErr, IfOk};
-ghost use Rattle.dm_disk.specs.States.{seen, may_leave, file_may_leave, left_since};
+ghost use Rattle.std.specs.Prelude.{◌≡◌, ◌⊎◌, ℕ, List, [], None, not, IfErr, IfOk, IfSome};
+ghost use Rattle.dm_disk.specs.States.{seen, may_leave, file_may_leave, moment, left_since, IsFresh};
 ghost use Rattle.dm_journal.specs.Device.{IsDurable, LeavesOnly};
 ghost use Rattle.dm_store.specs.Keeping.{IsOrKeeps, IsStored, kept_as, kept_in};
 ghost use Rattle.dm_store.specs.Kinds.{kinds_in};
 ghost use Rattle.dm_commands.specs.Mirrors.{IsInTheWay, IsMirrorOf};
-ghost use Rattle.dm_files.specs.Mirrors.{TellsOf, TellsUnkept};
+ghost use Rattle.dm_files.specs.Bases.{BeginsAs};
+ghost use Rattle.dm_files.specs.Beginning.{IsBegun};
+ghost use Rattle.dm_files.specs.Mirrors.{HadMirror, IsOpenedAs, TellsOf, TellsUnkept};
+ghost use Rattle.dm_files.specs.Named.{kinds_for};
 
 use crate::base_tag::say_begun;
-use crate::files::{BaseFile, base_of, read_base};
+use crate::files::{BaseFile, Files, base_of, read_base};
 use crate::from_folder::read_beginning;
 use crate::mirror::{blame, find_file, of_kept, open_file, open_store};
+use crate::outcome::Outcome;
 use crate::telling::{Manner, tell};
 use crate::word_fault::WordFault;
 use crate::words::new_kinds_of;
 use dm_commands::{ToolFault, Unbegun, kept_or_new_mirror, new_mirror, repo_of, write_text};
 use dm_deliver::{Answer, DateRule, HashRule, date_fault_within, hash_fault_within};
-use dm_disk::{Access, DiskFile, Rehearsal};
+use dm_disk::{Access, ClosedFile, DiskFile, Rehearsal};
 use dm_journal::OpenError;
 use dm_named::Kinds;
 use dm_remarks::{Colour, Reading, explain_base, explain_date, explain_hash_fault};
@@ -72,14 +76,18 @@ fn say_unfit(rt: &HostRuntime, name: &str, answer: Answer) {
 
 /// The repository with which a mirror begins: that of `--base` or `--repository`, or an empty one. Why it isn't taken is explained
 /// where the words ask for it.
-fn read_start<'a>(
+fn read_start<'a, F: Files>(
     rt: &HostRuntime,
+    files: &F,
     colour: Colour,
+    kinds: Kinds,
     reading: Reading,
     base: BaseWords<'a>,
     explains: bool,
-) -> Result<Repo<Global>, WordFault<'a>> {
-    let file = read_base(rt, base, reading.kinds)?;
+) -> Result<Repo<Global>, WordFault<'a>>
+    ensures { IfOk result (λ repo. BeginsAs (F.had files.now) base.entry kinds repo.patches) }
+{
+    let file = read_base(files, base, kinds)?;
     if let Some(file) = &file {
         refuse_unfit_base(rt, colour, explains, file)?;
     }
@@ -120,7 +128,8 @@ fn store_of<'a>(
     ensures stored { IfOk result (IsStored seen may_leave file_may_leave) }
     ensures kept { IfOk result (λ store. IsMirrorOf (kinds_in store) (seen file) (kept_in store)
         ⊎ ((seen file ≡ []) × (store.repo ≡ start) × (store.base ≡ 0) × (kinds_in store ≡ kinds))) }
-    ensures any_moment { IfOk result (λ store. LeavesOnly length left_since file store.journal.device (IsOrKeeps kinds (seen file) (kept_as 0 start.patches))) }
+    ensures any_moment { IfOk result (λ store. LeavesOnly moment left_since file store.journal.device (IsOrKeeps kinds (seen file) (kept_as 0 start.patches))) }
+    ensures opened { IfOk result (λ store. LeavesOnly moment left_since file store.journal.device (IsOrKeeps (kinds_in store) (seen file) (kept_in store))) }
     ensures tells { IfErr result (TellsOf (seen file)) }
 {
     let is_empty = file.is_empty();
@@ -143,16 +152,37 @@ fn say_unused(rt: &HostRuntime, asked: &Apply<'_, '_>) {
     }
 }
 
+/// The file that was found at a path, or a new one.
+fn found_or_made<'a>(
+    rt: &HostRuntime,
+    path: &'a str,
+    no_wait: bool,
+    is_terminal: bool,
+    found: Option<DiskFile>,
+) -> Result<DiskFile, WordFault<'a>>
+    requires fresh { IfSome found (IsFresh path.now) }
+    requires durable { IfSome found (IsDurable seen may_leave file_may_leave) }
+    ensures fresh { IfOk result (IsFresh path.now) }
+    ensures durable { IfOk result (IsDurable seen may_leave file_may_leave) }
+{
+    match found {
+        Some(file) => Ok(file),
+        None => open_file(rt, path, no_wait, Access::Create, is_terminal),
+    }
+}
+
 /// The mirror of `--mirror`, to be written. Where there is none it is made of what `--base` or `--repository` names; that is read
 /// and taken before a file is made.
-pub fn open_mirror<'a>(
+pub fn open_mirror<'a, F: Files>(
     rt: &HostRuntime,
+    files: &F,
     colour: Colour,
     asked: &Apply<'_, 'a>,
     path: &'a str,
     is_terminal: bool,
 ) -> Result<Store<DiskFile>, WordFault<'a>>
-    ensures { IfOk result (IsStored seen may_leave file_may_leave) }
+    ensures stored { IfOk result (IsStored seen may_leave file_may_leave) }
+    ensures opened { IfOk result (λ store. IsOpenedAs path.now (HadMirror (F.had files.now) asked.now.base (kinds_in store) (kept_in store)) store) }
 {
     let found = match find_file(rt, path, asked.no_wait, Access::Write, is_terminal)? {
         Some(file) if !file.is_empty() => {
@@ -162,17 +192,9 @@ pub fn open_mirror<'a>(
         found => found,
     };
     let kinds = new_kinds_of(asked.six_kinds);
-    let start = read_start(
-        rt,
-        colour,
-        Reading::of_mirror(kinds),
-        asked.base,
-        asked.explain,
-    )?;
-    let file = match found {
-        Some(file) => file,
-        None => open_file(rt, path, asked.no_wait, Access::Create, is_terminal)?,
-    };
+    let reading = Reading::of_mirror(kinds);
+    let start = read_start(rt, files, colour, kinds, reading, asked.base, asked.explain)?;
+    let file = found_or_made(rt, path, asked.no_wait, is_terminal, found)?;
     store_of(rt, path, file, start, kinds)
 }
 
@@ -195,18 +217,22 @@ pub fn rehearse_start<'a>(
     }
 }
 
-/// The mirror that a file keeps, of which nothing is written from here on.
+/// The mirror that a file keeps, of which nothing is written from here on, and the file, let go.
 fn rehearse_kept<'a>(
     rt: &HostRuntime,
     path: &'a str,
     file: DiskFile,
-) -> Result<Store<Rehearsal>, WordFault<'a>>
-    ensures stored { IfOk result (IsStored seen may_leave file_may_leave) }
-    ensures keeps { IfOk result (λ store. IsMirrorOf (kinds_in store) (seen file) (kept_in store)) }
+) -> Result<(Store<Rehearsal>, ClosedFile), WordFault<'a>>
+    ensures stored { IfOk result (λ r. IsStored seen may_leave file_may_leave r.0) }
+    ensures keeps { IfOk result (λ r. IsMirrorOf (kinds_in r.0) (seen file) (kept_in r.0)) }
+    ensures closed { IfOk result (λ r. r.1 ≡ file) }
     ensures tells { IfErr result (TellsUnkept (seen file)) }
 {
     match file.rehearse() {
-        Ok(rehearsal) => open_store(rt, path, rehearsal),
+        Ok((rehearsal, closed)) => match open_store(rt, path, rehearsal) {
+            Ok(store) => Ok((store, closed)),
+            Err(fault) => Err(fault),
+        },
         Err(error) => Err(WordFault::BadMirror(
             path,
             StoreError::Journal(OpenError::Device(error)),
@@ -214,31 +240,33 @@ fn rehearse_kept<'a>(
     }
 }
 
-/// A mirror that is only tried: the one that a file keeps, or one that begins with what the words name. Nothing is written.
-pub fn rehearse_mirror<'a>(
+/// A mirror that is only tried: the one that a file keeps, or one that begins with what the words name. Nothing is written. The file
+/// is let go, where there is one.
+pub fn rehearse_mirror<'a, F: Files>(
     rt: &HostRuntime,
+    files: &F,
     colour: Colour,
     asked: &Apply<'_, 'a>,
     path: &'a str,
     is_terminal: bool,
-) -> Result<Store<Rehearsal>, WordFault<'a>>
-    ensures { IfOk result (IsStored seen may_leave file_may_leave) }
+) -> Result<(Store<Rehearsal>, Option<ClosedFile>), WordFault<'a>>
+    ensures stored { IfOk result (λ r. IsStored seen may_leave file_may_leave r.0) }
+    ensures opened { IfOk result (λ r. IfSome r.1 (λ file. IsFresh path.now file × HadMirror (F.had files.now) asked.now.base (kinds_in r.0) (kept_in r.0) (seen file))) }
 {
-    if let Some(file) = find_file(rt, path, asked.no_wait, Access::Read, is_terminal)? {
-        if !file.is_empty() {
+    let closed = match find_file(rt, path, asked.no_wait, Access::Read, is_terminal)? {
+        Some(file) if !file.is_empty() => {
             say_unused(rt, asked);
-            return rehearse_kept(rt, path, file);
+            let (store, closed) = rehearse_kept(rt, path, file)?;
+            return Ok((store, Some(closed)));
         }
-    }
+        Some(file) => Some(file.close()),
+        None => None,
+    };
     let kinds = new_kinds_of(asked.six_kinds);
-    let start = read_start(
-        rt,
-        colour,
-        Reading::of_mirror(kinds),
-        asked.base,
-        asked.explain,
-    )?;
-    rehearse_start(rt, start, kinds, path)
+    let reading = Reading::of_mirror(kinds);
+    let start = read_start(rt, files, colour, kinds, reading, asked.base, asked.explain)?;
+    let store = rehearse_start(rt, start, kinds, path)?;
+    Ok((store, closed))
 }
 
 /// Why a file that has bytes is no place for a new mirror: it keeps one, or something else.
@@ -263,7 +291,7 @@ fn begin_store<'a>(
     ensures stored { IfOk result (IsStored seen may_leave file_may_leave) }
     ensures kinds { IfOk result (λ store. kinds_in store ≡ kinds) }
     ensures begun { IfOk result (λ store. (seen file ≡ []) × (store.repo ≡ start.repo) × (store.base ≡ start.base)) }
-    ensures any_moment { IfOk result (λ store. LeavesOnly length left_since file store.journal.device (IsOrKeeps kinds [] (kept_as start.base start.repo.patches))) }
+    ensures any_moment { IfOk result (λ store. LeavesOnly moment left_since file store.journal.device (IsOrKeeps kinds [] (kept_as start.base start.repo.patches))) }
     ensures tells { IfErr result (TellsOf (seen file)) }
 {
     let is_empty = file.is_empty();
@@ -274,12 +302,15 @@ fn begin_store<'a>(
 }
 
 /// With what a new mirror begins: at a tag, where the words name what it covers, and then all that there is is the base.
-fn read_first<'a>(
+fn read_first<'a, F: Files>(
     rt: &HostRuntime,
+    files: &F,
     colour: Colour,
-    reading: Reading,
+    kinds: Kinds,
     asked: &Init<'a>,
-) -> Result<Start, WordFault<'a>> {
+) -> Result<Start, WordFault<'a>>
+    ensures { IfOk result (λ start. asked.now.names ≡ None → (start.base ≡ 0) × BeginsAs (F.had files.now) asked.now.base kinds start.repo.patches) }
+{
     match asked.names {
         Some(names) => {
             let repo = read_beginning(rt, asked, names)?;
@@ -287,7 +318,8 @@ fn read_first<'a>(
             Ok(Start { repo, base })
         }
         None => {
-            let repo = read_start(rt, colour, reading, asked.base, asked.explain)?;
+            let reading = Reading::of_words(kinds);
+            let repo = read_start(rt, files, colour, kinds, reading, asked.base, asked.explain)?;
             Ok(Start { repo, base: 0 })
         }
     }
@@ -295,26 +327,27 @@ fn read_first<'a>(
 
 /// A new mirror, of what `--base` or `--repository` names, or of the names of `--names` and a folder. That is read
 /// and taken before a file is made.
-fn make_mirror<'a>(
+fn make_mirror<'a, F: Files>(
     rt: &HostRuntime,
+    files: &F,
     colour: Colour,
     asked: &Init<'a>,
     is_terminal: bool,
 ) -> Result<Store<DiskFile>, WordFault<'a>>
-    ensures { IfOk result (IsStored seen may_leave file_may_leave) }
+    ensures stored { IfOk result (IsStored seen may_leave file_may_leave) }
+    ensures kinds { IfOk result (λ store. kinds_in store ≡ kinds_for (not asked.now.six_kinds)) }
+    ensures opened { IfOk result (IsOpenedAs asked.now.mirror.now (λ file. file ≡ [])) }
+    ensures begun { IfOk result (λ store. asked.now.names ≡ None → (store.base ≡ 0) × BeginsAs (F.had files.now) asked.now.base (kinds_in store) store.repo.patches) }
 {
     let path = asked.mirror;
     let found = match find_file(rt, path, asked.no_wait, Access::Write, is_terminal)? {
         Some(file) if !file.is_empty() => return Err(refuse_place(rt, path, file)),
         found => found,
     };
-    let reading = Reading::of_words(new_kinds_of(asked.six_kinds));
-    let start = read_first(rt, colour, reading, asked)?;
-    let file = match found {
-        Some(file) => file,
-        None => open_file(rt, path, asked.no_wait, Access::Create, is_terminal)?,
-    };
-    begin_store(rt, path, file, start, reading.kinds)
+    let kinds = new_kinds_of(asked.six_kinds);
+    let start = read_first(rt, files, colour, kinds, asked)?;
+    let file = found_or_made(rt, path, asked.no_wait, is_terminal, found)?;
+    begin_store(rt, path, file, start, kinds)
 }
 
 /// The line that says with how many patches a mirror began.
@@ -332,16 +365,34 @@ fn begun_text<'a>(
     Ok(said.line(rt.alloc())?)
 }
 
-/// `dm init`.
-pub fn init<'a>(
+/// Says with how many patches a mirror began.
+fn tell_begun<'a>(
     rt: &HostRuntime,
-    colour: Colour,
     asked: &Init<'a>,
-    is_terminal: bool,
+    store: &Store<DiskFile>,
 ) -> Result<u8, WordFault<'a>> {
-    let store = make_mirror(rt, colour, asked, is_terminal)?;
     let line = begun_text(rt, asked.json, asked.mirror, store.repo().len())?;
     write_text(&line, &mut io::writer(rt))?;
     say_begun(rt, store.repo(), store.base());
     Ok(0)
+}
+
+/// `dm init`.
+pub fn init<'a, F: Files>(
+    rt: &HostRuntime,
+    files: &F,
+    colour: Colour,
+    asked: &Init<'a>,
+    is_terminal: bool,
+) -> Outcome<'a>
+    ensures { IsBegun (F.had files.now) asked.now result }
+{
+    match make_mirror(rt, files, colour, asked, is_terminal) {
+        Ok(store) => {
+            let answer = tell_begun(rt, asked, &store);
+            let file = Some(store.into_device().close());
+            Outcome::with_file(answer, file)
+        }
+        Err(fault) => Outcome::without_file(Err(fault)),
+    }
 }

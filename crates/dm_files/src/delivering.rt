@@ -1,8 +1,8 @@
 //! Bundles that are taken one after the other, into a mirror or a repository in memory: `dm apply --mirror`.
-ghost use Rattle.std.specs.Prelude.{◌≡◌, ◌↔◌, [], All, List, ℕ, length, Ok, IfOk, IfErr, IsTrue, OnOk};
+ghost use Rattle.std.specs.Prelude.{◌≡◌, ◌↔◌, [], All, List, ℕ, false, true, Ok, IfOk, IfErr, IsTrue, OnOk};
 ghost use Rattle.dm_journal.specs.declared.fault.WriteError.{WriteError as WriteFault};
 ghost use Rattle.dm_journal.specs.Device.{LeavesOnly};
-ghost use Rattle.dm_disk.specs.States.{seen, may_leave, file_may_leave, left_since};
+ghost use Rattle.dm_disk.specs.States.{seen, may_leave, file_may_leave, moment, left_since};
 ghost use Rattle.dm_store.specs.Keeping.{CrashesKeep, IsStored, KeepsRepo, kept_in};
 ghost use Rattle.dm_store.specs.Kinds.{kinds_in};
 ghost use Rattle.dm_deliver.specs.declared.fault.AnswerError.TheVariants.{Store as OfStore};
@@ -21,6 +21,7 @@ use crate::files::Files;
 use crate::input::INPUT;
 use crate::listing::Listing;
 use crate::mirror::{blame, say_lost_rights};
+use crate::outcome::Outcome;
 use crate::word_fault::WordFault;
 use crate::words::{kinds_of, policy_of, refuse_kinds};
 use dm_commands::{ToolFault, push_repo, write_text};
@@ -294,11 +295,11 @@ fn take_and_show<'a, D: Device, F: Files>(
 }
 
 /// Makes a checkpoint where one is worth its while. Where it fails what was taken stands, so that is only said. The file comes back.
-fn settle(rt: &HostRuntime, path: &str, store: Store<DiskFile>) -> DiskFile
+fn into_file(rt: &HostRuntime, path: &str, store: Store<DiskFile>) -> DiskFile
     requires { IsStored seen may_leave file_may_leave store }
     // A crash at any moment of it, and from then on, leaves a file that keeps the repository.
     ensures kept { CrashesKeep (kinds_in store) may_leave result (kept_in store) }
-    ensures any_moment { LeavesOnly length left_since store.journal.device result (λ file. KeepsRepo (kinds_in store) file (kept_in store)) }
+    ensures any_moment { LeavesOnly moment left_since store.journal.device result (λ file. KeepsRepo (kinds_in store) file (kept_in store)) }
 {
     let mut store = store;
     if !store.wants_checkpoint() {
@@ -309,13 +310,13 @@ fn settle(rt: &HostRuntime, path: &str, store: Store<DiskFile>) -> DiskFile
     let done = store.checkpoint(rt.alloc());
     let file = store.into_device();
     if let Err(fault) = done {
-        say_unsettled(rt, path, fault, &file);
+        say_no_checkpoint(rt, path, fault, &file);
     }
     say_lost_rights(rt, path, &file);
     file
 }
 
-fn say_unsettled(rt: &HostRuntime, path: &str, fault: WriteError, file: &DiskFile) {
+fn say_no_checkpoint(rt: &HostRuntime, path: &str, fault: WriteError, file: &DiskFile) {
     let _ = match file.error() {
         Some(error) => eprintln!(rt; "dm: no checkpoint of {path}: {error}"),
         None => eprintln!(rt; "dm: no checkpoint of {path}: {fault}"),
@@ -330,6 +331,21 @@ fn status_of_trial<'a>(tried: Result<u8, Stop<'a>>, path: &'a str) -> Result<u8,
         Ok(status) => Ok(status),
         Err(Stop::Mirror(fault)) => Err(WordFault::Unwritten(path, fault)),
         Err(Stop::Beside(fault)) => Err(fault),
+    }
+}
+
+/// The exit status of what was written, or why there is none, with what the system said.
+fn status_of_writing<'a>(
+    taken: Result<u8, Stop<'a>>,
+    path: &'a str,
+    file: &DiskFile,
+) -> Result<u8, WordFault<'a>>
+    ensures { IfOk result (λ status. taken.entry ≡ Ok status) }
+{
+    match taken {
+        Ok(status) => Ok(status),
+        Err(Stop::Beside(fault)) => Err(fault),
+        Err(Stop::Mirror(fault)) => Err(blame(WordFault::Unwritten(path, fault), file)),
     }
 }
 
@@ -390,15 +406,61 @@ fn take_into<'a, F: Files>(
         (AnswersSome (CameAtMost (F.had files.now) asked.now) (kinds_in store) policy rule (kept_in store))) }
 
     // A crash at any moment of it leaves a file that keeps the repository after the first of the texts, some or all.
-    ensures any_moment { LeavesOnly length left_since store.journal.device result.1
+    ensures any_moment { LeavesOnly moment left_since store.journal.device result.1
         (KeepsSome (CameAtMost (F.had files.now) asked.now) (kinds_in store) (kept_in store) policy rule) }
 {
     let mut store = store;
     match take_and_show(rt, files, colour, asked, &mut store, policy, rule) {
-        Ok(status) => (Ok(status), settle(rt, path, store)),
-        Err(Stop::Beside(fault)) => (Err(Stop::Beside(fault)), settle(rt, path, store)),
+        Ok(status) => (Ok(status), into_file(rt, path, store)),
+        Err(Stop::Beside(fault)) => (Err(Stop::Beside(fault)), into_file(rt, path, store)),
         Err(Stop::Mirror(fault)) => (Err(Stop::Mirror(fault)), store.into_device()),
     }
+}
+
+/// `dm apply --mirror --dry-run`.
+fn try_in_mirror<'a, F: Files>(
+    rt: &HostRuntime,
+    files: &F,
+    colour: Colour,
+    asked: &Apply<'_, 'a>,
+    path: &'a str,
+    is_terminal: bool,
+) -> Result<Outcome<'a>, WordFault<'a>>
+    requires { asked.now.dry_run ≡ true }
+    ensures { IfOk result (IsApplied (F.had files.now) asked.now path.now) }
+{
+    let (mut store, file) = rehearse_mirror(rt, files, colour, asked, path, is_terminal)?;
+    refuse_bundle_of_base(asked.bundle, path, store.base())?;
+    let policy = policy_of(asked.skip);
+    let rule = rule_of(asked.hash, FIT_FOR_DARCS);
+    let tried = take_and_show(rt, files, colour, asked, &mut store, policy, rule);
+    let answer = status_of_trial(tried, path);
+    Ok(Outcome::with_file(answer, file))
+}
+
+/// `dm apply --mirror`, written.
+fn apply_in_mirror<'a, F: Files>(
+    rt: &HostRuntime,
+    files: &F,
+    colour: Colour,
+    asked: &Apply<'_, 'a>,
+    path: &'a str,
+    is_terminal: bool,
+) -> Result<Outcome<'a>, WordFault<'a>>
+    requires { asked.now.dry_run ≡ false }
+    ensures { IfOk result (IsApplied (F.had files.now) asked.now path.now) }
+{
+    let store = open_mirror(rt, files, colour, asked, path, is_terminal)?;
+    if let Err(fault) = refuse_bundle_of_base(asked.bundle, path, store.base()) {
+        let file = Some(store.into_device().close());
+        return Ok(Outcome::with_file(Err(fault), file));
+    }
+    let policy = policy_of(asked.skip);
+    let rule = rule_of(asked.hash, FIT_FOR_DARCS);
+    let (taken, file) = take_into(rt, files, colour, asked, path, store, policy, rule);
+    let answer = status_of_writing(taken, path, &file);
+    let file = Some(file.close());
+    Ok(Outcome::with_file(answer, file))
 }
 
 /// `dm apply --mirror`.
@@ -409,24 +471,19 @@ pub fn apply_to_mirror<'a, F: Files>(
     asked: &Apply<'_, 'a>,
     path: &'a str,
     is_terminal: bool,
-) -> Result<u8, WordFault<'a>>
-    ensures { IfOk result (IsApplied (F.had files.now) asked.now) }
+) -> Outcome<'a>
+    ensures { IsApplied (F.had files.now) asked.now path.now result }
 {
-    refuse_kinds(asked.all_kinds)?;
-    let policy = policy_of(asked.skip);
-    let rule = rule_of(asked.hash, FIT_FOR_DARCS);
-    if asked.dry_run {
-        let mut store = rehearse_mirror(rt, colour, asked, path, is_terminal)?;
-        refuse_bundle_of_base(asked.bundle, path, store.base())?;
-        let tried = take_and_show(rt, files, colour, asked, &mut store, policy, rule);
-        return status_of_trial(tried, path);
+    if let Err(fault) = refuse_kinds(asked.all_kinds) {
+        return Outcome::without_file(Err(fault));
     }
-    let store = open_mirror(rt, colour, asked, path, is_terminal)?;
-    refuse_bundle_of_base(asked.bundle, path, store.base())?;
-    let (taken, file) = take_into(rt, files, colour, asked, path, store, policy, rule);
-    match taken {
-        Ok(status) => Ok(status),
-        Err(Stop::Beside(fault)) => Err(fault),
-        Err(Stop::Mirror(fault)) => Err(blame(WordFault::Unwritten(path, fault), &file)),
+    let done = if asked.dry_run {
+        try_in_mirror(rt, files, colour, asked, path, is_terminal)
+    } else {
+        apply_in_mirror(rt, files, colour, asked, path, is_terminal)
+    };
+    match done {
+        Ok(outcome) => outcome,
+        Err(fault) => Outcome::without_file(Err(fault)),
     }
 }

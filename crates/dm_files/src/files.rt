@@ -1,5 +1,6 @@
 //! The files that the words of a command name.
-ghost use Rattle.std.specs.Prelude.{ℕ, List, IfOk};
+ghost use Rattle.std.specs.Prelude.{ℕ, List, Some, IfOk};
+ghost use Rattle.dm_files.specs.Bases.{AreAlike, IsBaseOf, IsReadAs, named_base};
 
 use crate::input::{INPUT, Input, InputFault};
 use crate::word_fault::WordFault;
@@ -73,7 +74,9 @@ pub struct BaseFile<'a> {
 
 impl BaseFile<'_> {
     /// The base that it is.
-    pub fn base(&self) -> Base<'_> {
+    pub fn base(&self) -> Base<'_>
+        ensures { IsBaseOf self.now result }
+    {
         Base {
             text: &self.text,
             limits: self.limits,
@@ -82,25 +85,42 @@ impl BaseFile<'_> {
 }
 
 /// The base that a file is, if there is one.
-pub fn base_of<'f>(file: &'f Option<BaseFile<'_>>) -> Option<Base<'f>> {
+pub fn base_of<'f>(file: &'f Option<BaseFile<'_>>) -> Option<Base<'f>>
+    ensures { AreAlike file.now result }
+{
     match file {
         Some(file) => Some(file.base()),
         None => None,
     }
 }
 
+/// The file of this name, read within these limits and of these kinds.
+fn read_named<'a, F: Files>(
+    files: &F,
+    name: &'a str,
+    limits: Limits,
+    kinds: Kinds,
+) -> Result<Option<BaseFile<'a>>, WordFault<'a>>
+    ensures { IfOk result (IsReadAs (F.had files.now) kinds (Some (name.now, limits))) }
+{
+    let limits = limits.with_kinds(kinds);
+    let text = files.text_of(name, limits)?;
+    Ok(Some(BaseFile { name, text, limits }))
+}
+
 /// The file that a repository begins with, of these kinds, if one is named.
-pub fn read_base<'a>(
-    rt: &HostRuntime,
+pub fn read_base<'a, F: Files>(
+    files: &F,
     words: BaseWords<'a>,
     kinds: Kinds,
-) -> Result<Option<BaseFile<'a>>, WordFault<'a>> {
-    let (name, limits) = match (words.base, words.repository) {
-        (Some(name), _) => (name, Limits::STANDARD),
-        (None, Some(name)) => (name, Limits::OWN),
-        (None, None) => return Ok(None),
-    };
-    let limits = limits.with_kinds(kinds);
-    let text = read_file(rt, name, limits)?;
-    Ok(Some(BaseFile { name, text, limits }))
+) -> Result<Option<BaseFile<'a>>, WordFault<'a>>
+    ensures { IfOk result (IsReadAs (F.had files.now) kinds (named_base words.entry.base words.entry.repository)) }
+{
+    match words.base {
+        Some(name) => read_named(files, name, Limits::STANDARD, kinds),
+        None => match words.repository {
+            Some(name) => read_named(files, name, Limits::OWN, kinds),
+            None => Ok(None),
+        },
+    }
 }

@@ -1,6 +1,6 @@
 //! The file of a mirror: how it is opened, and what is told where it isn't.
 ghost use Rattle.std.specs.Prelude.{ℕ, List, IfErr, IfOk, IfSome};
-ghost use Rattle.dm_disk.specs.States.{seen, may_leave, file_may_leave};
+ghost use Rattle.dm_disk.specs.States.{seen, may_leave, file_may_leave, IsFresh};
 ghost use Rattle.dm_journal.specs.Device.{IsDurable};
 ghost use Rattle.dm_journal.specs.Ready.{IsUntouched};
 ghost use Rattle.dm_begin.specs.Bases.{MayHaveBase};
@@ -40,7 +40,8 @@ pub fn open_file<'a>(
     access: Access,
     is_terminal: bool,
 ) -> Result<DiskFile, WordFault<'a>>
-    ensures { IfOk result (IsDurable seen may_leave file_may_leave) }
+    ensures fresh { IfOk result (IsFresh path.now) }
+    ensures durable { IfOk result (IsDurable seen may_leave file_may_leave) }
 {
     if no_wait || is_terminal {
         match DiskFile::open(rt, path, access, Lock::Try) {
@@ -214,7 +215,8 @@ pub fn find_file<'a>(
     access: Access,
     is_terminal: bool,
 ) -> Result<Option<DiskFile>, WordFault<'a>>
-    ensures { IfOk result (λ found. IfSome found (IsDurable seen may_leave file_may_leave)) }
+    ensures fresh { IfOk result (λ found. IfSome found (IsFresh path.now)) }
+    ensures durable { IfOk result (λ found. IfSome found (IsDurable seen may_leave file_may_leave)) }
 {
     match open_file(rt, path, no_wait, access, is_terminal) {
         Ok(file) => Ok(Some(file)),

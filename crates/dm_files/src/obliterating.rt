@@ -1,20 +1,21 @@
 //! `dm obliterate`: patches are taken out of a mirror, and kept as a bundle.
-ghost use Rattle.std.specs.Prelude.{◌≡◌, ℕ, List, length, false, IfOk, IsTrue, OnOk};
-ghost use Rattle.dm_disk.specs.States.{seen, may_leave, file_may_leave, left_since};
-ghost use Rattle.dm_journal.specs.Device.{IsDurable, LeavesOnly};
+ghost use Rattle.std.specs.Prelude.{◌≡◌, ◌⊎◌, ℕ, List, None, false, Ok, IfOk, IsTrue, OnOk};
+ghost use Rattle.dm_disk.specs.States.{seen, may_leave, file_may_leave, moment, left_since, IsFresh};
+ghost use Rattle.dm_journal.specs.Device.{IsDurable, LeavesOnly, Within};
 ghost use Rattle.dm_named.specs.Laws.{with_kinds};
 ghost use Rattle.dm_named.specs.Limits.{standard};
 ghost use Rattle.dm_named.specs.Patches.{Patch};
 ghost use Rattle.dm_scratch.specs.Taking.{ReadsWithin};
 ghost use Rattle.dm_store.specs.Keeping.{CrashesKeep, IsStored, KeepsEither, kept_as, kept_in};
 ghost use Rattle.dm_store.specs.Kinds.{kinds_in};
-ghost use Rattle.dm_store.specs.LettingGo.{LosesNothing};
+ghost use Rattle.dm_store.specs.LettingGo.{GivesBack, LosesNothing};
 ghost use Rattle.dm_commands.specs.Obliterating.{ObliteratesBehind, TakesOut};
-ghost use Rattle.dm_files.specs.Obliterating.{Goes, IsObliterated, MayGo};
+ghost use Rattle.dm_files.specs.Obliterating.{Goes, IsObliterated, IsSavedAsAsked, IsSavedIn, LetsGo, MayGo};
 
 use crate::base_tag::refuse_before_base;
 use crate::choosing::{chosen_names, label_of};
 use crate::mirror::{blame, open_file, open_store, say_lost_rights, unopened};
+use crate::outcome::Outcome;
 use crate::take_back_fault::TakeBackFault;
 use crate::telling::{Output, write_refusal};
 use crate::word_fault::WordFault;
@@ -23,7 +24,7 @@ use dm_commands::{
     ToolFault, Unkept, keep_and_let_go, obliterate_unless_base, refusal_line, text_of, write_text,
 };
 use dm_deliver::Answer;
-use dm_disk::{Access, DiskFile, Lock};
+use dm_disk::{Access, ClosedFile, DiskFile, Lock};
 use dm_info::Info;
 use dm_journal::replace_file;
 use dm_named::Kinds;
@@ -40,7 +41,8 @@ use std::rt::Runtime;
 
 /// The file for the bundle of what goes: it has no bytes, or is made.
 fn open_kept<'a>(rt: &HostRuntime, name: &'a str) -> Result<DiskFile, WordFault<'a>>
-    ensures { IfOk result (IsDurable seen may_leave file_may_leave) }
+    ensures fresh { IfOk result (IsFresh name.now) }
+    ensures durable { IfOk result (IsDurable seen may_leave file_may_leave) }
 {
     match DiskFile::open(rt, name, Access::Create, Lock::Try) {
         Ok(file) if file.is_empty() => Ok(file),
@@ -125,10 +127,12 @@ fn keep_in_file<'a>(
     requires takes_out { TakesOut (kinds_in store.old) store.old.repo.patches stays.patches text.now }
     ensures done { OnOk result (store.new.repo ≡ stays) }
     ensures keeps { OnOk result (CrashesKeep (kinds_in store.old) may_leave store.new.journal.device (kept_as store.old.base stays.patches)) }
+    ensures saved { OnOk result (Within (may_leave file.new) (GivesBack (kinds_in store.old) store.old.repo.patches stays.patches)) }
     // A crash at any moment of it loses no patch: the mirror's file keeps the repository, or what stays, and then the bundle's gives back
     // the rest.
-    ensures any_moment { LeavesOnly length left_since store.old.journal.device store.new.journal.device
+    ensures any_moment { LeavesOnly moment left_since store.old.journal.device store.new.journal.device
         (LosesNothing (kinds_in store.old) (kept_in store.old) (kept_as store.old.base stays.patches) (may_leave file.new)) }
+    ensures file { LeavesOnly moment left_since file.old file.new (λ c. (c ≡ seen file.old) ⊎ (c ≡ text.now)) }
 {
     match keep_and_let_go(rt.alloc(), store, file, text, stays) {
         Ok(done) => finish(done, path),
@@ -148,7 +152,7 @@ fn let_go<'a>(
     ensures done { OnOk result (store.new.repo ≡ stays) }
     ensures keeps { OnOk result (CrashesKeep (kinds_in store.old) may_leave store.new.journal.device (kept_as store.old.base stays.patches)) }
     // A crash at any moment of it leaves a file that keeps the repository, or what stays.
-    ensures any_moment { LeavesOnly length left_since store.old.journal.device store.new.journal.device
+    ensures any_moment { LeavesOnly moment left_since store.old.journal.device store.new.journal.device
         (KeepsEither (kinds_in store.old) (kept_in store.old) (kept_as store.old.base stays.patches)) }
 {
     match store.replace(rt.alloc(), stays) {
@@ -169,7 +173,7 @@ fn print_and_let_go<'a>(
     ensures done { OnOk result (store.new.repo ≡ stays) }
     ensures keeps { OnOk result (CrashesKeep (kinds_in store.old) may_leave store.new.journal.device (kept_as store.old.base stays.patches)) }
     // A crash at any moment of it leaves a file that keeps the repository, or what stays.
-    ensures any_moment { LeavesOnly length left_since store.old.journal.device store.new.journal.device
+    ensures any_moment { LeavesOnly moment left_since store.old.journal.device store.new.journal.device
         (KeepsEither (kinds_in store.old) (kept_in store.old) (kept_as store.old.base stays.patches)) }
 {
     write_text(shown, &mut io::writer(rt))?;
@@ -258,6 +262,35 @@ fn kept_text<'a>(
     }
 }
 
+/// Keeps the bundle in a new file of this name, has the mirror let go of what it has, and says how many patches went. The file, let go,
+/// is put into `saved`.
+fn save_and_let_go<'a>(
+    rt: &HostRuntime,
+    output: Output,
+    path: &'a str,
+    store: &mut Store<DiskFile>,
+    name: &'a str,
+    kept: &Bundle<Global>,
+    text: &[u8],
+    stays: Repo<Global>,
+    saved: &mut Option<ClosedFile>,
+) -> Result<(), WordFault<'a>>
+    requires stored { IsStored seen may_leave file_may_leave store.old }
+    requires takes_out { TakesOut (kinds_in store.old) store.old.repo.patches stays.patches text.now }
+    requires none { saved.old ≡ None }
+    ensures keeps { OnOk result (CrashesKeep (kinds_in store.old) may_leave store.new.journal.device (kept_as store.old.base stays.patches)) }
+    ensures saved { OnOk result (IsSavedIn (kinds_in store.old) store.old.repo.patches stays.patches saved.new name.now) }
+    // A crash at any moment of it loses no patch.
+    ensures any_moment { LeavesOnly moment left_since store.old.journal.device store.new.journal.device
+        (LetsGo (kinds_in store.old) (kept_in store.old) (kept_as store.old.base stays.patches) saved.new) }
+{
+    let mut file = open_kept(rt, name)?;
+    let done = keep_in_file(rt, path, store, name, &mut file, text, stays);
+    *saved = Some(file.close());
+    done?;
+    print_gone(rt, output, kept)
+}
+
 /// Keeps the bundle where that is asked for, has the mirror let go of what it has, and says how many patches went.
 fn keep_where_said<'a>(
     rt: &HostRuntime,
@@ -267,20 +300,21 @@ fn keep_where_said<'a>(
     kept: &Bundle<Global>,
     text: Vec<u8>,
     stays: Repo<Global>,
+    saved: &mut Option<ClosedFile>,
 ) -> Result<u8, WordFault<'a>>
     requires stored { IsStored seen may_leave file_may_leave store.old }
     requires takes_out { TakesOut (kinds_in store.old) store.old.repo.patches stays.patches text.items }
+    requires none { saved.old ≡ None }
     ensures keeps { OnOk result (CrashesKeep (kinds_in store.old) may_leave store.new.journal.device (kept_as store.old.base stays.patches)) }
-    // A crash at any moment of it leaves a file that keeps the repository, or what stays.
-    ensures any_moment { LeavesOnly length left_since store.old.journal.device store.new.journal.device
-        (KeepsEither (kinds_in store.old) (kept_in store.old) (kept_as store.old.base stays.patches)) }
+    ensures saved { OnOk result (IsSavedAsAsked asked.now (kinds_in store.old) store.old.repo.patches stays.patches saved.new) }
+    // A crash at any moment of it loses no patch.
+    ensures any_moment { LeavesOnly moment left_since store.old.journal.device store.new.journal.device
+        (LetsGo (kinds_in store.old) (kept_in store.old) (kept_as store.old.base stays.patches) saved.new) }
 {
     let output = output_of(asked);
     match asked.output {
         Some(name) => {
-            let mut file = open_kept(rt, name)?;
-            keep_in_file(rt, path, store, name, &mut file, &text, stays)?;
-            print_gone(rt, output, kept)?;
+            save_and_let_go(rt, output, path, store, name, kept, &text, stays, saved)?;
         }
         None => {
             let shown = shown_of(rt, output, kept, text)?;
@@ -299,15 +333,18 @@ fn keep_or_show<'a>(
     store: &mut Store<DiskFile>,
     kept: &Bundle<Global>,
     stays: Repo<Global>,
+    saved: &mut Option<ClosedFile>,
 ) -> Result<u8, WordFault<'a>>
     requires stored { IsStored seen may_leave file_may_leave store.old }
     requires takes_out { (text : List ℕ) → ReadsWithin (with_kinds standard (kinds_in store.old)) text kept.now
         → TakesOut (kinds_in store.old) store.old.repo.patches stays.patches text }
+    requires none { saved.old ≡ None }
     ensures keeps { OnOk result (asked.now.dry_run ≡ false
         → CrashesKeep (kinds_in store.old) may_leave store.new.journal.device (kept_as store.old.base stays.patches)) }
-    // A crash at any moment of it leaves a file that keeps the repository, or what stays.
-    ensures any_moment { LeavesOnly length left_since store.old.journal.device store.new.journal.device
-        (KeepsEither (kinds_in store.old) (kept_in store.old) (kept_as store.old.base stays.patches)) }
+    ensures saved { OnOk result (asked.now.dry_run ≡ false → IsSavedAsAsked asked.now (kinds_in store.old) store.old.repo.patches stays.patches saved.new) }
+    // A crash at any moment of it loses no patch.
+    ensures any_moment { LeavesOnly moment left_since store.old.journal.device store.new.journal.device
+        (LetsGo (kinds_in store.old) (kept_in store.old) (kept_as store.old.base stays.patches) saved.new) }
 {
     let text = kept_text(rt, store.kinds(), kept)?;
     if asked.dry_run {
@@ -315,7 +352,7 @@ fn keep_or_show<'a>(
         write_text(&shown, &mut io::writer(rt))?;
         return Ok(0);
     }
-    keep_where_said(rt, asked, path, store, kept, text, stays)
+    keep_where_said(rt, asked, path, store, kept, text, stays, saved)
 }
 
 /// Takes what goes out of a mirror.
@@ -326,20 +363,23 @@ fn take_out<'a>(
     store: &mut Store<DiskFile>,
     chosen: &[Info<Global>],
     out: Obliterated<Global>,
+    saved: &mut Option<ClosedFile>,
 ) -> Result<u8, WordFault<'a>>
     requires stored { IsStored seen may_leave file_may_leave store.old }
     requires obliterates { ObliteratesBehind store.old.repo.patches store.old.base chosen.now out.repo.patches out.bundle out.bound.items }
+    requires none { saved.old ≡ None }
     ensures keeps { OnOk result (asked.now.dry_run ≡ false
         → CrashesKeep (kinds_in store.old) may_leave store.new.journal.device (kept_as store.old.base out.repo.patches)) }
-    // A crash at any moment of it leaves a file that keeps the repository, or what stays.
-    ensures any_moment { LeavesOnly length left_since store.old.journal.device store.new.journal.device
-        (KeepsEither (kinds_in store.old) (kept_in store.old) (kept_as store.old.base out.repo.patches)) }
+    ensures saved { OnOk result (asked.now.dry_run ≡ false → IsSavedAsAsked asked.now (kinds_in store.old) store.old.repo.patches out.repo.patches saved.new) }
+    // A crash at any moment of it loses no patch.
+    ensures any_moment { LeavesOnly moment left_since store.old.journal.device store.new.journal.device
+        (LetsGo (kinds_in store.old) (kept_in store.old) (kept_as store.old.base out.repo.patches) saved.new) }
 {
     let Obliterated { repo, bundle, .. } = out;
     if bundle.new_patches().is_empty() {
         return Err(WordFault::TakeBack(TakeBackFault::NothingToUndo));
     }
-    keep_or_show(rt, asked, path, store, &bundle, repo)
+    keep_or_show(rt, asked, path, store, &bundle, repo, saved)
 }
 
 /// What standard output is for, where a file may get the bundle.
@@ -360,14 +400,17 @@ fn take_chosen<'a>(
     asked: &Obliterate<'_, 'a>,
     path: &'a str,
     store: &mut Store<DiskFile>,
+    saved: &mut Option<ClosedFile>,
 ) -> Result<u8, WordFault<'a>>
-    requires { IsStored seen may_leave file_may_leave store.old }
+    requires stored { IsStored seen may_leave file_may_leave store.old }
+    requires none { saved.old ≡ None }
     // Where patches went, the mirror keeps what stays once those that were chosen are out, with what is bound to them.
     ensures goes { IfOk result (λ status. status ≡ 0 → asked.now.dry_run ≡ false → (stays : List Patch) × Goes asked.now (kept_in store.old) stays
-        × CrashesKeep (kinds_in store.old) may_leave store.new.journal.device (kept_as store.old.base stays)) }
-    // A crash at any moment of it leaves a file that keeps the repository, or that.
-    ensures any_moment { (stays : List Patch) × MayGo asked.now (kept_in store.old) stays × LeavesOnly length left_since store.old.journal.device store.new.journal.device
-        (KeepsEither (kinds_in store.old) (kept_in store.old) (kept_as store.old.base stays)) }
+        × CrashesKeep (kinds_in store.old) may_leave store.new.journal.device (kept_as store.old.base stays)
+        × IsSavedAsAsked asked.now (kinds_in store.old) store.old.repo.patches stays saved.new) }
+    // A crash at any moment of it loses no patch.
+    ensures any_moment { (stays : List Patch) × MayGo asked.now (kept_in store.old) stays × LeavesOnly moment left_since store.old.journal.device store.new.journal.device
+        (LetsGo (kinds_in store.old) (kept_in store.old) (kept_as store.old.base stays) saved.new) }
 {
     let chosen = chosen_names(rt, asked.patches.unwrap_or(&[]), store.repo())?;
     let output = output_of(asked);
@@ -393,17 +436,30 @@ fn take_chosen<'a>(
         say_bound(rt, &out.bound)?;
         explain_obliterated(rt, colour, &out)?;
     }
-    take_out(rt, asked, path, store, &chosen, out)
+    take_out(rt, asked, path, store, &chosen, out, saved)
 }
 
-/// `dm obliterate`.
-pub fn obliterate_chosen<'a>(
+/// The exit status, or why there is none, with what the system said.
+fn status_of_taking<'a>(
+    taken: Result<u8, WordFault<'a>>,
+    file: &DiskFile,
+) -> Result<u8, WordFault<'a>>
+    ensures { IfOk result (λ status. taken.entry ≡ Ok status) }
+{
+    match taken {
+        Ok(status) => Ok(status),
+        Err(fault) => Err(blame(fault, file)),
+    }
+}
+
+/// Takes the patches that are chosen out of the mirror that is named.
+fn obliterate_in_mirror<'a>(
     rt: &HostRuntime,
     colour: Colour,
     asked: &Obliterate<'_, 'a>,
     is_terminal: bool,
-) -> Result<u8, WordFault<'a>>
-    ensures { IfOk result (λ status. status ≡ 0 → asked.now.dry_run ≡ false → IsObliterated asked.now) }
+) -> Result<Outcome<'a>, WordFault<'a>>
+    ensures { IfOk result (IsObliterated asked.now) }
 {
     let path = asked.mirror;
     let access = if asked.dry_run {
@@ -413,11 +469,30 @@ pub fn obliterate_chosen<'a>(
     };
     let file = open_file(rt, path, asked.no_wait, access, is_terminal)?;
     let mut store = open_store(rt, path, file)?;
-    let taken = take_chosen(rt, colour, asked, path, &mut store);
+    let mut saved = None;
+    let taken = take_chosen(rt, colour, asked, path, &mut store, &mut saved);
     let file = store.into_device();
     say_lost_rights(rt, path, &file);
-    match taken {
-        Ok(status) => Ok(status),
-        Err(fault) => Err(blame(fault, &file)),
+    let answer = status_of_taking(taken, &file);
+    let file = Some(file.close());
+    Ok(Outcome {
+        answer,
+        file,
+        saved,
+    })
+}
+
+/// `dm obliterate`.
+pub fn obliterate_chosen<'a>(
+    rt: &HostRuntime,
+    colour: Colour,
+    asked: &Obliterate<'_, 'a>,
+    is_terminal: bool,
+) -> Outcome<'a>
+    ensures { IsObliterated asked.now result }
+{
+    match obliterate_in_mirror(rt, colour, asked, is_terminal) {
+        Ok(outcome) => outcome,
+        Err(fault) => Outcome::without_file(Err(fault)),
     }
 }

@@ -1,6 +1,6 @@
 //! `dm upgrade`: a mirror that reads six kinds comes to read all.
-ghost use Rattle.std.specs.Prelude.{◌≡◌, length, IfErr, IfOk};
-ghost use Rattle.dm_disk.specs.States.{seen, may_leave, file_may_leave, left_since};
+ghost use Rattle.std.specs.Prelude.{◌≡◌, IfErr, IfOk};
+ghost use Rattle.dm_disk.specs.States.{seen, may_leave, file_may_leave, moment, left_since};
 ghost use Rattle.dm_journal.specs.Device.{LeavesOnly};
 ghost use Rattle.dm_named.specs.declared.limits.Kinds.TheVariants.{All};
 ghost use Rattle.dm_store.specs.Keeping.{IsStored, KeepsForEither, kept_in};
@@ -29,7 +29,7 @@ fn widen_store<'a>(
     ensures kinds { IfOk result (λ wider. kinds_in wider ≡ All) }
     ensures stored { IfOk result (IsStored seen may_leave file_may_leave) }
     // A crash at any moment leaves a file that keeps the same patches.
-    ensures any_moment { IfOk result (λ wider. LeavesOnly length left_since store.journal.device wider.journal.device
+    ensures any_moment { IfOk result (λ wider. LeavesOnly moment left_since store.journal.device wider.journal.device
         (KeepsForEither (kinds_in store) All (kept_in store))) }
     ensures tells { IfErr result (TellsOf (seen store.journal.device)) }
 {

@@ -202,7 +202,7 @@ added es k d v t words none more so_far =
     ∙ grouped_more words (k.now, t)
 
 -- words that are read, with one more
-module _ (R : Bor (List ℕ) → Vec ℕ → Type 0) where
+module _ (R : List ℕ → List ℕ → Type 0) where
   read_none : (ws : List (Bor (List ℕ) × Bor (List ℕ))) (rs : List ReadWord) (w : Bor (List ℕ) × Bor (List ℕ)) → AreRead R ws rs → w.1.now ≡ [] → AreRead R (ws ++ w ∷ []) (rs ++ (w.0.now, None) ∷ [])
   read_none [] [] w a e = (refl, e, tt)
   read_none [] (r ∷ rs) w a e = absurd a
@@ -210,8 +210,8 @@ module _ (R : Bor (List ℕ) → Vec ℕ → Type 0) where
   read_none (v ∷ ws) ((name, None) ∷ rs) w a e = (a.0, a.1, read_none ws rs w a.2 e)
   read_none (v ∷ ws) ((name, Some text) ∷ rs) w a e = (a.0, a.1, a.2, read_none ws rs w a.3 e)
 
-  read_some : (ws : List (Bor (List ℕ) × Bor (List ℕ))) (rs : List ReadWord) (w : Bor (List ℕ) × Bor (List ℕ)) (t : Vec ℕ) → AreRead R ws rs → 0 < length w.1.now → R w.1 t → AreRead R (ws ++ w ∷ []) (rs ++ (w.0.now, Some t.items) ∷ [])
-  read_some [] [] w t a e is = (refl, e, (t, is, refl), tt)
+  read_some : (ws : List (Bor (List ℕ) × Bor (List ℕ))) (rs : List ReadWord) (w : Bor (List ℕ) × Bor (List ℕ)) (t : Vec ℕ) → AreRead R ws rs → 0 < length w.1.now → R w.1.now t.items → AreRead R (ws ++ w ∷ []) (rs ++ (w.0.now, Some t.items) ∷ [])
+  read_some [] [] w t a e is = (refl, e, is, tt)
   read_some [] (r ∷ rs) w t a e is = absurd a
   read_some (v ∷ ws) [] w t a e is = absurd a
   read_some (v ∷ ws) ((name, None) ∷ rs) w t a e is = (a.0, a.1, read_some ws rs w t a.2 e is)
@@ -221,5 +221,5 @@ module _ (R : Bor (List ℕ) → Vec ℕ → Type 0) where
     pub read_none_at : (get_or words i d).1.now ≡ [] → AreRead R (take (i + 1) words) (rs ++ ((get_or words i d).0.now, None) ∷ [])
     read_none_at e = rw (take_more words i d within) (read_none (take i words) rs (get_or words i d) so_far e)
 
-    pub read_some_at : (t : Vec ℕ) → 0 < length (get_or words i d).1.now → R (get_or words i d).1 t → AreRead R (take (i + 1) words) (rs ++ ((get_or words i d).0.now, Some t.items) ∷ [])
+    pub read_some_at : (t : Vec ℕ) → 0 < length (get_or words i d).1.now → R (get_or words i d).1.now t.items → AreRead R (take (i + 1) words) (rs ++ ((get_or words i d).0.now, Some t.items) ∷ [])
     read_some_at t e is = rw (take_more words i d within) (read_some (take i words) rs (get_or words i d) t so_far e is)

@@ -2,7 +2,6 @@
 pub use Rattle.dm_commands.specs.Running.{bytes_of}
 use Rattle.std.specs.Prelude.{◌≡◌, ℕ, ◌<◌, Bool, List, [], ◌∷◌, ◌++◌, Option, None, Some, length, map, filter, not, if◌then◌else◌, Contains}
 use Rattle.std.specs.Borrow.{Bor}
-use Rattle.std.specs.Global.{Vec}
 use Rattle.std.specs.Str.{bytes_eq}
 
 -- the word is this poster, an equals sign and this file. The poster isn't empty and has no equals sign; the file may be empty
@@ -46,13 +45,13 @@ texts_of poster (word ∷ words) = if bytes_eq poster word.0 then with_text word
 abbrev pub by_poster : List ReadWord → List Poster
 by_poster words = map {B = Poster} (λ name. (name, texts_of name words)) (posters_of words)
 
--- words once they are read, where a relation says which text was read of which file: each keeps its poster, and has a text where a file is named
-abbrev pub AreRead : (Bor (List ℕ) → Vec ℕ → Type 0) → List (Bor (List ℕ) × Bor (List ℕ)) → List ReadWord → Type 0
-AreRead IsReadOf [] [] = Unit
-AreRead IsReadOf [] (r ∷ rs) = ⊥
-AreRead IsReadOf (w ∷ ws) [] = ⊥
-AreRead IsReadOf (w ∷ ws) ((name, None) ∷ rs) = (name ≡ w.0.now) × (w.1.now ≡ []) × AreRead IsReadOf ws rs
-AreRead IsReadOf (w ∷ ws) ((name, Some text) ∷ rs) = (name ≡ w.0.now) × (0 < length w.1.now) × ((read : Vec ℕ) × IsReadOf w.1 read × (read.items ≡ text)) × AreRead IsReadOf ws rs
+-- words once they are read, where a relation says which text a file had: each keeps its poster, and has a text where a file is named
+abbrev pub AreRead : (List ℕ → List ℕ → Type 0) → List (Bor (List ℕ) × Bor (List ℕ)) → List ReadWord → Type 0
+AreRead had [] [] = Unit
+AreRead had [] (r ∷ rs) = ⊥
+AreRead had (w ∷ ws) [] = ⊥
+AreRead had (w ∷ ws) ((name, None) ∷ rs) = (name ≡ w.0.now) × (w.1.now ≡ []) × AreRead had ws rs
+AreRead had (w ∷ ws) ((name, Some text) ∷ rs) = (name ≡ w.0.now) × (0 < length w.1.now) × had w.1.now text × AreRead had ws rs
 
 -- each word names this poster and this file, in order
 abbrev pub AreSplit : List (List ℕ) → List (List ℕ × List ℕ) → Type 0

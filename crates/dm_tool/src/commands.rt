@@ -1,5 +1,4 @@
 //! The commands: those that are answered here have a file each, and those that work on the files of mirrors are in `dm_files`.
-ghost use Rattle.std.specs.Prelude.{IfOk};
 ghost use Rattle.dm_tool.specs.Answers.{IsAnswered};
 
 mod applying;
@@ -12,8 +11,8 @@ use applying::apply;
 use checking::check;
 use dm_commands::{ToolFault, write_text};
 use dm_files::{
-    Manner, NO_ANSWER, SystemFiles, WordFault, apply_to_mirror, check_out, exit_status,
-    fixed_manner, init, obliterate_chosen, roll_back_chosen, tell, upgrade,
+    Files, Manner, NO_ANSWER, Outcome, SystemFiles, WordFault, apply_to_mirror, check_out,
+    exit_status, fixed_manner, init, obliterate_chosen, roll_back_chosen, tell, upgrade,
 };
 use dm_remarks::{Colour, colour_of};
 use dm_words::{Request, Unread, VERSION, Words, name_mirror};
@@ -57,34 +56,34 @@ fn manner_of(request: &Request<'_, '_>) -> Manner {
     }
 }
 
-/// Runs a command, and returns its exit status where it gives an answer.
-fn answer<'a, R: Runtime + AllocGlobal + Threads + Wait + Sync>(
+/// Runs a command, and returns what comes of it.
+fn answer<'a, R: Runtime + AllocGlobal + Threads + Wait + Sync, F: Files>(
     rt: &R,
     host: &HostRuntime,
+    files: &F,
     is_terminal: bool,
     request: &Request<'_, 'a>,
-) -> Result<u8, WordFault<'a>>
-    ensures { IfOk result (IsAnswered request.now) }
+) -> Outcome<'a>
+    ensures { IsAnswered (F.had files.now) request.now result }
 {
     let colour = colour_of(rt, is_terminal);
     match request {
         Request::Apply(asked) => match asked.mirror {
-            Some(path) => {
-                let files = SystemFiles::new(host);
-                apply_to_mirror(host, &files, colour, asked, path, is_terminal)
-            }
-            None => apply(host, colour, asked),
+            Some(path) => apply_to_mirror(host, files, colour, asked, path, is_terminal),
+            None => Outcome::without_file(apply(host, files, colour, asked)),
         },
-        Request::Check(asked) => check(host, colour, asked),
-        Request::Checkout(asked) => check_out(host, asked, is_terminal),
-        Request::Init(asked) => init(host, colour, asked, is_terminal),
-        Request::Log(asked) => log(host, asked, is_terminal),
+        Request::Check(asked) => Outcome::without_file(check(host, colour, asked)),
+        Request::Checkout(asked) => Outcome::without_file(check_out(host, asked, is_terminal)),
+        Request::Init(asked) => init(host, files, colour, asked, is_terminal),
+        Request::Log(asked) => Outcome::without_file(log(host, asked, is_terminal)),
         Request::Obliterate(asked) => obliterate_chosen(host, colour, asked, is_terminal),
-        Request::Rollback(asked) => roll_back_chosen(host, asked, is_terminal),
-        Request::Run(asked) => run_plan(rt, host, colour, asked),
-        Request::Send(asked) => send(host, colour, asked, is_terminal),
-        Request::Upgrade(asked) => upgrade(host, asked, is_terminal),
-        Request::Version => print_version(host),
+        Request::Rollback(asked) => {
+            Outcome::without_file(roll_back_chosen(host, asked, is_terminal))
+        }
+        Request::Run(asked) => Outcome::without_file(run_plan(rt, host, files, colour, asked)),
+        Request::Send(asked) => Outcome::without_file(send(host, colour, asked, is_terminal)),
+        Request::Upgrade(asked) => Outcome::without_file(upgrade(host, asked, is_terminal)),
+        Request::Version => Outcome::without_file(print_version(host)),
     }
 }
 
@@ -103,8 +102,9 @@ fn run_words<R: Runtime + AllocGlobal + Threads + Wait + Sync>(
         let _ = eprintln!(rt; "dm: a word that the command needs is missing");
         return NO_ANSWER;
     };
-    let answered = answer(rt, host, is_terminal, &request);
-    exit_status(rt, manner_of(&request), answered)
+    let files = SystemFiles::new(host);
+    let Outcome { answer, .. } = answer(rt, host, &files, is_terminal, &request);
+    exit_status(rt, manner_of(&request), answer)
 }
 
 /// Runs the command of the process's own words, and returns the exit status. Standard error may be a terminal. `host` is the same

@@ -1,11 +1,13 @@
 //! `dm apply` without a mirror.
-ghost use Rattle.std.specs.Prelude.{IfOk};
-ghost use Rattle.dm_tool.specs.Answers.{AsksMore, IsTaken};
+ghost use Rattle.std.specs.Prelude.{◌≡◌, ◌≢◌, IfOk, Option};
+ghost use Rattle.dm_commands.specs.declared.base.Base.{Base as BaseText};
+ghost use Rattle.dm_files.specs.Bases.{AreAlike};
+ghost use Rattle.dm_tool.specs.Answers.{AsksMore, IsTaken, IsTakenAfter};
 
 use crate::commands::running::refuse_base;
 use dm_commands::{Applied, Base, ToolFault, apply_in, apply_over, repo_of};
 use dm_files::{
-    INPUT, Input, Listing, SystemFiles, WordFault, apply_each, base_of, blame_input, kinds_of,
+    BaseFile, Files, INPUT, Input, Listing, WordFault, apply_each, base_of, blame_input, kinds_of,
     policy_of, read_base,
 };
 use dm_named::Kinds;
@@ -70,13 +72,14 @@ fn only_name<'a>(asked: &Apply<'_, 'a>) -> Option<&'a str> {
 }
 
 /// `dm apply` after a base, without a mirror.
-fn apply_after<'a>(
+fn apply_after<'a, F: Files>(
     rt: &HostRuntime,
+    files: &F,
     colour: Colour,
     asked: &Apply<'_, 'a>,
     base: Option<Base<'_>>,
 ) -> Result<u8, WordFault<'a>>
-    ensures { IfOk result (λ status. AsksMore asked.now → IsTaken base.entry asked.now status) }
+    ensures { IfOk result (λ status. AsksMore asked.now → IsTakenAfter (F.had files.now) base.entry asked.now status) }
 {
     match only_name(asked) {
         Some(name) if !asked.hash && !asked.quiet && !asked.json => {
@@ -84,23 +87,55 @@ fn apply_after<'a>(
         }
         _ => {
             let repo = repo_of(rt.alloc(), base)?;
-            apply_each(rt, &SystemFiles::new(rt), colour, asked, repo)
+            apply_each(rt, files, colour, asked, repo)
         }
     }
 }
 
-/// `dm apply` without a mirror.
-pub fn apply<'a>(
+/// Why nothing was taken: of a base that isn't taken, it is said at once.
+fn refuse_bad_base<'a>(
     rt: &HostRuntime,
     colour: Colour,
     asked: &Apply<'_, 'a>,
-) -> Result<u8, WordFault<'a>> {
-    let file = read_base(rt, asked.base, kinds_of(asked.all_kinds))?;
-    match (apply_after(rt, colour, asked, base_of(&file)), &file) {
-        (Err(WordFault::Tool(ToolFault::BadBase(verdict))), Some(file)) => {
+    file: &Option<BaseFile<'_>>,
+    fault: WordFault<'a>,
+) -> Result<u8, WordFault<'a>>
+    ensures { IfOk result (λ status. status ≡ 2) }
+{
+    match (fault, file) {
+        (WordFault::Tool(ToolFault::BadBase(verdict)), Some(file)) => {
             let reading = Reading::of_words(kinds_of(asked.all_kinds));
             Ok(refuse_base(rt, colour, reading, asked.explain, file, verdict))
         }
-        (answered, _) => answered,
+        (fault, _) => Err(fault),
     }
+}
+
+/// `dm apply` after the base that a file is, without a mirror.
+fn apply_from<'a, F: Files>(
+    rt: &HostRuntime,
+    files: &F,
+    colour: Colour,
+    asked: &Apply<'_, 'a>,
+    file: &Option<BaseFile<'_>>,
+) -> Result<u8, WordFault<'a>>
+    ensures { IfOk result (λ status. status ≢ 2 → AsksMore asked.now → (base : Option BaseText) × AreAlike file.now base × IsTakenAfter (F.had files.now) base asked.now status) }
+{
+    match apply_after(rt, files, colour, asked, base_of(file)) {
+        Ok(status) => Ok(status),
+        Err(fault) => refuse_bad_base(rt, colour, asked, file, fault),
+    }
+}
+
+/// `dm apply` without a mirror.
+pub fn apply<'a, F: Files>(
+    rt: &HostRuntime,
+    files: &F,
+    colour: Colour,
+    asked: &Apply<'_, 'a>,
+) -> Result<u8, WordFault<'a>>
+    ensures { IfOk result (λ status. status ≢ 2 → AsksMore asked.now → IsTaken (F.had files.now) asked.now status) }
+{
+    let file = read_base(files, asked.base, kinds_of(asked.all_kinds))?;
+    apply_from(rt, files, colour, asked, &file)
 }

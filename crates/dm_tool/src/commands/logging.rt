@@ -2,7 +2,8 @@
 use dm_bundle::read_bundle_within;
 use dm_commands::{ToolFault, context_of, repo_of};
 use dm_files::{
-    WordFault, base_of, kinds_of, read_base, read_file, read_repo, refuse_kinds, say_base,
+    SystemFiles, WordFault, base_of, kinds_of, read_base, read_file, read_repo, refuse_kinds,
+    say_base,
 };
 use dm_log::{LogOptions, Patches, write_context, write_entries, write_json};
 use dm_remarks::Reading;
@@ -99,7 +100,7 @@ fn log_of_bundle<'a>(
 
 /// The log of the repository that a base makes.
 fn log_of_base<'a>(rt: &HostRuntime, asked: &Log<'a>) -> Result<Vec<u8>, WordFault<'a>> {
-    let file = read_base(rt, asked.base, kinds_of(asked.all_kinds))?;
+    let file = read_base(&SystemFiles::new(rt), asked.base, kinds_of(asked.all_kinds))?;
     match (repo_of(rt.alloc(), base_of(&file)), &file) {
         (Ok(repo), _) => Ok(text_of_repo(rt, asked, &repo, 0)?),
         (Err(fault), Some(file)) => Err(WordFault::of_base(file.name, fault)),

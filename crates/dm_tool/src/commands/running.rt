@@ -1,17 +1,18 @@
 //! `dm run`: the words of posters, and the plan that they make.
-ghost use Rattle.std.specs.Prelude.{◌≡◌, ◌≢◌, ◌⊎◌, ℕ, List, [], ◌∷◌, ◌++◌, Ok, OnOk, IfErr, IfOk, MatchOption, option_map};
+ghost use Rattle.std.specs.Prelude.{◌≡◌, ◌≢◌, ◌⊎◌, ℕ, List, [], ◌∷◌, ◌++◌, OnOk, IfErr, IfOk, MatchOption, option_map};
 ghost use Rattle.dm_mirror.specs.declared.plan.PlanFault.{PlanFault};
 ghost use Rattle.dm_commands.specs.declared.fault.ToolFault.TheVariants as ToolFault;
 ghost use Rattle.dm_commands.specs.declared.running.Ran.{Ran};
 ghost use Rattle.dm_commands.specs.Alike.{HasFaultAs, IsRanAs};
 ghost use Rattle.dm_commands.specs.Running.{texts_in};
+ghost use Rattle.dm_files.specs.Bases.{IsBaseOrEmpty};
 ghost use Rattle.dm_tool.specs.Posters.{AreRead, AreSplit, IsFirstBad, IsNoPosterWord, IsPosterWord, ReadWord, by_poster, bytes_of, texts_sent};
 ghost use Rattle.dm_tool.specs.Answers.{IsRun};
 ghost use Rattle.dm_tool.specs.Held.{items_of, listed, named, posters_in, words_in};
 
 use dm_commands::{Base, Mirrors, ToolFault, run_mirrors};
 use dm_files::{
-    BaseFile, Manner, NO_ANSWER, WordFault, fixed_manner, policy_of, read_base, read_file, tell,
+    BaseFile, Files, Manner, NO_ANSWER, WordFault, fixed_manner, policy_of, read_base, tell,
 };
 use dm_mirror::PlanFault;
 use dm_named::{Kinds, Limits};
@@ -74,20 +75,19 @@ fn add_text<'a>(
 }
 
 /// Each poster with the texts of its files, which are read in this order.
-fn read_posters<'a, F: Fn(&'a str) -> Result<Vec<u8>, WordFault<'a>>>(
+fn read_posters<'a, F: Files>(
     alloc: Global,
     words: &[(&'a str, &'a str)],
-    read: F,
+    files: &F,
 ) -> Result<Posters<'a>, WordFault<'a>>
-    requires { (file : _) → F.pre read file }
-    ensures { IfOk result (λ posters. (read_words : List ReadWord) × AreRead (λ name text. F.post read name (Ok text)) words.now read_words × (posters_in posters ≡ by_poster read_words)) }
+    ensures { IfOk result (λ posters. (read_words : List ReadWord) × AreRead (F.had files.now) words.now read_words × (posters_in posters ≡ by_poster read_words)) }
 {
     let mut posters = IndexMap::new(alloc);
     for word in words {
         let text = if word.1.is_empty() {
             None
         } else {
-            Some(read(word.1)?)
+            Some(files.text_of(word.1, Limits::STANDARD)?)
         };
         add_text(alloc, &mut posters, word.0, text)?;
     }
@@ -174,7 +174,9 @@ fn run_texts<'a, R: Runtime + AllocGlobal + Threads + Wait + Sync>(
 }
 
 /// The base that a file is, or an empty text.
-fn base_or_empty<'f>(file: &'f Option<BaseFile<'_>>) -> Base<'f> {
+fn base_or_empty<'f>(file: &'f Option<BaseFile<'_>>) -> Base<'f>
+    ensures { IsBaseOrEmpty file.now result }
+{
     match file {
         Some(file) => file.base(),
         None => Base {
@@ -257,19 +259,18 @@ fn refuse_run<'a>(
 
 /// Runs the plan that is asked for: the base is read first, then the files in the order of the words. Returns the exit
 /// status.
-pub fn run_plan<'a, R: Runtime + AllocGlobal + Threads + Wait + Sync>(
+pub fn run_plan<'a, R: Runtime + AllocGlobal + Threads + Wait + Sync, F: Files>(
     rt: &R,
     host: &HostRuntime,
+    files: &F,
     colour: Colour,
     asked: &Run<'_, 'a>,
 ) -> Result<u8, WordFault<'a>>
-    ensures { IfOk result (λ status. status ≢ 2 → IsRun asked.now status) }
+    ensures { IfOk result (λ status. status ≢ 2 → IsRun (F.had files.now) asked.now status) }
 {
-    let files = split_words(rt.alloc(), asked.posters.unwrap_or(&[]))?;
-    let file = read_base(host, asked.base, Kinds::Six)?;
-    let posters = read_posters(rt.alloc(), &files, |name| {
-        read_file(host, name, Limits::STANDARD)
-    })?;
+    let words = split_words(rt.alloc(), asked.posters.unwrap_or(&[]))?;
+    let file = read_base(files, asked.base, Kinds::Six)?;
+    let posters = read_posters(rt.alloc(), &words, files)?;
     let mirrors = Mirrors {
         base: base_or_empty(&file),
         policy: policy_of(asked.skip),

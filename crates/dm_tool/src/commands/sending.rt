@@ -1,8 +1,8 @@
 //! `dm send`.
 use dm_commands::{Base, Sent, ToolFault, repo_of, send_over, sent_line, write_text};
 use dm_files::{
-    Manner, NO_ANSWER, NamesFault, WordFault, base_of, kinds_of, label_of, read_base, read_file,
-    read_repo, refuse_kinds, tell, write_bundle_file,
+    Manner, NO_ANSWER, NamesFault, SystemFiles, WordFault, base_of, kinds_of, label_of, read_base,
+    read_file, read_repo, refuse_kinds, tell, write_bundle_file,
 };
 use dm_named::{Kinds, Limits};
 use dm_remarks::{Colour, Reading, explain_base, explain_theirs};
@@ -248,7 +248,7 @@ pub fn send<'a>(
         return send_from(rt, colour, reading, asked, &kept.repo, kept.base);
     }
     let reading = Reading::of_words(kinds_of(asked.all_kinds));
-    let file = read_base(rt, asked.base, reading.kinds)?;
+    let file = read_base(&SystemFiles::new(rt), asked.base, reading.kinds)?;
     match (repo_of(rt.alloc(), base_of(&file)), &file) {
         (Ok(repo), _) => send_from(rt, colour, reading, asked, &repo, 0),
         (Err(fault), Some(file)) => {

@@ -1,7 +1,7 @@
-use Rattle.std.proofs.Common.{ℕ, List, length, subst}
+use Rattle.std.proofs.Common.{ℕ, List, subst}
 use Rattle.dm_named.specs.declared.limits.Kinds.{Kinds}
 use Rattle.dm_journal.specs.Device.{LeavesOnly}
-use Rattle.dm_disk.specs.States.{may_leave, left_since}
+use Rattle.dm_disk.specs.States.{may_leave, left_since, moment}
 use Rattle.dm_store.specs.Keeping.{CrashesKeep, KeepsRepo, kept_in}
 use Rattle.dm_store.specs.Kinds.{kinds_in}
 use Rattle.dm_files.specs.Named.{CameAtMost}
@@ -14,7 +14,7 @@ returns-in-Ok-clause-answers g c =
     let new = c.take_and_show.new.store in (
       kept_in new,
       c.in-Ok.ensures.answers,
-      subst (λ (k : Kinds). CrashesKeep k may_leave c.settle.result (kept_in new)) c.take_and_show.ensures.kinds c.settle.ensures.kept,
+      subst (λ (k : Kinds). CrashesKeep k may_leave c.into_file.result (kept_in new)) c.take_and_show.ensures.kinds c.into_file.ensures.kept,
     )
 
 pub returns-in-Ok-clause-any_moment : goal.returns-in-Ok-clause-any_moment
@@ -22,9 +22,9 @@ returns-in-Ok-clause-any_moment g c =
     let old = c.args.store in
     let new = c.take_and_show.new.store in
     let all = c.in-Ok.ensures.answers in
-    then_kept length left_since (CameAtMost (g.F.Files.had c.args.files.now) c.args.asked.now) (kinds_in old) c.args.policy c.args.rule (kept_in old) (kept_in new) old.journal.device new.journal.device c.settle.result
+    then_kept moment left_since (CameAtMost (g.F.Files.had c.args.files.now) c.args.asked.now) (kinds_in old) c.args.policy c.args.rule (kept_in old) (kept_in new) old.journal.device new.journal.device c.into_file.result
     all.texts all.answers (at_most (g.F.Files.had c.args.files.now) c.args.asked.now all.texts all.came) all.takes c.take_and_show.ensures.any_moment
-    (subst (λ (k : Kinds). LeavesOnly length left_since new.journal.device c.settle.result (λ file. KeepsRepo k file (kept_in new))) c.take_and_show.ensures.kinds c.settle.ensures.any_moment)
+    (subst (λ (k : Kinds). LeavesOnly moment left_since new.journal.device c.into_file.result (λ file. KeepsRepo k file (kept_in new))) c.take_and_show.ensures.kinds c.into_file.ensures.any_moment)
 
 pub returns-in-Err-Beside-clause-answers_err : goal.returns-in-Err-Beside-clause-answers_err
 returns-in-Err-Beside-clause-answers_err g c =
@@ -32,7 +32,7 @@ returns-in-Err-Beside-clause-answers_err g c =
     λ goes. (
       kept_in new,
       (rw c.in-Err-Beside.field-0-is at c.in-Err-Beside.ensures.answers_err) tt,
-      subst (λ (k : Kinds). CrashesKeep k may_leave c.settle-in-Err-Beside.result (kept_in new)) c.take_and_show.ensures.kinds c.settle-in-Err-Beside.ensures.kept,
+      subst (λ (k : Kinds). CrashesKeep k may_leave c.into_file-in-Err-Beside.result (kept_in new)) c.take_and_show.ensures.kinds c.into_file-in-Err-Beside.ensures.kept,
     )
 
 pub returns-in-Err-Beside-clause-any_moment : goal.returns-in-Err-Beside-clause-any_moment
@@ -40,6 +40,6 @@ returns-in-Err-Beside-clause-any_moment g c =
     let old = c.args.store in
     let new = c.take_and_show.new.store in
     let some = (rw c.in-Err-Beside.field-0-is at c.in-Err-Beside.ensures.answers_err) tt in
-    then_kept length left_since (CameAtMost (g.F.Files.had c.args.files.now) c.args.asked.now) (kinds_in old) c.args.policy c.args.rule (kept_in old) (kept_in new) old.journal.device new.journal.device c.settle-in-Err-Beside.result
+    then_kept moment left_since (CameAtMost (g.F.Files.had c.args.files.now) c.args.asked.now) (kinds_in old) c.args.policy c.args.rule (kept_in old) (kept_in new) old.journal.device new.journal.device c.into_file-in-Err-Beside.result
     some.texts some.answers some.came some.takes c.take_and_show.ensures.any_moment
-    (subst (λ (k : Kinds). LeavesOnly length left_since new.journal.device c.settle-in-Err-Beside.result (λ file. KeepsRepo k file (kept_in new))) c.take_and_show.ensures.kinds c.settle-in-Err-Beside.ensures.any_moment)
+    (subst (λ (k : Kinds). LeavesOnly moment left_since new.journal.device c.into_file-in-Err-Beside.result (λ file. KeepsRepo k file (kept_in new))) c.take_and_show.ensures.kinds c.into_file-in-Err-Beside.ensures.any_moment)

@@ -3,7 +3,7 @@ use Rattle.dm_store.proofs.KeptBase.{fold_base}
 use Rattle.dm_store.specs.Keeping.{kept_as, kept_in}
 use Rattle.dm_store.specs.Kinds.{kinds_in}
 use Rattle.dm_commands.proofs.TakenOut.{some_new, takes_gone}
-use Rattle.dm_files.proofs.LettingGoLemmas.{stays_either}
+use Rattle.dm_files.proofs.LettingGoLemmas.{lets_stay}
 use Rattle.dm_files.proofs.obliterating.take_out.Goals as goal
 
 pub keep_or_show-requires-clause-takes_out : goal.keep_or_show-requires-clause-takes_out
@@ -29,4 +29,4 @@ keep_or_show-requires-clause-takes_out c =
 pub returns-then-is_empty-clause-any_moment : goal.returns-then-is_empty-clause-any_moment
 returns-then-is_empty-clause-any_moment c =
     let store = c.args.store.now in
-    stays_either store (kept_as store.base c.args.out.repo.patches) c.requires.stored
+    lets_stay store (kept_as store.base c.args.out.repo.patches) c.args.saved.now c.requires.none c.requires.stored

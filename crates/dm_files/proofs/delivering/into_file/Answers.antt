@@ -3,7 +3,7 @@ use Rattle.dm_store.specs.Keeping.{KeepsRepo, kept_in}
 use Rattle.dm_store.specs.Kinds.{kinds_in}
 use Rattle.dm_store.proofs.StoredLemmas.{crashes_keep}
 use Rattle.dm_files.proofs.LettingGoLemmas.{left_keeps, still_keeps}
-use Rattle.dm_files.proofs.delivering.settle.Goals as goal
+use Rattle.dm_files.proofs.delivering.into_file.Goals as goal
 
 pub returns-then-not-wants_checkpoint-clause-kept : goal.returns-then-not-wants_checkpoint-clause-kept
 returns-then-not-wants_checkpoint-clause-kept c =
