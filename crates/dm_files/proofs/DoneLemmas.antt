@@ -1,5 +1,5 @@
 -- What was done to a mirror's file since it was opened.
-use Rattle.std.proofs.Common.{◌≡◌, ◌⊎◌, inl, inr, ⊎_elim, ℕ, List, [], Option, Some, None, Result, Ok, Err, IfOk, IfSome, Bool, true, false, not, length, refl, sym, subst, ap, ◌∙◌, true≢false}
+use Rattle.std.proofs.Common.{◌≡◌, ◌⊎◌, inl, inr, ⊎_elim, ℕ, List, [], Option, Some, None, Result, Ok, Err, IfOk, IfSome, true, false, not, length, refl, sym, subst, ap, ◌∙◌, true≢false}
 use Rattle.dm_named.specs.declared.limits.Kinds.{Kinds}
 use Rattle.dm_named.specs.declared.limits.Kinds.TheVariants.{Six}
 use Rattle.dm_named.specs.Patches.{Patch}
@@ -7,9 +7,9 @@ use Rattle.dm_repo.specs.declared.policy.Policy.{Policy}
 use Rattle.dm_journal.specs.Device.{LeavesOnly, Origin}
 use Rattle.dm_journal.specs.Ready.{IsUntouched}
 use Rattle.dm_disk.specs.Events.{Event}
-use Rattle.dm_disk.specs.States.{seen, may_leave, file_may_leave, moment, left_since, left_only_now, left_since_opening, opened_by, read_first, IsFresh}
+use Rattle.dm_disk.specs.States.{seen, may_leave, file_may_leave, moment, left_since, left_only_now, opened_by, read_first, IsFresh}
 use Rattle.dm_store.specs.declared.store.Store.{Store}
-use Rattle.dm_store.specs.Keeping.{CrashesKeep, IsOrKeeps, IsStored, KeepsEither, KeepsRepo, Kept, empty, kept_as, kept_in}
+use Rattle.dm_store.specs.Keeping.{CrashesKeep, IsOrKeeps, IsStored, KeepsRepo, Kept, empty, kept_as, kept_in}
 use Rattle.dm_store.specs.Kinds.{kinds_in}
 use Rattle.dm_store.proofs.StoredLemmas.{at_rest, crashes_keep, weakened}
 use Rattle.dm_commands.specs.Mirrors.{IsMirrorOf}
@@ -25,8 +25,8 @@ use Rattle.dm_files.specs.declared.word_fault.WordFault.{WordFault}
 use Rattle.dm_files.specs.Named.{CameAsNamed, CameAtMost, darcs_rule, kinds_for, policy_for, rule_for}
 use Rattle.dm_files.specs.Bases.{BeginsAs}
 use Rattle.dm_files.specs.Beginning.{IsBegun}
-use Rattle.dm_files.specs.Mirrors.{AnswersAll, HadMirror, IsAnsweredAndKept, IsApplied, IsDoneTo, IsOpenedAs, LeavesAnswered}
-use Rattle.dm_files.specs.Obliterating.{Goes, IsGoneAndKept, IsObliterated, IsSavedAsAsked, LetsGo, MayGo}
+use Rattle.dm_files.specs.Mirrors.{AnswersAll, HadMirror, IsApplied, IsDoneTo, IsOpenedAs, LeavesAnswered}
+use Rattle.dm_files.specs.Obliterating.{Goes, IsObliterated, IsSavedAsAsked, LetsGo, MayGo}
 use Rattle.dm_files.proofs.LettingGoLemmas.{lets_keep, still_keeps}
 use Rattle.dm_files.proofs.MirrorLemmas.{if_ok, keeps_answered}
 

@@ -1,4 +1,4 @@
-use Rattle.std.proofs.Common.{ℕ, List, subst}
+use Rattle.std.proofs.Common.{subst}
 use Rattle.dm_named.specs.declared.limits.Kinds.{Kinds}
 use Rattle.dm_journal.specs.Device.{LeavesOnly}
 use Rattle.dm_disk.specs.States.{may_leave, left_since, moment}

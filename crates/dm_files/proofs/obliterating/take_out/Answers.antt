@@ -1,4 +1,4 @@
-use Rattle.std.proofs.Common.{◌∙◌, sym, refl}
+use Rattle.std.proofs.Common.{◌∙◌, sym}
 use Rattle.dm_store.proofs.KeptBase.{fold_base}
 use Rattle.dm_store.specs.Keeping.{kept_as, kept_in}
 use Rattle.dm_store.specs.Kinds.{kinds_in}

@@ -1,7 +1,7 @@
 use Rattle.std.proofs.Common.{◌≡◌, List, [], ◌∷◌, ◌++◌, Option, None, Some, option_map, ℕ, get_or, ap, ◌∙◌}
 use Rattle.std.specs.Borrow.{Bor}
 use Rattle.std.specs.Global.{Vec}
-use Rattle.dm_tool.specs.Posters.{ReadWord, by_poster}
+use Rattle.dm_tool.specs.Posters.{by_poster}
 use Rattle.dm_tool.proofs.WordLemmas.{no_bytes, some_bytes}
 use Rattle.dm_tool.proofs.GroupLemmas.{read_none_at, read_some_at}
 use Rattle.dm_tool.proofs.commands.running.read_posters.Goals.{then-is_empty, else-is_empty+in_ok-text_of}

@@ -1,4 +1,4 @@
-use Rattle.std.proofs.Common.{◌∙◌, ℕ, List, map, ap, refl}
+use Rattle.std.proofs.Common.{◌∙◌, ℕ, List, ap, refl}
 use Rattle.std.specs.Borrow.{Bor}
 use Rattle.dm_commands.specs.declared.alike.Mirrors.{Mirrors}
 use Rattle.dm_files.proofs.ChoosingLemmas.{choosing}
