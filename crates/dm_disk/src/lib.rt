@@ -6,7 +6,7 @@
 //!
 //! # Proved
 //!
-//! Every clause of [`dm_journal::Device`], of that record. A file that was just opened is durable, as a store asks of it.
+//! Every clause of [`dm_journal::Device`], of that record. Later calls use the path that was noted when the file was opened. A file that was just opened is durable, as a store asks of it.
 //! No call fails without a fault in the record. As many bytes were read as the system told that there are. A new file was made
 //! for its owner alone, and took the name with the same owner and group. It took the mode only where the group and others have the
 //! same bits, or where the file system gave it by itself, else the bits of its owner alone. The two functions of `record` are
@@ -16,7 +16,7 @@
 //!
 //! These no proof shows. Whoever trusts a store in a file trusts them.
 //!
-//! - Each method of `file` makes the call that it notes: a body that notes a sync and makes none would be proved as well.
+//! - Each method of `file` makes the call that it notes: a body that notes a sync and makes none, or opens another name than it notes, would be proved as well.
 //!   What it calls stands in `file`, `opening`, `beside` and `back`. No other code writes to a `Record`.
 //! - The disk does what `specs/States` says: a sync that was done has put the file or the folder there; a write that a crash
 //!   cuts short changes no byte outside its range, and may leave any in it; a crash leaves the old name or the new one of

@@ -10,7 +10,7 @@ use Rattle.dm_files.specs.Mirrors.{IsDoneTo}
 use Rattle.dm_files.specs.Named.{kinds_for}
 
 -- Where there is an answer the mirror's file, which was empty, keeps what it began with, for the kinds that are asked for: the base that is named, unless it begins
--- at a tag. Whatever comes, a crash at any moment leaves the file empty, or it keeps that.
+-- at a tag. Where the file comes back, a crash at any moment leaves the file empty, or it keeps that.
 pub record IsBegun (had : List ℕ → List ℕ → Type 0) (asked : Init) (outcome : Outcome) : Type 0 where
   pub start : Kept
   pub begun : IfOk outcome.answer (λ status. (closed : List Event) × (outcome.file ≡ Some closed) × CrashesKeep (kinds_for (not asked.six_kinds)) may_leave closed start

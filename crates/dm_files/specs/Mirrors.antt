@@ -71,7 +71,7 @@ pub record IsAnsweredAndKept (had : List ℕ → List ℕ → Type 0) (asked : A
   pub kept : asked.dry_run ≡ false → (closed : List Event) × (file ≡ Some closed) × CrashesKeep kinds may_leave closed new
 
 -- What comes of `dm apply --mirror`, with this file: where there is an answer, all that is named was taken into what the file had, and it keeps what came of that.
--- Whatever comes, a crash at any moment leaves what the file had, or the repository after the first of the texts, some or all. With `--dry-run` nothing is done to it.
+-- Where the file comes back, also with an error, a crash at any moment leaves what it had, or the repository after the first of the texts, some or all. With `--dry-run` nothing is done to it.
 pub record IsApplied (had : List ℕ → List ℕ → Type 0) (asked : Apply) (name : List ℕ) (outcome : Outcome) : Type 0 where
   pub kinds : Kinds
   pub held : Kept

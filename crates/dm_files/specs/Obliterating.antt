@@ -52,7 +52,7 @@ pub record IsGoneAndKept (asked : Obliterate) (kinds : Kinds) (held : Kept) (out
   pub keeps : CrashesKeep kinds may_leave closed (kept_as held.base stays)
   pub saved : IsSavedAsAsked asked kinds held.patches stays outcome.saved
 
--- What comes of `dm obliterate`, with the mirror's file and that of the bundle. Whatever comes, a crash at any moment leaves what the mirror had, or what stays once
+-- What comes of `dm obliterate`, with the mirror's file and that of the bundle. Where the mirror's file comes back, also with an error, a crash at any moment leaves what it had, or what stays once
 -- those that the words choose are out, and loses no patch that was to be saved.
 pub record IsObliterated (asked : Obliterate) (outcome : Outcome) : Type 0 where
   pub kinds : Kinds

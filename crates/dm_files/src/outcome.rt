@@ -9,7 +9,7 @@ use dm_disk::ClosedFile;
 pub struct Outcome<'a> {
     /// The exit status, or why there is no answer.
     pub answer: Result<u8, WordFault<'a>>,
-    /// The mirror's file, let go. `None` where the command changes no mirror, or could open none.
+    /// The mirror's file, let go. `None` where the command changes no mirror, could open none, or could begin none in the file.
     pub file: Option<ClosedFile>,
     /// The file that got the bundle of what went out of the mirror, let go. `None` where none was opened.
     pub saved: Option<ClosedFile>,
