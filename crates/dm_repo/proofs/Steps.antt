@@ -88,7 +88,7 @@ alike_from marks Q n (x ∷ xs) f =
     let h : (slice_get marks n ≡ Some true) ↔ Q x.info = rw z at (f 0 x refl) in
     and h.0 h.1 (alike_from marks Q (n + 1) xs (λ k y e. let w : (n + 1) + k ≡ n + suc k = omega arith in rw w (f (suc k) y e)))
 
-info_from : (xs : List Patch) (k : ℕ) {x : Patch} → slice_get xs k ≡ Some x → slice_get (infos_of xs) k ≡ Some x.info
+pub info_from : (xs : List Patch) (k : ℕ) {x : Patch} → slice_get xs k ≡ Some x → slice_get (infos_of xs) k ≡ Some x.info
 info_from [] k e = absurd (cc)
 info_from (y ∷ ys) zero e = ap (λ z. Some z.info) (some_is e)
   where

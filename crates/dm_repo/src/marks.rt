@@ -25,18 +25,28 @@ pub(crate) fn are_set(marks: &[bool]) -> bool
     marks.iter().all(|mark| *mark)
 }
 
-/// Marks the patches of these names, or returns the place of the first that isn't held.
-fn mark<A: Allocator>(repo: &Repo<A>, infos: &[Info<A>], marks: &mut [bool]) -> Result<(), usize>
+/// Marks the patches of these names, or returns the place of the first that isn't held. They are those that the patch at this place
+/// depends on: a tag names many that stand in a row.
+fn mark<A: Allocator>(
+    repo: &Repo<A>,
+    place: usize,
+    infos: &[Info<A>],
+    marks: &mut [bool],
+) -> Result<(), usize>
     requires marks { length marks.old ≡ length repo.now.patches }
     requires distinct { Distinct (infos_of repo.now.patches) }
     ensures { MatchResult result
         (λ _. AddsMarks marks.old marks.new (infos_of repo.now.patches) infos.now × HoldsAll repo.now.patches infos.now)
         (λ c. First (LacksAt repo.now.patches infos.now) c) }
 {
+    let mut last = place;
     for c in 0..infos.len() {
-        match repo.position(&infos[c]) {
+        match repo.position_beside(last, &infos[c]) {
             None => return Err(c),
-            Some(k) => marks[k] = true,
+            Some(k) => {
+                marks[k] = true;
+                last = k;
+            }
         }
     }
     Ok(())
@@ -54,10 +64,14 @@ fn context_marks<A: Allocator + Copy, B: Allocator + Copy>(
 {
     let mut marks = vec![in alloc; false; repo.len()]?;
     let context = bundle.context();
+    let mut last = repo.len();
     for c in 0..context.len() {
-        match repo.find(&context[c])? {
+        match repo.find_beside(last, &context[c])? {
             None => return Err(Refusal::MissingContext(c)),
-            Some(k) => marks[k] = true,
+            Some(k) => {
+                marks[k] = true;
+                last = k;
+            }
         }
     }
     Ok(marks)
@@ -77,7 +91,7 @@ fn closed_marks<A: Allocator + Copy, B: Allocator + Copy>(
     let mut marks = context_marks(alloc, repo, bundle)?;
     for k in (0..repo.len()).rev() {
         if marks[k] {
-            match mark(repo, repo.patch(k).deps(), marks.as_mut_slice()) {
+            match mark(repo, k, repo.patch(k).deps(), marks.as_mut_slice()) {
                 Ok(()) => {}
                 Err(_) => unreachable!(),
             }

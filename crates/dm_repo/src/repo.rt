@@ -1,5 +1,5 @@
 //! A repository: its patches, oldest first, their names, and the tree that they make.
-ghost use Rattle.std.specs.Prelude.{◌≡◌, ◌↔◌, ◌<◌, ◌≤◌, [], ◌++◌, length, IfOk, OnErr, OnOk, IsTrue, slice_get, Some, MatchOption};
+ghost use Rattle.std.specs.Prelude.{◌≡◌, ◌↔◌, ◌<◌, ◌≤◌, [], ◌++◌, length, IfOk, IfSome, OnErr, OnOk, IsTrue, slice_get, Some, MatchOption};
 ghost use Rattle.std.specs.FinMap as finmap;
 ghost use Rattle.dm_tree.specs.Trees.{IsLawful, Map};
 ghost use Rattle.dm_tree.specs.Reach.{AreBelowRoot, AreTops, Puts};
@@ -167,6 +167,43 @@ impl<A: Allocator> Repo<A> {
         place_of(&self.names, info)
     }
 
+    /// The same as [`Repo::position`], where the patch probably stands beside this place: there no hash is needed.
+    pub(crate) fn position_beside(&self, place: usize, info: &Info<A>) -> Option<usize>
+        ensures { MatchOption result
+            (Holds self.now.patches info.now → ⊥)
+            (λ i. slice_get (infos_of self.now.patches) i ≡ Some info.now) }
+    {
+        match self.beside(place, info) {
+            Some(i) => Some(i),
+            None => self.position(info),
+        }
+    }
+
+    /// The place behind this one, or before it, if the patch of this name stands there.
+    fn beside<B: Allocator>(&self, place: usize, info: &Info<B>) -> Option<usize>
+        ensures { IfSome result (λ i. slice_get (infos_of self.now.patches) i ≡ Some info.now) }
+    {
+        let next = place.saturating_add(1);
+        if self.has_at(next, info) {
+            return Some(next);
+        }
+        let previous = place.saturating_sub(1);
+        if self.has_at(previous, info) {
+            return Some(previous);
+        }
+        None
+    }
+
+    /// Whether there is a patch at this place, and of this name.
+    fn has_at<B: Allocator>(&self, i: usize, info: &Info<B>) -> bool
+        ensures { IsTrue result → slice_get (infos_of self.now.patches) i ≡ Some info.now }
+    {
+        if i >= self.len() {
+            return false;
+        }
+        self.patch(i).info().same(info)
+    }
+
     /// Appends what was prepared, and returns how many patches that is; takes no memory. The tree after them takes the
     /// place of the one that is kept.
     ///
@@ -217,6 +254,22 @@ impl<A: Allocator + Copy> Repo<A> {
     {
         let name = info.copy_into(*self.patches.allocator())?;
         Ok(self.position(&name))
+    }
+
+    /// The same as [`Repo::find`], where the patch probably stands beside this place: there it is neither copied nor hashed.
+    pub(crate) fn find_beside<B: Allocator>(
+        &self,
+        place: usize,
+        info: &Info<B>,
+    ) -> Result<Option<usize>, AllocError>
+        ensures { IfOk result (λ found. MatchOption found
+            (Holds self.now.patches info.now → ⊥)
+            (λ i. slice_get (infos_of self.now.patches) i ≡ Some info.now)) }
+    {
+        match self.beside(place, info) {
+            Some(i) => Ok(Some(i)),
+            None => self.find(info),
+        }
     }
 
     /// Appends merged patches, and returns how many that is. They are copied, and so is the part of the tree, which takes its

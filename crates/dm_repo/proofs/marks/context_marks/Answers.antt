@@ -14,12 +14,12 @@ index_mut-requires g c =
     let infos = infos_of c.args.repo.now.patches in
     let none = no_marks infos c.len.result (c.len.ensures.value ∙ sym (length-map c.args.repo.now.patches (λ p. p.info))) in
     let clean = rw (c.in_ok-marks.ensures.items_if_clones_equal (λ y h. h)) at c.loop-c.invariant.marked.length_is in
-    let l = within infos c.in-Some.k (rw c.in-Some.is at c.in_ok-find.ensures) in
+    let l = within infos c.in-Some.k (rw c.in-Some.is at c.in_ok-find_beside.ensures) in
     omega (arith, l, none.length_is, clean, c.loop-c.marks.ok.0)
 
 pub returns-in-None : goal.returns-in-None
 returns-in-None g c =
-    rw c.context-context.ensures at (first_lack c.args.repo.now.patches c.context-context.result.now c.loop-c.c c.index-context-c.result c.loop-c-test.true c.index-context-c.is (rw c.in-None.is at c.in_ok-find.ensures) c.loop-c.invariant.held)
+    rw c.context-context.ensures at (first_lack c.args.repo.now.patches c.context-context.result.now c.loop-c.c c.index-context-c.result c.loop-c-test.true c.index-context-c.is (rw c.in-None.is at c.in_ok-find_beside.ensures) c.loop-c.invariant.held)
 
 pub loop-c-preserved : goal.loop-c-preserved
 loop-c-preserved g c =
@@ -27,7 +27,7 @@ loop-c-preserved g c =
     let context = c.context-context.result.now in
     let clean = c.in_ok-marks.ensures.items_if_clones_equal (λ y h. h) in
     let none = no_marks infos c.len.result (c.len.ensures.value ∙ sym (length-map c.args.repo.now.patches (λ p. p.info))) in
-    let found = rw c.in-Some.is at c.in_ok-find.ensures in
+    let found = rw c.in-Some.is at c.in_ok-find_beside.ensures in
     record {
       marked = also_more infos c.in_ok-marks.marks.items c.loop-c.marks.items context c.loop-c.c c.in-Some.k c.index-context-c.result c.len.ensures.valid.distinct
           (rw clean none.length_is) c.loop-c-test.true c.index-context-c.is found c.loop-c.invariant.marked;
