@@ -1,6 +1,5 @@
 -- How a growth goes on with each entry, and when it is large.
 use Rattle.std.proofs.Common.{◌≡◌, ◌∙◌, ◌↔◌, ◌⊎◌, ◌<◌, ◌+◌, ◌*◌, ◌/◌, ◌^◌, arith, max, inl, inr, ⊎_elim, ℕ, List, [], ◌∷◌, ◌++◌, length, suc, zero, get_or, take, refl, sym, ap, subst}
-use Rattle.std.specs.List.{sum_by}
 use Rattle.std.proofs.lemmas.List.{take_more}
 use Rattle.std.proofs.lemmas.List.Sums.{sum_by-append}
 use Rattle.std.proofs.Common.{length-append}
