@@ -1,11 +1,12 @@
 -- What a file is made of.
-use Rattle.std.proofs.Common.{◌≡◌, ℕ, ◌+◌, ◌-◌, ◌<◌, ◌≤◌, ◌^◌, max, List, [], ◌∷◌, ◌++◌, length, Option, get_or, take, map, refl, sym, ◌∙◌, ap, subst, arith, length-append}
+use Rattle.std.proofs.Common.{◌≡◌, ℕ, ◌+◌, ◌-◌, ◌<◌, ◌≤◌, ◌^◌, max, List, [], ◌∷◌, ◌++◌, length, Option, get_or, take, map, refl, sym, ◌∙◌, ap, subst, arith, append_assoc, length-append}
 use Rattle.std.proofs.Math.ListN.{replicate}
+use Rattle.std.specs.Int.{w64, to_le_bytes}
 use Rattle.std.proofs.lemmas.List.{append-nil, map-append, take_more, length-replicate, replicate-append-replicate}
 use Rattle.dm_journal.specs.declared.format.Format.{Format}
 use Rattle.dm_journal.specs.Format.{line, unit, filling, filled}
 use Rattle.dm_journal.specs.Journal.{block, checksum_of, next_link, link_after, IsLatch, IsBlock, IsNext, Begins, StandsIn, link_bytes}
-use Rattle.dm_journal.specs.Reading.{staged, IsPushed, IsReading, IsWholeFile, EndsSo}
+use Rattle.dm_journal.specs.Reading.{staged, IsFront, IsPushed, IsReading, IsWholeFile, EndsSo}
 use Rattle.dm_journal.specs.Texts.{ranges_of}
 use Rattle.dm_journal.specs.declared.reading.Reading.{Reading}
 use Rattle.dm_journal.proofs.Blocks.{length-block, file_front, begins_push, link_push, end_more}
@@ -36,6 +37,51 @@ next_text format f xs i d old new link next lt begins linked p is =
       subst (λ l. Begins format new l []) all (begins_push format new before text p.more [] longer one),
       is ∙ ap (λ (l : List ℕ). next_link format (checksum_of format l text)) linked ∙ link_push format [] before text ∙ ap (link_after format []) all,
     )
+
+flat_front : (h l n c t z : List ℕ) → ((h ++ (l ++ (n ++ c))) ++ t) ++ z ≡ h ++ (l ++ ((n ++ (c ++ t)) ++ z))
+flat_front h l n c t z =
+    ap (λ (x : List ℕ). x ++ z) (append_assoc h (l ++ (n ++ c)) t ∙ ap (λ (x : List ℕ). h ++ x) (append_assoc l (n ++ c) t ∙ ap (λ (x : List ℕ). l ++ x) (append_assoc n c t)))
+    ∙ append_assoc h (l ++ (n ++ (c ++ t))) z
+    ∙ ap (λ (x : List ℕ). h ++ x) (append_assoc l (n ++ (c ++ t)) z)
+
+not_closed : (latch : ℕ) → 0 < latch → latch ≡ 0 → ⊥
+not_closed latch some e = absurd (omega (arith, some, e))
+
+-- the block of the first text, behind its latch
+first_next : (format : Format) (text latch : List ℕ) → length text < 2 ^ 64 → IsLatch format 255 [] latch →
+    IsNext format [] text [] (latch ++ (block (checksum_of format [] text) text ++ replicate (filling format (40 + length text)) 0))
+first_next format text latch fits opens =
+    let fill = replicate (filling format (40 + length text)) 0 in
+    let whole = block (checksum_of format [] text) text in
+    let opened : latch ≡ 255 ∷ opens.fill = opens.is ∙ ap (λ (l : List ℕ). 255 ∷ l) (append-nil opens.fill) in
+    record {
+      latch = 255;
+      is_open = not_closed 255 (omega arith);
+      behind = whole ++ (fill ++ []);
+      stands = record {
+        fill = opens.fill;
+        filled = opens.filled;
+        is = ap (λ (l : List ℕ). l ++ (whole ++ fill)) opened ∙ ap (λ (l : List ℕ). 255 ∷ (opens.fill ++ (whole ++ l))) (sym (append-nil fill));
+      };
+      has = record { fits = fits; fill = fill; filled = length-replicate (filling format (40 + length text)) 0; is = refl };
+    }
+
+-- a file of one text, in front of which stands what has to
+pub one_made : (format : Format) (checksum text front file closing link : List ℕ) → length text < 2 ^ 64 → checksum ≡ checksum_of format [] text → IsFront format (length text) checksum front →
+    file ≡ ((front ++ text) ++ replicate (filling format (40 + length text)) 0) ++ closing → IsLatch format 0 [] closing → link ≡ next_link format checksum → IsWholeFile format file (text ∷ []) link
+one_made format checksum text front file closing link fits sum f is closed next =
+    let fill = replicate (filling format (40 + length text)) 0 in
+    let first = f.latch ++ (block checksum text ++ fill) in
+    let flat : (front ++ text) ++ fill ≡ f.header ++ first = ap (λ (l : List ℕ). (l ++ text) ++ fill) f.is ∙ flat_front f.header f.latch (to_le_bytes w64 (length text)) checksum text fill in
+    let one : IsNext format [] text [] first = subst (λ (l : List ℕ). IsNext format [] text [] (f.latch ++ (block l text ++ fill))) (sym sum) (first_next format text f.latch fits f.opens) in
+    let begins = closed_made format f.header (f.header ++ first) [] first f.begins refl in
+    let longer = begins_push format (f.header ++ first) [] text first [] begins one in
+    record {
+      rest = closing;
+      begins = closed_made format (f.header ++ first) file (text ∷ []) closing longer (is ∙ ap (λ (l : List ℕ). l ++ closing) flat);
+      closed = closed;
+      is = next ∙ ap (next_link format) sum;
+    }
 
 -- a block, and zeros behind it, among them a closed latch
 pub record IsStage (format : Format) (checksum text bytes : List ℕ) : Type 0 where

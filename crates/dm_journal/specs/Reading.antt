@@ -1,6 +1,7 @@
 -- What the private calls of reading and writing tell.
 use Rattle.std.specs.Prelude.{◌≡◌, ℕ, ◌+◌, ◌-◌, ◌≤◌, max, List, [], ◌++◌, length, take, drop}
 use Rattle.std.proofs.Math.ListN.{replicate}
+use Rattle.std.specs.Int.{w64, to_le_bytes}
 use Rattle.dm_journal.specs.declared.format.Format.{Format}
 use Rattle.dm_journal.specs.Format.{unit, filled}
 use Rattle.dm_journal.specs.Journal.{block, checksum_of, IsBlock, IsLatch, IsOpen, IsNext, Begins, Closes, link_after, link_bytes}
@@ -73,6 +74,14 @@ pub record IsWholeFile (format : Format) (file : List ℕ) (texts : List (List �
   pub begins : Begins format file texts rest
   pub closed : IsLatch format 0 [] rest
   pub is : link ≡ link_after format [] texts
+
+-- the bytes are the header of the format, whatever fills its unit, an open latch, and a text's length in 8 bytes and this checksum
+pub record IsFront (format : Format) (n : ℕ) (checksum bytes : List ℕ) : Type 0 where
+  pub header : List ℕ
+  pub latch : List ℕ
+  pub begins : Begins format header [] []
+  pub opens : IsLatch format 255 [] latch
+  pub is : bytes ≡ header ++ (latch ++ (to_le_bytes w64 n ++ checksum))
 
 -- an open latch and the block of a text join the bytes
 pub record IsPushed (format : Format) (link text old new : List ℕ) : Type 0 where

@@ -1,5 +1,5 @@
 //! A journal on a device: opened, appended to, made, and put in another's place.
-ghost use Rattle.std.specs.Prelude.{◌≡◌, ◌+◌, ◌<◌, ◌≤◌, ◌^◌, ◌++◌, [], ◌∷◌, ◌⊎◌, List, ℕ, length, drop, map, Any, IfOk, IfErr, OnOk, IsErrOf};
+ghost use Rattle.std.specs.Prelude.{◌≡◌, ◌≢◌, ◌+◌, ◌<◌, ◌≤◌, ◌^◌, ◌++◌, [], ◌∷◌, ◌⊎◌, List, ℕ, length, drop, map, Any, IfOk, IfErr, OnOk, IsErrOf};
 ghost use Rattle.dm_journal.specs.declared.device.DeviceError.TheVariants.{Failed};
 ghost use Rattle.dm_journal.specs.declared.fault.OpenError.TheVariants.{Device as OpeningDevice, File as OpeningFile};
 ghost use Rattle.dm_journal.specs.declared.fault.WriteError.TheVariants.{Device as WritingDevice, TooLong, Full};
@@ -9,8 +9,8 @@ ghost use Rattle.dm_journal.specs.Device.{IsDurable, LeavesOnly, IsSameBefore};
 ghost use Rattle.dm_journal.specs.Faults.{HasFault};
 ghost use Rattle.dm_journal.specs.Format.{renewed};
 ghost use Rattle.dm_journal.specs.Hidden.{TellsHidden};
-ghost use Rattle.dm_journal.specs.Journal.{StandsIn, IsZeros};
-ghost use Rattle.dm_journal.specs.Reading.{EndsSo};
+ghost use Rattle.dm_journal.specs.Journal.{StandsIn, IsZeros, link_bytes};
+ghost use Rattle.dm_journal.specs.Reading.{EndsSo, IsWholeFile};
 ghost use Rattle.dm_journal.specs.Ready.{HasTexts, IsTooLong, IsBeside, IsFailure, StandsWithOrWithout, StandsForEither, IsUntouched};
 
 use crate::device::Device;
@@ -18,7 +18,7 @@ use crate::fault::{OpenError, WriteError};
 use crate::format::{Format, Link};
 use crate::reading::{FRONT, read_blocks};
 use crate::texts::Texts;
-use crate::writing::{MOST_BYTES, OPEN, replace_file, stage, whole, write_synced};
+use crate::writing::{MOST_BYTES, OPEN, replace_file, stage, whole, whole_of, write_synced};
 use std::alloc::Global;
 
 // The last place of a latch behind which a text is appended.
@@ -174,6 +174,36 @@ impl<D: Device> Journal<D> {
         }
     }
 
+    /// As [`Journal::create`] with one text, which becomes the file in its own memory: a long one isn't there twice.
+    pub fn create_of(
+        alloc: Global,
+        mut device: D,
+        format: Format,
+        text: Vec<u8>,
+    ) -> Result<Journal<D>, (WriteError, D)>
+        requires { IsDurable D.seen D.may_leave D.file_may_leave device }
+        ensures ok { IfOk result (λ journal. HasTexts D.seen D.may_leave D.file_may_leave journal (text.items ∷ [])) }
+        ensures format { IfOk result (λ journal. journal.end.format ≡ format) }
+
+        // A crash at any moment of the call leaves the file from before it, or a journal of the text.
+        ensures any_moment { IfOk result (λ journal. LeavesOnly D.moment D.left_since device journal.device
+            (λ c. (c ≡ D.seen device) ⊎ StandsIn format c (text.items ∷ []))) }
+        ensures any_moment_err { IfErr result (λ e. LeavesOnly D.moment D.left_since device e.1
+            (λ c. (c ≡ D.seen device) ⊎ StandsIn format c (text.items ∷ []))) }
+        ensures failed { IfErr result (λ e. IsFailure e.0 → D.faults device < D.faults e.1) }
+        ensures too_long { IfErr result (λ e. e.0 ≡ TooLong → IsTooLong text.items) }
+        ensures not_full { IfErr result (λ e. e.0 ≡ Full → ⊥) }
+    {
+        match put_text(alloc, &mut device, format, text) {
+            Ok(end) => Ok(Journal {
+                device,
+                end,
+                hidden: None,
+            }),
+            Err(error) => Err((error, device)),
+        }
+    }
+
     /// Puts these texts in the place of those that the journal has. At `Ok` they are acknowledged: from then on each crash
     /// leaves a file that has just these. At [`WriteError::Beside`] the journal can go on as it was. The new file has a header of
     /// named fields.
@@ -198,6 +228,29 @@ impl<D: Device> Journal<D> {
         self.hidden = None;
         Ok(())
     }
+
+    /// As [`Journal::replace`] by one text, which becomes the file in its own memory: a long one isn't there twice.
+    pub fn replace_by(&mut self, alloc: Global, text: Vec<u8>) -> Result<(), WriteError>
+        requires { IsDurable D.seen D.may_leave D.file_may_leave self.old.device }
+        ensures acknowledged { OnOk result (HasTexts D.seen D.may_leave D.file_may_leave self.new (text.items ∷ [])) }
+        ensures format { OnOk result (self.new.end.format ≡ renewed self.old.end.format) }
+        ensures format_err { IfErr result (λ _. self.new.end.format ≡ self.old.end.format) }
+
+        // A crash at any moment of the call leaves the old texts or the new one.
+        ensures any_moment { (format : FileFormat) (old : List (List ℕ)) → StandsIn format (D.seen self.old.device) old
+            → LeavesOnly D.moment D.left_since self.old.device self.new.device
+            (StandsForEither format old (renewed self.old.end.format) (text.items ∷ [])) }
+        ensures untouched { IfErr result (λ e. IsBeside e → (old : List (List ℕ)) → HasTexts D.seen D.may_leave D.file_may_leave self.old old
+            → HasTexts D.seen D.may_leave D.file_may_leave self.new old) }
+        ensures failed { IfErr result (λ e. IsFailure e → D.faults self.old.device < D.faults self.new.device) }
+        ensures too_long { IsErrOf result TooLong → IsTooLong text.items }
+        ensures not_full { IsErrOf result Full → ⊥ }
+    {
+        let format = self.end.format.renewed();
+        self.end = put_text(alloc, &mut self.device, format, text)?;
+        self.hidden = None;
+        Ok(())
+    }
 }
 
 // Puts a journal of these texts in the place of the file.
@@ -219,7 +272,49 @@ fn put_journal<D: Device>(
     ensures not_full { IsErrOf result Full → ⊥ }
 {
     let (bytes, link) = whole(alloc, format, texts)?;
-    replace_file(device, &bytes)?;
+    put_file(device, format, &bytes, link)
+}
+
+// Puts a journal of this one text in the place of the file.
+fn put_text<D: Device>(
+    alloc: Global,
+    device: &mut D,
+    format: Format,
+    text: Vec<u8>,
+) -> Result<End, WriteError>
+    requires { IsDurable D.seen D.may_leave D.file_may_leave device.old }
+    ensures texts { IfOk result (λ end. EndsSo (D.seen device.new) (text.items ∷ []) end) }
+    ensures format { IfOk result (λ end. end.format ≡ format) }
+    ensures durable { OnOk result (IsDurable D.seen D.may_leave D.file_may_leave device.new) }
+    ensures any_moment { LeavesOnly D.moment D.left_since device.old device.new
+        (λ c. (c ≡ D.seen device.old) ⊎ StandsIn format c (text.items ∷ [])) }
+    ensures untouched { IfErr result (λ e. IsBeside e → IsUntouched D.seen D.may_leave D.file_may_leave D.moment D.left_since device.old device.new) }
+    ensures failed { IfErr result (λ e. IsFailure e → D.faults device.old < D.faults device.new) }
+    ensures too_long { IsErrOf result TooLong → IsTooLong text.items }
+    ensures not_full { IsErrOf result Full → ⊥ }
+{
+    let (bytes, link) = whole_of(alloc, format, text)?;
+    put_file(device, format, &bytes, link)
+}
+
+// Puts a file of these bytes, which are a whole journal, in the place of the file.
+fn put_file<D: Device>(
+    device: &mut D,
+    format: Format,
+    bytes: &[u8],
+    link: Link,
+) -> Result<End, WriteError>
+    requires durable { IsDurable D.seen D.may_leave D.file_may_leave device.old }
+    requires whole { (texts : List (List ℕ)) × IsWholeFile format bytes.now texts (link_bytes link) }
+    ensures texts { IfOk result (λ end. (texts : List (List ℕ)) → IsWholeFile format bytes.now texts (link_bytes link) → EndsSo (D.seen device.new) texts end) }
+    ensures format { IfOk result (λ end. end.format ≡ format) }
+    ensures durable { OnOk result (IsDurable D.seen D.may_leave D.file_may_leave device.new) }
+    ensures any_moment { LeavesOnly D.moment D.left_since device.old device.new (λ c. (c ≡ D.seen device.old) ⊎ (c ≡ bytes.now)) }
+    ensures untouched { IfErr result (λ e. IsBeside e → IsUntouched D.seen D.may_leave D.file_may_leave D.moment D.left_since device.old device.new) }
+    ensures failed { IfErr result (λ e. IsFailure e → D.faults device.old < D.faults device.new) }
+    ensures kind { IfErr result (λ e. (e ≢ TooLong) × (e ≢ Full)) }
+{
+    replace_file(device, bytes)?;
     Ok(End {
         format,
         link,

@@ -6,7 +6,7 @@ ghost use Rattle.dm_journal.specs.Ready.{IsTooLong, IsUntouched, IsBeside, IsFai
 ghost use Rattle.dm_journal.specs.Device.{IsDurable, IsWrittenAt, Torn, LeavesOnly, Only};
 ghost use Rattle.dm_journal.specs.Format.{filling};
 ghost use Rattle.dm_journal.specs.Journal.{block, checksum_of, next_link, link_bytes, IsLatch};
-ghost use Rattle.dm_journal.specs.Reading.{staged, IsWholeFile, IsPushed};
+ghost use Rattle.dm_journal.specs.Reading.{staged, IsWholeFile, IsPushed, IsFront};
 ghost use Rattle.std.proofs.Math.ListN.{replicate};
 
 use crate::device::{Device, DeviceError};
@@ -75,6 +75,65 @@ fn write_whole(
     }
     push_latch(&mut bytes, format, 0)?;
     Ok((bytes, link))
+}
+
+// A whole journal of this one text, in the text's own memory, and what the next block follows on.
+pub fn whole_of(alloc: Global, format: Format, text: Vec<u8>) -> Result<(Vec<u8>, Link), WriteError>
+    ensures text { IfOk result (λ r. IsWholeFile format r.0.items (text.items ∷ []) (link_bytes r.1)) }
+    ensures err { IfErr result (λ e. (e ≡ Beside Memory) ⊎ (e ≡ TooLong)) }
+    ensures too_long { IsErrOf result TooLong → IsTooLong text.items }
+{
+    if text.len() > MOST_BYTES {
+        return Err(WriteError::TooLong);
+    }
+    match wrap(alloc, format, text) {
+        Ok(made) => Ok(made),
+        Err(error) => Err(WriteError::Beside(error)),
+    }
+}
+
+fn wrap(alloc: Global, format: Format, text: Vec<u8>) -> Result<(Vec<u8>, Link), DeviceError>
+    requires { length text.items ≤ 2 ^ 40 }
+    ensures text { IfOk result (λ r. IsWholeFile format r.0.items (text.items ∷ []) (link_bytes r.1)) }
+    ensures err { IfErr result (λ e. e ≡ Memory) }
+{
+    let len = text.len();
+    let checksum = format.checksum(None, &text);
+    let front = front(alloc, format, len, &checksum)?;
+    let mut bytes = text;
+    push_front(&mut bytes, &front)?;
+    fill_up(&mut bytes, format, FRONT + len)?;
+    push_latch(&mut bytes, format, 0)?;
+    Ok((bytes, format.next_link(checksum)))
+}
+
+// What a file has in front of its first text.
+fn front(
+    alloc: Global,
+    format: Format,
+    len: usize,
+    checksum: &[u8; 32],
+) -> Result<Vec<u8>, DeviceError>
+    ensures bytes { IfOk result (λ front. IsFront format len checksum.now front.items) }
+    ensures err { IfErr result (λ e. e ≡ Memory) }
+{
+    let line = format.line();
+    let mut front = line.to_vec(alloc)?;
+    fill_up(&mut front, format, line.len())?;
+    push_latch(&mut front, format, OPEN)?;
+    front.extend_from_slice(&(len as u64).to_le_bytes())?;
+    front.extend_from_slice(checksum)?;
+    Ok(front)
+}
+
+// These bytes in front of the others, which move.
+fn push_front(bytes: &mut Vec<u8>, front: &[u8]) -> Result<(), DeviceError>
+    ensures bytes { OnOk result (bytes.new.items ≡ front.now ++ bytes.old.items) }
+    ensures err { IfErr result (λ e. e ≡ Memory) }
+{
+    bytes.extend_from_slice(front)?;
+    bytes.rotate_right(front.len());
+    Ok(())
 }
 
 // An open latch and the block of a text that follows on the link. What the next block follows on.

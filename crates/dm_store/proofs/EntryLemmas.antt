@@ -1,5 +1,5 @@
 -- An entry has one policy and one text, or it is that of a whole repository, of one text and one base.
-use Rattle.std.proofs.Common.{◌≡◌, ◌∙◌, ◌<◌, ◌^◌, arith, ℕ, List, ◌∷◌, ◌++◌, get_or, take, drop, refl, sym, ap}
+use Rattle.std.proofs.Common.{◌≡◌, ◌∙◌, ◌<◌, ◌^◌, arith, ℕ, List, [], ◌∷◌, ◌++◌, append_assoc, get_or, take, drop, refl, sym, ap}
 use Rattle.std.specs.Int.{w64, to_le_bytes, from_le_bytes}
 use Rattle.std.proofs.lemmas.List.{drop_at, take_at}
 use Rattle.std.proofs.lemmas.Nat.{from_le_bytes-to_le_bytes_8}
@@ -44,3 +44,7 @@ one_counted a b t u la lb e =
       sym (from_le_bytes-to_le_bytes_8 a la) ∙ ap (from_le_bytes w64) bytes ∙ from_le_bytes-to_le_bytes_8 b lb,
       sym (drop_at (to_le_bytes w64 a) t 8 refl) ∙ ap (drop 8) f ∙ drop_at (to_le_bytes w64 b) u 8 refl,
     )
+
+-- an entry that was begun, and its text
+pub begun_entry : (base : ℕ) (text front entry : List ℕ) → front ≡ counted_entry base [] → entry ≡ front ++ text → entry ≡ counted_entry base text
+begun_entry base text front entry begun is = is ∙ ap (λ (l : List ℕ). l ++ text) begun ∙ ap (λ (l : List ℕ). 3 ∷ l) (append_assoc (to_le_bytes w64 base) [] text)

@@ -1,9 +1,9 @@
 -- How a growth goes on with each entry, and when it is large.
-use Rattle.std.proofs.Common.{◌≡◌, ◌∙◌, ◌↔◌, ◌⊎◌, ◌<◌, ◌+◌, ◌^◌, arith, inl, inr, ℕ, List, [], ◌∷◌, ◌++◌, length, suc, zero, get_or, take, refl, sym, ap, subst}
-use Rattle.std.specs.List.{sum_by}
+use Rattle.std.proofs.Common.{◌≡◌, ◌∙◌, ◌↔◌, ◌⊎◌, ◌<◌, ◌+◌, ◌*◌, ◌/◌, ◌^◌, arith, max, inl, inr, ⊎_elim, ℕ, List, [], ◌∷◌, ◌++◌, length, suc, zero, get_or, take, refl, sym, ap, subst}
 use Rattle.std.proofs.lemmas.List.{take_more}
 use Rattle.std.proofs.lemmas.List.Sums.{sum_by-append}
 use Rattle.std.proofs.Common.{length-append}
+use Rattle.std.proofs.Math.Nat.{div-lt_iff_lt-mul, div-le_self}
 use Rattle.dm_repo.specs.declared.policy.Policy.{Policy}
 use Rattle.dm_store.specs.Entries.{entry_of, counted_entry}
 use Rattle.dm_store.specs.Growth.{AreMany, IsGrowthOf, IsWhole, StandBehind, bytes_of, capped}
@@ -61,27 +61,48 @@ behind_one (entry ∷ entries) m n xs ys (inr a) (inr b) = (a.1 ∙ sym b.1, a.2
 behind_one (entry ∷ entries) m n xs ys (inl a) (inr b) = absurd (b.0 a.0)
 behind_one (entry ∷ entries) m n xs ys (inr a) (inl b) = absurd (a.0 b.0)
 
-many_more : (most : ℕ) (g : Growth) (whole : ℕ) (since : List (List ℕ)) → g.whole ≡ whole → g.whole < 2 ^ 63 → g.since ≡ capped (bytes_of since) → g.entries ≡ capped (length since) →
-    (most < g.entries) ⊎ ((g.whole < g.since) × (2 ^ 20 < g.since)) → (most < length since) ⊎ ((whole < bytes_of since) × (2 ^ 20 < bytes_of since))
-many_more most g whole since is few bytes number (inl more) = inl (omega (arith, number, more))
-many_more most g whole since is few bytes number (inr more) = inr (omega (arith, is, bytes, more.0), omega (arith, bytes, more.1))
+-- more than so many, and than one for each so many of the bytes
+pub past_both : (most each whole n : ℕ) → zero < each → (max (whole / each) most < n) ↔ ((most < n) × (whole < n * each))
+past_both most each whole n some = (
+  λ more. (omega (arith, more), (div-lt_iff_lt-mul some).0 (omega (arith, more))),
+  λ both. let more : whole / each < n = (div-lt_iff_lt-mul some).1 both.1 in omega (arith, both.0, more),
+)
 
-many_fewer : (most : ℕ) → most < 2 ^ 63 → (g : Growth) (whole : ℕ) (since : List (List ℕ)) → g.whole ≡ whole → g.whole < 2 ^ 63 → g.since ≡ capped (bytes_of since) → g.entries ≡ capped (length since) →
-    (most < length since) ⊎ ((whole < bytes_of since) × (2 ^ 20 < bytes_of since)) → (most < g.entries) ⊎ ((g.whole < g.since) × (2 ^ 20 < g.since))
-many_fewer most small g whole since is few bytes number (inl more) = inl (omega (arith, small, number, more))
-many_fewer most small g whole since is few bytes number (inr more) = inr (omega (arith, is, few, bytes, more.0), omega (arith, bytes, more.1))
+-- as a growth says it, of a number of entries that stands in 64 bits
+pub large_iff : (most each : ℕ) → zero < each → (g : Growth) →
+    ((max (g.whole / each) most < g.entries) ⊎ ((g.whole < g.since) × (2 ^ 20 < g.since))) ↔ (((most < g.entries) × (g.whole < g.entries * each)) ⊎ ((g.whole < g.since) × (2 ^ 20 < g.since)))
+large_iff most each some g =
+    let both = past_both most each g.whole g.entries some in
+    (⊎_elim (λ more. inl (both.0 more)) inr, ⊎_elim (λ more. inl (both.1 more)) inr)
 
-pub large_if_many : (most : ℕ) → most < 2 ^ 63 → (entries : List (List ℕ)) (g : Growth) → IsGrowthOf entries g → ((most < g.entries) ⊎ ((g.whole < g.since) × (2 ^ 20 < g.since))) ↔ AreMany most entries
-large_if_many most small entries g grown = (
+many_more : (most each : ℕ) → zero < each → (g : Growth) (since : List (List ℕ)) → g.since ≡ capped (bytes_of since) → g.entries ≡ capped (length since) →
+    (max (g.whole / each) most < g.entries) ⊎ ((g.whole < g.since) × (2 ^ 20 < g.since)) → ((most < length since) × (g.whole < length since * each)) ⊎ ((g.whole < bytes_of since) × (2 ^ 20 < bytes_of since))
+many_more most each some g since bytes number (inl more) = inl ((past_both most each g.whole (length since) some).0 (omega (arith, number, more)))
+many_more most each some g since bytes number (inr more) = inr (omega (arith, bytes, more.0), omega (arith, bytes, more.1))
+
+many_fewer : (most each : ℕ) → most < 2 ^ 63 → zero < each → (g : Growth) (since : List (List ℕ)) → g.whole < 2 ^ 63 → g.since ≡ capped (bytes_of since) → g.entries ≡ capped (length since) →
+    ((most < length since) × (g.whole < length since * each)) ⊎ ((g.whole < bytes_of since) × (2 ^ 20 < bytes_of since)) → (max (g.whole / each) most < g.entries) ⊎ ((g.whole < g.since) × (2 ^ 20 < g.since))
+many_fewer most each small some g since few bytes number (inl more) =
+    let past = (past_both most each g.whole (length since) some).1 more in
+    let part : g.whole / each < 2 ^ 63 = omega (arith, few, div-le_self g.whole each) in
+    inl (omega (arith, small, part, number, past))
+many_fewer most each small some g since few bytes number (inr more) = inr (omega (arith, few, bytes, more.0), omega (arith, bytes, more.1))
+
+pub large_if_many : (most each : ℕ) → most < 2 ^ 63 → zero < each → (entries : List (List ℕ)) (g : Growth) → IsGrowthOf entries g →
+    ((max (g.whole / each) most < g.entries) ⊎ ((g.whole < g.since) × (2 ^ 20 < g.since))) ↔ AreMany most each entries
+large_if_many most each small some entries g grown = (
   λ large. record {
     whole = g.whole;
     since = grown.since;
     behind = grown.behind;
-    many = many_more most g g.whole grown.since refl grown.few grown.bytes grown.number large;
+    many = many_more most each some g grown.since grown.bytes grown.number large;
   },
   λ many.
       let one = behind_one entries g.whole many.whole grown.since many.since grown.behind many.behind in
-      many_fewer most small g many.whole many.since one.0 grown.few (grown.bytes ∙ ap (λ (l : List (List ℕ)). capped (bytes_of l)) one.1) (grown.number ∙ ap (λ (l : List (List ℕ)). capped (length l)) one.1) many.many,
+      let is : ((most < length grown.since) × (g.whole < length grown.since * each)) ⊎ ((g.whole < bytes_of grown.since) × (2 ^ 20 < bytes_of grown.since)) =
+      subst (λ (l : List (List ℕ)). ((most < length l) × (g.whole < length l * each)) ⊎ ((g.whole < bytes_of l) × (2 ^ 20 < bytes_of l))) (sym one.1)
+      (subst (λ (w : ℕ). ((most < length many.since) × (w < length many.since * each)) ⊎ ((w < bytes_of many.since) × (2 ^ 20 < bytes_of many.since))) (sym one.0) many.many) in
+      many_fewer most each small some g grown.since grown.few grown.bytes grown.number is,
 )
 
 -- the first entries

@@ -1,5 +1,5 @@
 -- How much longer a journal has become since its last checkpoint.
-use Rattle.std.specs.Prelude.{◌≡◌, ◌⊎◌, ◌<◌, ◌^◌, ◌-◌, ℕ, List, [], ◌∷◌, length, min}
+use Rattle.std.specs.Prelude.{◌≡◌, ◌⊎◌, ◌<◌, ◌^◌, ◌-◌, ◌*◌, ℕ, List, [], ◌∷◌, length, min}
 use Rattle.std.specs.List.{sum_by}
 use Rattle.dm_store.specs.Entries.{whole_entry, counted_entry}
 use Rattle.dm_store.specs.declared.growth.Growth.{Growth}
@@ -30,9 +30,10 @@ pub record IsGrowthOf (entries : List (List ℕ)) (growth : Growth) : Type 0 whe
   pub bytes : growth.since ≡ capped (bytes_of since)
   pub number : growth.entries ≡ capped (length since)
 
--- behind the entry of a whole repository that they begin with, if they do, are more entries than so many, or more bytes than it has, and than 1 MiB
-pub record AreMany (most : ℕ) (entries : List (List ℕ)) : Type 0 where
+-- behind the entry of a whole repository that they begin with, if they do, are more entries than so many, and than one for each so many of its bytes,
+-- or more bytes than it has, and than 1 MiB
+pub record AreMany (most each : ℕ) (entries : List (List ℕ)) : Type 0 where
   pub whole : ℕ
   pub since : List (List ℕ)
   pub behind : StandBehind entries whole since
-  pub many : (most < length since) ⊎ ((whole < bytes_of since) × (2 ^ 20 < bytes_of since))
+  pub many : ((most < length since) × (whole < length since * each)) ⊎ ((whole < bytes_of since) × (2 ^ 20 < bytes_of since))

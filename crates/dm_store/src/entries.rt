@@ -1,5 +1,5 @@
 //! How a text and its policy stand in the journal, and the text of a whole repository.
-ghost use Rattle.std.specs.Prelude.{◌≡◌, ◌<◌, ◌^◌, List, ℕ, IfSome, IfNone, IfOk, IfErr};
+ghost use Rattle.std.specs.Prelude.{◌≡◌, ◌<◌, ◌^◌, List, ℕ, [], IfSome, IfNone, IfOk, IfErr};
 ghost use Rattle.dm_journal.specs.declared.device.DeviceError.TheVariants.{Memory};
 ghost use Rattle.dm_journal.specs.declared.fault.WriteError.TheVariants.{Device as WritingDevice};
 ghost use Rattle.dm_store.specs.Entries.{policy_byte, entry_of, whole_entry, counted_entry};
@@ -25,14 +25,13 @@ pub fn make_entry(alloc: Global, text: &[u8], policy: Policy) -> Result<Vec<u8>,
     Ok(entry)
 }
 
-// The entry of the text of a whole repository, so many of whose patches are its base.
-pub fn make_counted_entry(alloc: Global, base: usize, text: &[u8]) -> Result<Vec<u8>, AllocError>
-    ensures { IfOk result (λ entry. entry.items ≡ counted_entry base text.now) }
+// The entry of a whole repository, so many of whose patches are its base, without its text.
+pub fn begin_counted_entry(alloc: Global, base: usize) -> Result<Vec<u8>, AllocError>
+    ensures { IfOk result (λ entry. entry.items ≡ counted_entry base []) }
 {
-    let mut entry = Vec::with_capacity(alloc, text.len() + 9)?;
+    let mut entry = Vec::new(alloc);
     entry.push(COUNTED)?;
     entry.extend_from_slice(&(base as u64).to_le_bytes())?;
-    entry.extend_from_slice(text)?;
     Ok(entry)
 }
 

@@ -11,8 +11,15 @@ const LEAST: usize = 1 << 20;
 // Behind more entries than these a file takes too long to open.
 pub const MOST_ENTRIES: usize = 16;
 
-// A file that is open may have so many, since it isn't opened in between. Only a crash leaves it with them.
+// But for so many bytes of the whole repository there may be one, since an entry that is taken again costs what it touches, and a
+// checkpoint costs the whole.
+pub const BYTES_OF_EACH: usize = 1 << 20;
+
+// A file that is open may have 16 times as many, since it isn't opened in between. Only a crash leaves it with them.
 pub const MOST_WHILE_OPEN: usize = 1 << 8;
+
+// So many bytes for one, then.
+pub const BYTES_WHILE_OPEN: usize = 1 << 16;
 
 // The bytes of the entry of a whole repository that a journal begins with, or 0, and the bytes and the number of the entries
 // behind it.

@@ -47,8 +47,9 @@ pub fn begin<D: Device>(
         Ok(None) => return Err((WriteError::TooLong, device)),
         Err(error) => return Err((error, device)),
     };
-    match Journal::create(alloc, device, format, &[entry.as_slice()]) {
-        Ok(journal) => Ok((journal, Growth::of_whole(entry.len()))),
+    let bytes = entry.len();
+    match Journal::create_of(alloc, device, format, entry) {
+        Ok(journal) => Ok((journal, Growth::of_whole(bytes))),
         Err(error) => Err(error),
     }
 }
@@ -89,6 +90,7 @@ pub fn put_repo<D: Device>(
     let Some(entry) = entry_of_repo(alloc, kinds, base, repo)? else {
         return Ok(None);
     };
-    journal.replace(alloc, &[entry.as_slice()])?;
-    Ok(Some(Growth::of_whole(entry.len())))
+    let bytes = entry.len();
+    journal.replace_by(alloc, entry)?;
+    Ok(Some(Growth::of_whole(bytes)))
 }

@@ -1,5 +1,5 @@
 //! A store: a repository, and the journal that keeps it.
-ghost use Rattle.std.specs.Prelude.{◌≡◌, ◌≢◌, ◌⊎◌, ◌↔◌, ◌<◌, ◌^◌, List, ℕ, [], ◌∷◌, length, IfOk, IfErr, OnOk, IsErrOf, IsTrue};
+ghost use Rattle.std.specs.Prelude.{◌≡◌, ◌≢◌, ◌⊎◌, ◌↔◌, ◌<◌, ◌*◌, ◌^◌, List, ℕ, [], ◌∷◌, length, IfOk, IfErr, OnOk, IsErrOf, IsTrue};
 ghost use Rattle.dm_journal.specs.declared.device.DeviceError.TheVariants.{Failed};
 ghost use Rattle.dm_journal.specs.declared.fault.Fault.{Fault as FileFault};
 ghost use Rattle.dm_journal.specs.declared.fault.OpenError.TheVariants.{Device as OpeningDevice, File as OpeningFile};
@@ -19,7 +19,9 @@ ghost use Rattle.dm_store.specs.Opening.{HasBadEntry};
 
 use crate::entries::make_entry;
 use crate::fault::StoreError;
-use crate::growth::{Growth, MOST_ENTRIES, MOST_WHILE_OPEN, growth_of};
+use crate::growth::{
+    BYTES_OF_EACH, BYTES_WHILE_OPEN, Growth, MOST_ENTRIES, MOST_WHILE_OPEN, growth_of,
+};
 use crate::keeping::{begin, put_repo};
 use crate::kinds::kinds_of;
 use crate::opening::{TakenAgain, has_taken, take_again};
@@ -247,25 +249,27 @@ impl<D: Device> Store<D> {
         Ok(verdict)
     }
 
-    /// Whether a checkpoint is worth its while: since the last one more than 16 texts were taken, or more bytes than the
-    /// repository had then, and than 1 MiB. All of them are taken again at each opening, and each takes time that grows with
-    /// the repository.
+    /// Whether a checkpoint is worth its while: since the last one more than 16 texts were taken, and more than one for each MiB
+    /// that the repository had then, or more bytes than it had, and than 1 MiB. All of them are taken again at each opening. Each
+    /// costs what it touches, and a checkpoint costs the whole.
     pub fn wants_checkpoint(&self) -> bool
-        ensures many { (stored : IsStored D.seen D.may_leave D.file_may_leave self.now) → IsTrue result ↔ AreMany (2 ^ 4) stored.entries }
-        ensures grown { IsTrue result ↔ ((2 ^ 4 < self.now.growth.entries)
+        ensures many { (stored : IsStored D.seen D.may_leave D.file_may_leave self.now) → IsTrue result ↔ AreMany (2 ^ 4) (2 ^ 20) stored.entries }
+        ensures grown { IsTrue result ↔ (((2 ^ 4 < self.now.growth.entries) × (self.now.growth.whole < self.now.growth.entries * 2 ^ 20))
             ⊎ ((self.now.growth.whole < self.now.growth.since) × (2 ^ 20 < self.now.growth.since))) }
     {
-        self.growth.is_large(MOST_ENTRIES)
+        let most = self.growth.whole / BYTES_OF_EACH;
+        self.growth.is_large(most.max(MOST_ENTRIES))
     }
 
-    /// Whether a checkpoint is due though the store stays open: as [`Store::wants_checkpoint`], but only past 256 texts, since none
-    /// is taken again before the file is opened again.
+    /// Whether a checkpoint is due though the store stays open: as [`Store::wants_checkpoint`], but only past 256 texts, and 16 for
+    /// each MiB, since none is taken again before the file is opened again.
     pub fn needs_checkpoint(&self) -> bool
-        ensures many { (stored : IsStored D.seen D.may_leave D.file_may_leave self.now) → IsTrue result ↔ AreMany (2 ^ 8) stored.entries }
-        ensures grown { IsTrue result ↔ ((2 ^ 8 < self.now.growth.entries)
+        ensures many { (stored : IsStored D.seen D.may_leave D.file_may_leave self.now) → IsTrue result ↔ AreMany (2 ^ 8) (2 ^ 16) stored.entries }
+        ensures grown { IsTrue result ↔ (((2 ^ 8 < self.now.growth.entries) × (self.now.growth.whole < self.now.growth.entries * 2 ^ 16))
             ⊎ ((self.now.growth.whole < self.now.growth.since) × (2 ^ 20 < self.now.growth.since))) }
     {
-        self.growth.is_large(MOST_WHILE_OPEN)
+        let most = self.growth.whole / BYTES_WHILE_OPEN;
+        self.growth.is_large(most.max(MOST_WHILE_OPEN))
     }
 
     /// Puts one entry in the place of all that the journal has: the bundle of all patches, with an empty context. The

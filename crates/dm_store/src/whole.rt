@@ -6,7 +6,7 @@ ghost use Rattle.dm_journal.specs.declared.fault.WriteError.TheVariants.{Beside}
 ghost use Rattle.dm_begin.specs.Bases.{MayHaveBase};
 ghost use Rattle.dm_store.specs.Keeping.{TakesEntry, FitsOneEntry, empty, entry_of_all, kept_as};
 
-use crate::entries::make_counted_entry;
+use crate::entries::begin_counted_entry;
 use crate::kinds::are_of;
 use dm_begin::may_be_base;
 use dm_bundle::{are_within, push_bundle};
@@ -63,11 +63,11 @@ fn write_whole(
     if !may_be_base(patches, base) {
         return Ok(None);
     }
-    let mut text = Vec::new(alloc);
-    push_bundle(patches, &[], &mut text)?;
-    if text.len() > Limits::OWN.bytes {
+    let mut entry = begin_counted_entry(alloc, base)?;
+    let front = entry.len();
+    push_bundle(patches, &[], &mut entry)?;
+    if entry.len() - front > Limits::OWN.bytes {
         return Ok(None);
     }
-    let entry = make_counted_entry(alloc, base, &text)?;
     Ok(Some(entry))
 }

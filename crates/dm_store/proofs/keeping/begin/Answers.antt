@@ -1,6 +1,6 @@
-use Rattle.std.proofs.Common.{◌∙◌, List, ℕ, [], ◌∷◌, length, ap, refl, sym, subst}
+use Rattle.std.proofs.Common.{◌∙◌, [], ◌∷◌, refl, sym, subst}
 use Rattle.dm_store.specs.Growth.{IsWhole}
-use Rattle.dm_store.specs.Keeping.{TakesEntry, empty, kept_as}
+use Rattle.dm_store.specs.Keeping.{kept_as}
 use Rattle.dm_store.proofs.StoredLemmas.{weakened}
 use Rattle.dm_store.proofs.GrowthLemmas.{counted_whole, whole_grown}
 use Rattle.dm_store.proofs.WholeLemmas.{fold_whole, nothing_kept, old_or_whole, old_or_none}
@@ -17,29 +17,29 @@ returns-then-base-eq0-clause-any_moment g c =
       | in-Err w ↦ rw w.result-is tt
     ]
 
-pub returns-in-Ok-create-clause-stored : goal.returns-in-Ok-create-clause-stored
-returns-in-Ok-create-clause-stored g c =
+pub returns-in-Ok-create_of-clause-stored : goal.returns-in-Ok-create_of-clause-stored
+returns-in-Ok-create_of-clause-stored g c =
     let kept = kept_as c.args.base c.args.repo.now.patches in
-    let entry = c.as_slice.result.now in
-    let takes = subst (λ (e : List ℕ). TakesEntry c.args.kinds empty e kept) (sym c.as_slice.ensures.value) (rw c.in-Ok-Some.field-0-is at c.in-Ok-Some.ensures.takes) in
-    let is = c.as_slice.ensures.value ∙ (rw c.in-Ok-Some.field-0-is at c.in-Ok-Some.ensures.entry) in
-    let made = c.of_whole-in-Ok-create.ensures in (
+    let entry = c.in-Ok-Some.entry.items in
+    let takes = rw c.in-Ok-Some.field-0-is at c.in-Ok-Some.ensures.takes in
+    let is = rw c.in-Ok-Some.field-0-is at c.in-Ok-Some.ensures.entry in
+    let made = c.of_whole-in-Ok-create_of.ensures in (
       entry ∷ [],
-      c.in-Ok-create.ensures.ok,
+      c.in-Ok-create_of.ensures.ok,
       fold_whole c.args.kinds entry kept takes,
-      whole_grown entry c.of_whole-in-Ok-create.result (subst IsWhole (sym is) (counted_whole c.args.base _ c.ranges.base.fits)) (made.whole ∙ c.len.ensures ∙ c.in-Ok-Some.entry.ok.0 ∙ ap length (sym c.as_slice.ensures.value)) made.few made.since made.entries,
+      whole_grown entry c.of_whole-in-Ok-create_of.result (subst IsWhole (sym is) (counted_whole c.args.base _ c.ranges.base.fits)) (made.whole ∙ c.len-bytes.ensures ∙ c.in-Ok-Some.entry.ok.0) made.few made.since made.entries,
     )
 
-pub returns-in-Ok-create-clause-any_moment : goal.returns-in-Ok-create-clause-any_moment
-returns-in-Ok-create-clause-any_moment g c =
+pub returns-in-Ok-create_of-clause-any_moment : goal.returns-in-Ok-create_of-clause-any_moment
+returns-in-Ok-create_of-clause-any_moment g c =
     let d = g.D.Device in
     let kept = kept_as c.args.base c.args.repo.now.patches in
-    let takes = subst (λ (e : List ℕ). TakesEntry c.args.kinds empty e kept) (sym c.as_slice.ensures.value) (rw c.in-Ok-Some.field-0-is at c.in-Ok-Some.ensures.takes) in
-    weakened d.moment d.left_since _ _ _ _ (old_or_whole c.args.kinds (d.seen c.args.device) c.as_slice.result.now kept takes) (rw c.format_of-format.ensures at c.in-Ok-create.ensures.any_moment)
+    let takes = rw c.in-Ok-Some.field-0-is at c.in-Ok-Some.ensures.takes in
+    weakened d.moment d.left_since _ _ _ _ (old_or_whole c.args.kinds (d.seen c.args.device) c.in-Ok-Some.entry.items kept takes) (rw c.format_of-format.ensures at c.in-Ok-create_of.ensures.any_moment)
 
-pub returns-clause-any_moment_err : goal.returns-clause-any_moment_err
-returns-clause-any_moment_err g c =
+pub returns-in-Err-create_of-clause-any_moment_err : goal.returns-in-Err-create_of-clause-any_moment_err
+returns-in-Err-create_of-clause-any_moment_err g c =
     let d = g.D.Device in
     let kept = kept_as c.args.base c.args.repo.now.patches in
-    let takes = subst (λ (e : List ℕ). TakesEntry c.args.kinds empty e kept) (sym c.as_slice.ensures.value) (rw c.in-Ok-Some.field-0-is at c.in-Ok-Some.ensures.takes) in
-    weakened d.moment d.left_since _ _ _ _ (old_or_whole c.args.kinds (d.seen c.args.device) c.as_slice.result.now kept takes) (rw c.format_of-format.ensures at c.in-Err-create.ensures.any_moment_err)
+    let takes = rw c.in-Ok-Some.field-0-is at c.in-Ok-Some.ensures.takes in
+    weakened d.moment d.left_since _ _ _ _ (old_or_whole c.args.kinds (d.seen c.args.device) c.in-Ok-Some.entry.items kept takes) (rw c.format_of-format.ensures at c.in-Err-create_of.ensures.any_moment_err)
