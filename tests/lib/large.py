@@ -98,6 +98,18 @@ def more(folder, kind, last, count):
     return [folder.keep(bundle([added("more%d" % number, number, dependencies)], names)) for number in range(MORE)]
 
 
+# Two replaces by two sets, and two lines of three bytes: past both each line gets as many as a hunk may have that passes a replace.
+GROWING = [("ax.", "x", "a" + ".a" * 127), ("az", "a", "z" * 255)], ("x-x", "x+x")
+
+
+def past_replaces(path, words, lines, count):
+    """A base of two files in one of which words are replaced, and a patch of so many hunks that exchange two lines of the first."""
+    held = ["replace %s [%s] %s %s\n" % (path, *it) for it in words]
+    base = bundle([patch("shared", ["addfile ./a\n", "addfile ./b\n"]), patch("held", held)])
+    hunks = ["hunk ./a 1\n-%s\n+%s\n" % (lines[at % 2], lines[1 - at % 2]) for at in range(count - 1)]
+    return [base, bundle([patch("new", ["hunk ./a 1\n+%s\n" % lines[0]] + hunks)], ["shared"])]
+
+
 # Trees.
 
 

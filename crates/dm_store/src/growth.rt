@@ -21,6 +21,10 @@ pub const MOST_WHILE_OPEN: usize = 1 << 8;
 // So many bytes for one, then.
 pub const BYTES_WHILE_OPEN: usize = 1 << 16;
 
+// A trial may take so many bytes of memory, and 16 for each byte of the entries: a sound text takes far less.
+const LEAST_FOR_TRIAL: usize = 1 << 29;
+const FOR_EACH_BYTE: usize = 16;
+
 // The bytes of the entry of a whole repository that a journal begins with, or 0, and the bytes and the number of the entries
 // behind it.
 #[derive(Clone, Copy)]
@@ -54,6 +58,14 @@ impl Growth {
     {
         self.since = self.since.saturating_add(bytes);
         self.entries = self.entries.saturating_add(1);
+    }
+
+    // How many bytes of memory the trial of a text may take.
+    pub fn most_for_trial(&self) -> usize {
+        let bytes = self.whole.saturating_add(self.since);
+        bytes
+            .saturating_mul(FOR_EACH_BYTE)
+            .saturating_add(LEAST_FOR_TRIAL)
     }
 
     // Whether there are more entries behind the first than these, or they have so many bytes that a checkpoint is worth its while.

@@ -214,6 +214,9 @@ impl<D: Device> Store<D> {
     /// Takes a text into the repository, and where something was taken appends it to the journal before it answers: from then
     /// on each crash leaves a file that keeps the repository as it is now. At an error the text is on the disk or not: open
     /// the file again.
+    ///
+    /// What is tried of the text takes at most 512 MiB of memory, and 16 bytes for each byte of the file's entries. A text that
+    /// would take more gets the verdict that memory ran out.
     pub fn take(
         &mut self,
         alloc: Global,
@@ -239,6 +242,8 @@ impl<D: Device> Store<D> {
         ensures full { IsErrOf result Full → 2 ^ 62 < length (D.seen self.old.journal.device) }
     {
         let kinds = self.kinds();
+        let most = self.growth.most_for_trial();
+        self.arena.set_allocation_limit(Some(most));
         let verdict = take_in(&mut self.repo, &mut self.arena, text, kinds, policy);
         if !has_taken(&verdict) {
             return Ok(verdict);
