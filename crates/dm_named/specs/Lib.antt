@@ -13,3 +13,6 @@ pub mod FaultWords
 pub mod BodyWords
 pub mod Laws
 pub mod Commuting
+pub mod Conflictors
+pub mod CanonicalConflictors
+pub mod ConflictorFaults

@@ -12,19 +12,24 @@
 #![tactic(auto)]
 
 mod commuting;
+mod conflictor;
 mod fault;
 pub mod laws;
 mod limits;
 mod named;
+mod original;
 mod passing;
 mod reading;
 pub mod text;
 mod writing;
 
 pub use commuting::commute_named;
+pub use conflictor::Conflictor;
 pub use fault::{FaultKind, ReadFault};
 pub use limits::{Kinds, Limits};
 pub use named::Named;
+pub use original::Original;
 pub use passing::{Passing, are_apart, commute_named_in_place, commute_prims_in_place};
 pub use reading::{read_named, read_named_within};
+pub use writing::conflictors::{push_conflictor, write_conflictor};
 pub use writing::{push_deps, push_named, push_prim, write_named, write_path};
