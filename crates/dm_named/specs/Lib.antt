@@ -16,3 +16,4 @@ pub mod Commuting
 pub mod Conflictors
 pub mod CanonicalConflictors
 pub mod ConflictorFaults
+pub mod ConflictorLaws

@@ -30,6 +30,7 @@ pub use limits::{Kinds, Limits};
 pub use named::Named;
 pub use original::Original;
 pub use passing::{Passing, are_apart, commute_named_in_place, commute_prims_in_place};
+pub use reading::conflictors::read_conflictor;
 pub use reading::{read_named, read_named_within};
 pub use writing::conflictors::{push_conflictor, write_conflictor};
 pub use writing::{push_deps, push_named, push_prim, write_named, write_path};

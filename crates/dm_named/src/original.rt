@@ -1,7 +1,8 @@
 //! Originals: primitives as their authors made them, in their contexts (Darcs.Patch.V2.Non).
 
-ghost use Rattle.std.specs.Prelude.{◌≡◌};
+ghost use Rattle.std.specs.Prelude.{◌≡◌, ◌<◌, ◌^◌};
 ghost use Rattle.dm_prim.specs.Prims.{prim_of, prims_of};
+ghost use Rattle.dm_named.specs.Conflictors.{size_of};
 
 use dm_prim::Prim;
 use std::alloc::Allocator;
@@ -52,5 +53,13 @@ impl<A: Allocator> Original<A> {
         ensures { prim_of result.now ≡ self.now.prim }
     {
         &self.prim
+    }
+
+    /// How many primitives it has.
+    pub(crate) fn size(&self) -> usize
+        requires { size_of self.now < 2 ^ 64 }
+        ensures { result ≡ size_of self.now }
+    {
+        self.context.len() + 1
     }
 }
