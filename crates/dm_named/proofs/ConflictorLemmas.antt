@@ -64,7 +64,7 @@ one_partners kinds text os ps r s a b =
         | inl y ↦
             let inside = twice_same 123 (skipped text) x.inside y.inside x.opens y.opens in
             let both = one_originals kinds y.inside os ps x.mid y.mid (subst (λ (t : List ℕ). Many (OriginalText kinds) t os x.mid) inside x.read) y.read
-                (not_closing kinds (skipped x.mid) (125 ∷ r) x.closes) (not_closing kinds (skipped y.mid) (125 ∷ s) y.closes) in
+            (not_closing kinds (skipped x.mid) (125 ∷ r) x.closes) (not_closing kinds (skipped y.mid) (125 ∷ s) y.closes) in
             (both.0, twice_same 125 (skipped y.mid) r s (subst (λ (t : List ℕ). skipped t ≡ 125 ∷ 125 ∷ r) both.1 x.closes) y.closes)
         | inr y ↦ absurd (y.0 (x.inside, x.opens))
       ]
@@ -75,7 +75,7 @@ pub one_in_brackets : (kinds : Kinds) (text : List ℕ) (ps qs : List Prim) (r s
 one_in_brackets kinds text ps qs r s a b =
     let inside = tail_same 91 (skipped text) a.inside b.inside a.opens b.opens in
     let both = one_prims kinds b.inside ps qs a.mid b.mid (subst (λ (t : List ℕ). Many (NextPrim kinds) t ps a.mid) inside a.read) b.read
-        (no_bracket_word kinds (skipped a.mid) r a.closes) (no_bracket_word kinds (skipped b.mid) s b.closes) in
+    (no_bracket_word kinds (skipped a.mid) r a.closes) (no_bracket_word kinds (skipped b.mid) s b.closes) in
     (both.0, tail_same 93 (skipped b.mid) r s (subst (λ (t : List ℕ). skipped t ≡ 93 ∷ r) both.1 a.closes) b.closes)
 
 pub one_conflictor : (kinds : Kinds) (text : List ℕ) (c d : Conflictor) (r s : List ℕ) → ConflictorText kinds text c r → ConflictorText kinds text d s → (c ≡ d) × (r ≡ s)

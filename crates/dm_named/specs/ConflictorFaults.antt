@@ -39,7 +39,7 @@ BeginsOriginal kinds text = PrimOr kinds 58 text
 abbrev pub OneFaultOf : Limits → FaultKind → ℕ → List ℕ → List ℕ → Type 0
 OneFaultOf limits kind count text here =
     Missing limits.kinds kind (WordAmong (prim_words_of limits.kinds)) text here
-      ⊎ (CountFaultWithin limits kind count (skipped text) here ⊎ ((count < limits.prims) × PrimFaultOf limits.kinds kind (skipped text) here))
+    ⊎ (CountFaultWithin limits kind count (skipped text) here ⊎ ((count < limits.prims) × PrimFaultOf limits.kinds kind (skipped text) here))
 
 -- primitives of these kinds and no more than the limits allow, and then something is wrong
 pub record PrimsThen (limits : Limits) (Wrong : ℕ → List ℕ → Type 0) (text : List ℕ) : Type 0 where

@@ -32,7 +32,7 @@ returns-in_err-own-clause-err g c =
     let ps : List Prim = prims_of c.in_ok-undone.undone.items in
     let count : c.len.result ≡ length ps = omega (arith, count_map prim_of c.in_ok-undone.undone.items, c.in_ok-undone.undone.ok.0, c.len.ensures) in
     rw (p.1, p.2) (own_wrong c.args.limits left c.less-left.result fault.kind (drop c.args.start text) (drop c.args.at text) (drop c.in_ok-partners.list text) (drop c.in_ok-undone.last text) (drop fault.at text) os ps c.requires.word c.in_ok-partners.ensures.ok
-      c.in_ok-undone.ensures.ok c.in_ok-partners.ensures.few c.in_ok-undone.ensures.few c.in_ok-partners.ensures.left (c.less-left.ensures ∙ ap (λ (n : ℕ). less left n) count) c.in_err-own.ensures.err)
+    c.in_ok-undone.ensures.ok c.in_ok-partners.ensures.few c.in_ok-undone.ensures.few c.in_ok-partners.ensures.left (c.less-left.ensures ∙ ap (λ (n : ℕ). less left n) count) c.in_err-own.ensures.err)
 
 pub returns-clause-ok : goal.returns-clause-ok
 returns-clause-ok g c =
@@ -42,7 +42,7 @@ returns-clause-ok g c =
     let ps : List Prim = prims_of c.in_ok-undone.undone.items in
     let count : c.len.result ≡ length ps = omega (arith, count_map prim_of c.in_ok-undone.undone.items, c.in_ok-undone.undone.ok.0, c.len.ensures) in
     rw c.new.ensures (a_conflictor c.args.limits left c.less-left.result (drop c.args.start text) (drop c.args.at text) (drop c.in_ok-partners.list text) (drop c.in_ok-undone.last text) (drop c.in_ok-own.end text) os ps c.in_ok-own.own c.requires.word c.in_ok-partners.ensures.ok
-      c.in_ok-undone.ensures.ok c.in_ok-partners.ensures.left (c.less-left.ensures ∙ ap (λ (n : ℕ). less left n) count) c.in_ok-own.ensures.ok)
+    c.in_ok-undone.ensures.ok c.in_ok-partners.ensures.left (c.less-left.ensures ∙ ap (λ (n : ℕ). less left n) count) c.in_ok-own.ensures.ok)
 
 pub returns-clause-few : goal.returns-clause-few
 returns-clause-few g c =
