@@ -48,9 +48,6 @@ less_twice limits m n =
     let left : (limits.prims - m) - n ≡ limits.prims - (m + n) = omega arith in
     ap (λ (k : ℕ). record limits { prims = k }) left
 
-pub less_none : (limits : Limits) → limits ≡ less limits 0
-less_none limits = ap (λ (k : ℕ). record limits { prims = k }) (omega arith)
-
 -- ---- originals
 
 pub one_wrong : (limits : Limits) (kind : FaultKind) (count : ℕ) (text next here : List ℕ) → next ≡ skipped text → count < limits.prims → WordAmong (prim_words_of limits.kinds) next → PrimFaultAt kind next here → OneFaultOf limits kind count text here

@@ -25,3 +25,4 @@ pub mod ConflictorLemmas
 pub mod NoConflictor
 pub mod ConflictorParts
 pub mod ConflictorRoundTrip
+pub mod ConflictLemmas

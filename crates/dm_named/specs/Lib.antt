@@ -17,3 +17,4 @@ pub mod Conflictors
 pub mod CanonicalConflictors
 pub mod ConflictorFaults
 pub mod ConflictorLaws
+pub mod ConflictorElements

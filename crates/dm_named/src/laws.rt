@@ -4,6 +4,7 @@
 ghost use Rattle.std.specs.Prelude.{◌≡◌};
 ghost use Rattle.dm_named.specs.Limits.{standard, own};
 ghost use Rattle.dm_named.specs.Laws.{OnePatch, OnePatchIn, KindsChooseOnly, FaultExcludesPatch, FaultExcludesPatchWithin, OneFault, OneFaultWithin, FaultOfSix, NoFaultWithinCount, NoFaultWithinCountOf, PathRoundTrip, PrimRoundTrip, PatchRoundTrip, SquaresTurn};
+ghost use Rattle.dm_named.specs.ConflictorElements.{ConflictorsKeepTheirShape};
 ghost use Rattle.dm_named.specs.ConflictorLaws.{OneConflictor, FaultExcludesConflictor, ConflictorRoundTrip};
 
 use crate::limits::{Kinds, Limits};
@@ -80,6 +81,11 @@ pub fn fault_excludes_conflictor()
 /// The canonical text of a conflictor of valid primitives is read back as that conflictor.
 pub fn conflictor_round_trip()
     ensures { (kinds : Kinds) → ConflictorRoundTrip kinds }
+{}
+
+/// A conflict whose shadows stand after it, with as many primitives in each as a conflictor's have, is a conflictor.
+pub fn conflictors_keep_their_shape()
+    ensures { ConflictorsKeepTheirShape }
 {}
 
 /// For two patches `r` and `n` that start at one state: if the inverse of `r` commutes with `n`, and that makes them `n'` and

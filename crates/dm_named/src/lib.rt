@@ -9,6 +9,10 @@
 //! [`read_named`] reads within [`Limits::STANDARD`], so primitives of six kinds. [`Limits::with_kinds`] has the reader take
 //! three further kinds, which only adds patches ([`laws::kinds_choose_only`]). [`write_named`] appends the canonical text, which
 //! is read back as the same patch. [`commute_named`] returns a pair exactly if the two named patches commute.
+//!
+//! A [`Conflictor`] is a conflict that was merged, with primitives alone in its contexts. [`read_conflictor`] and
+//! [`write_conflictor`] do for its text what those two do for a named patch's. [`Conflictor::into_element`] makes the element of a
+//! patch of it that `dm_element` commutes, and [`Conflictor::from_conflict`] is the way back.
 #![tactic(auto)]
 
 mod commuting;

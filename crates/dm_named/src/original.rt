@@ -1,11 +1,12 @@
 //! Originals: primitives as their authors made them, in their contexts (Darcs.Patch.V2.Non).
 
-ghost use Rattle.std.specs.Prelude.{◌≡◌, ◌<◌, ◌^◌};
+ghost use Rattle.std.specs.Prelude.{◌≡◌, ◌<◌, ◌^◌, IfOk};
 ghost use Rattle.dm_prim.specs.Prims.{prim_of, prims_of};
 ghost use Rattle.dm_named.specs.Conflictors.{size_of};
+ghost use Rattle.dm_named.specs.ConflictorElements.{shadow_of, IsOriginalOf};
 
 use dm_prim::Prim;
-use std::alloc::Allocator;
+use std::alloc::{AllocError, Allocator};
 use std::marker::Model;
 
 /// A primitive as its author made it, and its context: the primitives that must be done first for it to stand.
@@ -61,5 +62,26 @@ impl<A: Allocator> Original<A> {
         ensures { result ≡ size_of self.now }
     {
         self.context.len() + 1
+    }
+
+    /// Its shadow: its context, and then its primitive.
+    pub(crate) fn into_shadow(self) -> Result<Vec<Prim<A>, A>, AllocError>
+        ensures { IfOk result (λ shadow. prims_of shadow.items ≡ shadow_of self) }
+    {
+        let Original { context, prim } = self;
+        let mut shadow = context;
+        shadow.push(prim)?;
+        Ok(shadow)
+    }
+
+    /// The original that has this shadow; none where it is empty.
+    pub(crate) fn from_shadow(shadow: Vec<Prim<A>, A>) -> Option<Original<A>>
+        ensures { IsOriginalOf (prims_of shadow.items) result }
+    {
+        let mut context = shadow;
+        let Some(prim) = context.pop() else {
+            return None;
+        };
+        Some(Original::new(context, prim))
     }
 }
