@@ -78,7 +78,7 @@ impl<A: Allocator> Conflicted<A> {
     }
 
     /// What it does to a tree, and its shadows.
-    pub(crate) fn into_parts(self) -> (Vec<Prim<A>, A>, Vec<Vec<Prim<A>, A>, A>)
+    pub fn into_parts(self) -> (Vec<Prim<A>, A>, Vec<Vec<Prim<A>, A>, A>)
         ensures effect { prims_of result.0.items ≡ self.effect }
         ensures shadows { lists_of result.1.items ≡ self.shadows }
     {

@@ -21,3 +21,8 @@ pub mod NameRoundTrip
 pub mod PatchRoundTrip
 pub mod ValidParts
 pub mod NamedLemmas
+pub mod ConflictorLemmas
+pub mod NoConflictor
+pub mod ConflictorParts
+pub mod ConflictorRoundTrip
+pub mod ConflictLemmas

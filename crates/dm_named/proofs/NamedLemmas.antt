@@ -61,6 +61,9 @@ known_undone ps qs (Some t) e h = rw e (inverses_touch_the_same ps t h)
 pub three_more : (a b c d e f h : List ℕ) → e ≡ a ++ b → f ≡ e ++ c → h ≡ f ++ d → h ≡ a ++ (b ++ (c ++ d))
 three_more a b c d e f h x y z = rw (z, y, x) (simp append_assoc refl)
 
+pub four_more : (a b c d e f g h i : List ℕ) → f ≡ a ++ b → g ≡ f ++ c → h ≡ g ++ d → i ≡ h ++ e → i ≡ a ++ (b ++ (c ++ (d ++ e)))
+four_more a b c d e f g h i w x y z = rw (z, y, x, w) (simp append_assoc refl)
+
 -- the text of one more element is appended
 flat_push : {V : Type 0} (text : V → List ℕ) (vs : List V) (v : V) → flat_map text (vs ++ v ∷ []) ≡ flat_map text vs ++ text v
 flat_push text [] v = append-nil (text v)
@@ -70,6 +73,12 @@ pub text_more : {X V : Type 0} (text : V → List ℕ) (f : X → V) (xs : List 
 text_more text f xs i x start before after lt is so new =
     let next : take (i + 1) xs ≡ take i xs ++ x ∷ [] = take_more xs i x lt ∙ ap (λ z. take i xs ++ z ∷ []) (sym is) in
     rw (next, map_push f (take i xs) x, flat_push text (map f (take i xs)) (f x), new, so) (append_assoc start (flat_map text (map f (take i xs))) (text (f x)))
+
+-- the same where the elements stand for themselves
+pub text_next : {V : Type 0} (text : V → List ℕ) (vs : List V) (i : ℕ) (v : V) (start before after : List ℕ) → i < length vs → v ≡ get_or vs i v → before ≡ start ++ flat_map text (take i vs) → after ≡ before ++ text v → after ≡ start ++ flat_map text (take (i + 1) vs)
+text_next text vs i v start before after lt is so new =
+    let next : take (i + 1) vs ≡ take i vs ++ v ∷ [] = take_more vs i v lt ∙ ap (λ z. take i vs ++ z ∷ []) (sym is) in
+    rw (next, flat_push text (take i vs) v, new, so) (append_assoc start (flat_map text (take i vs)) (text v))
 
 -- one element alone
 pub all_alone : {X V : Type 0} (P : V → Type 0) (f : X → V) (xs : List X) (x : X) → length xs ≡ 1 → x ≡ get_or xs 0 x → P (f x) → AllByRecursion P (map f xs)

@@ -164,7 +164,7 @@ no_next_fault limits K.TooMany count text here k f = k.count refl
 no_next_fault limits K.NoMemory count text here k f = k.memory refl
 no_next_fault limits kind count text here k f = absurd f
 
-no_prims : (limits : Limits) (kind : FaultKind) (text here : List ℕ) → ExcludesPatch kind → PrimsFaultWithin limits kind text here → (qs : List Prim) (s : List ℕ) → Many (NextPrim limits.kinds) text qs s → (WordAmong (prim_words_of limits.kinds) (skipped s) → ⊥) → ⊥
+pub no_prims : (limits : Limits) (kind : FaultKind) (text here : List ℕ) → ExcludesPatch kind → PrimsFaultWithin limits kind text here → (qs : List Prim) (s : List ℕ) → Many (NextPrim limits.kinds) text qs s → (WordAmong (prim_words_of limits.kinds) (skipped s) → ⊥) → ⊥
 no_prims limits kind text here k f qs s r closed =
     elim f.wrong [
       | inl n ↦ no_next_fault limits kind (length f.prims) (skipped f.mid) here k n

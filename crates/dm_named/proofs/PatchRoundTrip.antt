@@ -310,7 +310,7 @@ lettered (At p (Replace set old new)) rest = record { first = 114; more = _; par
 lettered (ChangePref name old new) rest = record { first = 99; more = _; parts = refl; low = omega arith; high = omega arith }
 lettered (Move p q) rest = record { first = 109; more = _; parts = refl; low = omega arith; high = omega arith }
 
-skipped_prim : (p : Prim) (rest : List ℕ) → skipped (prim_text p ++ rest) ≡ prim_text p ++ rest
+pub skipped_prim : (p : Prim) (rest : List ℕ) → skipped (prim_text p ++ rest) ≡ prim_text p ++ rest
 skipped_prim (At p AddFile) rest = refl
 skipped_prim (At p RmFile) rest = refl
 skipped_prim (At p AddDir) rest = refl
@@ -333,7 +333,7 @@ letter_no_line : (kinds : Kinds) (text : List ℕ) → Lettered text → NoLineO
 letter_no_line these.Six text l = no_hunk_line text l
 letter_no_line these.All text l = (no_hunk_line text l, not_letter 42 text l (inl (omega arith)))
 
-no_line_prims : (kinds : Kinds) (ps : List Prim) (rest : List ℕ) → NoLineOf kinds rest → NoLineOf kinds (flat_map prim_text ps ++ rest)
+pub no_line_prims : (kinds : Kinds) (ps : List Prim) (rest : List ℕ) → NoLineOf kinds rest → NoLineOf kinds (flat_map prim_text ps ++ rest)
 no_line_prims kinds [] rest none = none
 no_line_prims kinds (p ∷ ps) rest none =
     letter_no_line kinds ((prim_text p ++ flat_map prim_text ps) ++ rest) (subst Lettered (sym (append_assoc (prim_text p) (flat_map prim_text ps) rest)) (lettered p (flat_map prim_text ps ++ rest)))
@@ -344,13 +344,13 @@ pub record ReadsAll (kinds : Kinds) (text : List ℕ) (ps : List Prim) (rest : L
   pub left : skipped mid ≡ skipped rest
 
 -- white space before primitives doesn't matter
-prims_skip : (kinds : Kinds) (t u : List ℕ) (ps : List Prim) (rest : List ℕ) → skipped t ≡ skipped u → ReadsAll kinds t ps rest → ReadsAll kinds u ps rest
+pub prims_skip : (kinds : Kinds) (t u : List ℕ) (ps : List Prim) (rest : List ℕ) → skipped t ≡ skipped u → ReadsAll kinds t ps rest → ReadsAll kinds u ps rest
 prims_skip kinds t u [] rest e r = record { mid = u; read = refl; left = sym e ∙ (ap skipped r.read ∙ r.left) }
 prims_skip kinds t u (p ∷ ps) rest e r =
     let first = r.read.1 in
     record { mid = r.mid; read = (r.read.0, record { read = subst (λ (s : List ℕ). PrimText s p r.read.0) e first.read; kind = first.kind }, r.read.2); left = r.left }
 
-of_kind : (kinds : Kinds) (p : Prim) → IsWritable kinds p → IsOf kinds p
+pub of_kind : (kinds : Kinds) (p : Prim) → IsWritable kinds p → IsOf kinds p
 of_kind these.Six p can = can
 of_kind these.All p can = tt
 

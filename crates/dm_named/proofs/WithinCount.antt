@@ -29,7 +29,7 @@ goes_on kinds most ps [] qs mid rest e n r other = absurd (other r)
 goes_on kinds most ps (p ∷ more) qs mid rest e n r other = rw e (omega (arith, length-append ps (p ∷ more)))
 
 -- where one is too many, more stand there than there may be
-past_prims : (limits : Limits) (text here : List ℕ) → PrimsFaultWithin limits K.TooMany text here → (qs : List Prim) (s : List ℕ) → Many (NextPrim limits.kinds) text qs s → (WordAmong (prim_words_of limits.kinds) (skipped s) → ⊥) → limits.prims < length qs
+pub past_prims : (limits : Limits) (text here : List ℕ) → PrimsFaultWithin limits K.TooMany text here → (qs : List Prim) (s : List ℕ) → Many (NextPrim limits.kinds) text qs s → (WordAmong (prim_words_of limits.kinds) (skipped s) → ⊥) → limits.prims < length qs
 past_prims limits text here f qs s r closed =
     elim f.wrong [
       | inl n ↦

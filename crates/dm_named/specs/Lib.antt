@@ -13,3 +13,8 @@ pub mod FaultWords
 pub mod BodyWords
 pub mod Laws
 pub mod Commuting
+pub mod Conflictors
+pub mod CanonicalConflictors
+pub mod ConflictorFaults
+pub mod ConflictorLaws
+pub mod ConflictorElements

@@ -22,7 +22,7 @@ pub enum FaultKind {
     Inverted,
     /// Inside angle brackets, there is neither a patch info nor the closing bracket.
     BadDepends,
-    /// Inside braces, there is neither a primitive nor the closing brace.
+    /// Inside braces, there is neither a primitive nor the closing brace; or a part of a conflictor is due, and is not there.
     BadPatch,
     /// A patch of Darcs that this profile refuses, or a nested brace or parenthesis.
     Unsupported,
@@ -32,7 +32,7 @@ pub enum FaultKind {
     BadNumber,
     /// A hunk has neither old nor new lines.
     EmptyHunk,
-    /// The text ends inside braces.
+    /// The text ends inside braces, or inside a conflictor.
     Unclosed,
     /// There is neither a named patch nor the context where one must be.
     NoContext,

@@ -4,6 +4,8 @@
 ghost use Rattle.std.specs.Prelude.{◌≡◌};
 ghost use Rattle.dm_named.specs.Limits.{standard, own};
 ghost use Rattle.dm_named.specs.Laws.{OnePatch, OnePatchIn, KindsChooseOnly, FaultExcludesPatch, FaultExcludesPatchWithin, OneFault, OneFaultWithin, FaultOfSix, NoFaultWithinCount, NoFaultWithinCountOf, PathRoundTrip, PrimRoundTrip, PatchRoundTrip, SquaresTurn};
+ghost use Rattle.dm_named.specs.ConflictorElements.{ConflictorsKeepTheirShape};
+ghost use Rattle.dm_named.specs.ConflictorLaws.{OneConflictor, FaultExcludesConflictor, ConflictorRoundTrip};
 
 use crate::limits::{Kinds, Limits};
 
@@ -63,6 +65,27 @@ pub fn prim_round_trip()
 /// The canonical text of a valid named patch is read back as that patch.
 pub fn patch_round_trip()
     ensures { (kinds : Kinds) → PatchRoundTrip kinds }
+{}
+
+/// A text has at most one conflictor at its front, whichever kinds of primitives are read.
+pub fn one_conflictor()
+    ensures { (kinds : Kinds) → OneConflictor kinds }
+{}
+
+/// A text with a fault has no conflictor at its front, unless the fault is `NoMemory`, or it is `TooMany` and the conflictor has
+/// more primitives than the limits allow.
+pub fn fault_excludes_conflictor()
+    ensures { (limits : Limits) → FaultExcludesConflictor limits }
+{}
+
+/// The canonical text of a conflictor of valid primitives is read back as that conflictor.
+pub fn conflictor_round_trip()
+    ensures { (kinds : Kinds) → ConflictorRoundTrip kinds }
+{}
+
+/// A conflict whose shadows stand after it, with as many primitives in each as a conflictor's have, is a conflictor.
+pub fn conflictors_keep_their_shape()
+    ensures { ConflictorsKeepTheirShape }
 {}
 
 /// For two patches `r` and `n` that start at one state: if the inverse of `r` commutes with `n`, and that makes them `n'` and

@@ -9,22 +9,32 @@
 //! [`read_named`] reads within [`Limits::STANDARD`], so primitives of six kinds. [`Limits::with_kinds`] has the reader take
 //! three further kinds, which only adds patches ([`laws::kinds_choose_only`]). [`write_named`] appends the canonical text, which
 //! is read back as the same patch. [`commute_named`] returns a pair exactly if the two named patches commute.
+//!
+//! A [`Conflictor`] is a conflict that was merged, with primitives alone in its contexts. [`read_conflictor`] and
+//! [`write_conflictor`] do for its text what those two do for a named patch's. [`Conflictor::into_element`] makes the element of a
+//! patch of it that `dm_element` commutes, and [`Conflictor::from_conflict`] is the way back.
 #![tactic(auto)]
 
 mod commuting;
+mod conflictor;
 mod fault;
 pub mod laws;
 mod limits;
 mod named;
+mod original;
 mod passing;
 mod reading;
 pub mod text;
 mod writing;
 
 pub use commuting::commute_named;
+pub use conflictor::Conflictor;
 pub use fault::{FaultKind, ReadFault};
 pub use limits::{Kinds, Limits};
 pub use named::Named;
+pub use original::Original;
 pub use passing::{Passing, are_apart, commute_named_in_place, commute_prims_in_place};
+pub use reading::conflictors::read_conflictor;
 pub use reading::{read_named, read_named_within};
+pub use writing::conflictors::{push_conflictor, write_conflictor};
 pub use writing::{push_deps, push_named, push_prim, write_named, write_path};

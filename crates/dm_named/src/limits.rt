@@ -1,6 +1,7 @@
 //! The limits of reading.
 
-ghost use Rattle.std.specs.Prelude.{◌≡◌};
+ghost use Rattle.std.specs.Prelude.{◌≡◌, ◌≤◌};
+ghost use Rattle.dm_named.specs.ConflictorFaults.{less};
 
 /// The kinds of primitives that are read.
 #[derive(Clone, Copy, Debug, PartialEq, Eq)]
@@ -46,6 +47,20 @@ impl Limits {
         replaces: 100_000 * 1_000_000,
         kinds: Kinds::Six,
     };
+
+    /// These limits after so many primitives.
+    pub(crate) fn less(self, count: usize) -> Limits
+        requires { count ≤ self.prims }
+        ensures { result ≡ less self count }
+    {
+        Limits {
+            bytes: self.bytes,
+            patches: self.patches,
+            prims: self.prims - count,
+            replaces: self.replaces,
+            kinds: self.kinds,
+        }
+    }
 
     /// These limits, but with the kinds that are given.
     pub const fn with_kinds(self, kinds: Kinds) -> Limits

@@ -2,11 +2,14 @@
 
 mod binaries;
 mod bodies;
+pub(crate) mod conflictors;
 mod dependencies;
 mod hunks;
 mod lines;
+mod marks;
 mod names;
 mod numbers;
+mod originals;
 mod paths;
 mod preferences;
 mod primitives;

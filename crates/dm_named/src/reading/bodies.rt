@@ -15,7 +15,7 @@ use dm_prim::Prim;
 use std::alloc::Allocator;
 
 /// Whether what is at a place, where a primitive of these kinds may be, is refused.
-fn is_unsupported_at(text: &[u8], at: usize, kinds: Kinds) -> bool
+pub(crate) fn is_unsupported_at(text: &[u8], at: usize, kinds: Kinds) -> bool
     requires { at ≤ length text.now }
     ensures { MatchBool result
         (WordAmong (unsupported_words_of kinds) (drop at text.now) ⊎ Begins 40 (drop at text.now))

@@ -62,7 +62,7 @@ fn with_path_at<A: Allocator + Copy>(
 }
 
 /// A primitive whose word is at `start` and ends at `at`, and the place after it.
-fn prim_at<A: Allocator + Copy>(
+pub(crate) fn prim_at<A: Allocator + Copy>(
     alloc: A,
     word: PrimWord,
     text: &[u8],
