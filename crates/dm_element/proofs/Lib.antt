@@ -6,3 +6,4 @@ pub mod RowLemmas
 pub mod ListLemmas
 pub mod SettledLemmas
 pub mod SettledLawLemmas
+pub mod StandingLemmas

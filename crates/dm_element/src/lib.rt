@@ -19,6 +19,7 @@ mod pair;
 mod settled;
 mod shadows;
 mod side;
+mod standing;
 
 pub use conflicted::Conflicted;
 pub use element::Element;
@@ -27,3 +28,4 @@ pub use merge::{has_reason, lists_merge};
 pub use pair::{commute_elements, commute_elements_owned};
 pub use settled::{Patch, find_unsettled};
 pub use side::Side;
+pub use standing::{Fallen, find_fallen};
