@@ -7,3 +7,4 @@ pub mod ListLemmas
 pub mod SettledLemmas
 pub mod SettledLawLemmas
 pub mod StandingLemmas
+pub mod StandingLawLemmas

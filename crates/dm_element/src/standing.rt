@@ -96,7 +96,7 @@ fn try_after<A: Allocator + Copy, B: Allocator>(
     ensures { (s : LawfulMap) → s.map ≡ map.get tree.old → IfOk result (λ fallen. MatchOption fallen
         ((t : LawfulMap) × (t.map ≡ map.get tree.new) × InTurn LeadsWithin conflict.now.effect s t × All (λ m. Stands LeadsWithin m t) conflict.now.shadows)
         (λ f. (f.element ≡ place) × MatchOption f.shadow (Stands LeadsWithin conflict.now.effect s → ⊥)
-            (λ shadow. (t : LawfulMap) × InTurn LeadsWithin conflict.now.effect s t × IsFirstFallen conflict.now.shadows t shadow))) }
+        (λ shadow. (t : LawfulMap) × InTurn LeadsWithin conflict.now.effect s t × IsFirstFallen conflict.now.shadows t shadow))) }
 {
     if !lead_all(conflict.effect(), tree)? {
         return Ok(Some(Fallen {
@@ -123,7 +123,7 @@ fn try_before<A: Allocator + Copy, B: Allocator>(
     ensures { (s : LawfulMap) → s.map ≡ map.get tree.old → IfOk result (λ fallen. MatchOption fallen
         ((t : LawfulMap) × (t.map ≡ map.get tree.new) × InTurn LeadsWithin conflict.now.effect s t × All (λ m. Stands LeadsWithin m s) conflict.now.shadows)
         (λ f. (f.element ≡ place) × MatchOption f.shadow (Stands LeadsWithin conflict.now.effect s → ⊥)
-            (λ shadow. (t : LawfulMap) × InTurn LeadsWithin conflict.now.effect s t × IsFirstFallen conflict.now.shadows s shadow))) }
+        (λ shadow. (t : LawfulMap) × InTurn LeadsWithin conflict.now.effect s t × IsFirstFallen conflict.now.shadows s shadow))) }
 {
     let before = tree.copy_into(alloc)?;
     if !lead_all(conflict.effect(), tree)? {
