@@ -7,4 +7,5 @@ pub mod ListLemmas
 pub mod SettledLemmas
 pub mod SettledLawLemmas
 pub mod StandingLemmas
+pub mod TrialLemmas
 pub mod StandingLawLemmas

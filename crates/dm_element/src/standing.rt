@@ -13,7 +13,7 @@ ghost use Rattle.dm_element.specs.Standing.{Falls, FindsFallen, IsFirstFallen, L
 use crate::conflicted::Conflicted;
 use crate::element::Element;
 use crate::side::Side;
-use dm_prim::{Prim, apply};
+use dm_prim::{Prim, apply, touch};
 use dm_tree::laws::tree_is_lawful;
 use dm_tree::{Tree, TreeFault};
 use std::alloc::{AllocError, Allocator};
@@ -29,8 +29,9 @@ pub struct Fallen {
 
 /// The first element that falls, where they are applied in turn to the tree: its effect doesn't apply,
 /// or goes past a limit of trees, or one of its shadows does so on the tree on its side. None where
-/// none falls. Each shadow is tried on a copy of the tree. An error is want of memory, and says nothing
-/// of the elements.
+/// none falls. Each shadow is tried on a copy of what its paths reach; where shadows stand before a
+/// conflict the whole tree is copied for it. An error is want of memory, and says nothing of the
+/// elements.
 pub fn find_fallen<A: Allocator + Copy, B: Allocator>(
     alloc: A,
     tree: Tree<A>,
@@ -159,7 +160,7 @@ fn find_fallen_shadow<A: Allocator + Copy, B: Allocator>(
     Ok(None)
 }
 
-/// Whether a shadow stands on the tree.
+/// Whether a shadow stands on the tree. It is tried on a copy of what its paths reach there.
 fn stands<A: Allocator + Copy, B: Allocator>(
     alloc: A,
     tree: &Tree<A>,
@@ -169,8 +170,10 @@ fn stands<A: Allocator + Copy, B: Allocator>(
         (Stands LeadsWithin (prims_of shadow.now) s)
         (Stands LeadsWithin (prims_of shadow.now) s → ⊥)) }
 {
-    let mut trial = tree.copy_into(alloc)?;
-    lead_all(shadow, &mut trial)
+    let paths = touch(alloc, shadow)?.into_paths();
+    let mut part = tree.part(alloc, &paths)?;
+    tree_is_lawful(tree);
+    lead_all(shadow, &mut part)
 }
 
 /// Applies primitives in turn, and returns whether all lead on.

@@ -1,8 +1,8 @@
-use Rattle.std.proofs.Common.{ap, sym, ◌∙◌}
-use Rattle.std.specs.FinMap as map
+use Rattle.std.proofs.Common.{◌∙◌}
 use Rattle.dm_prim.specs.Prims.{prims_of}
-use Rattle.dm_element.proofs.StandingLemmas.{stood}
+use Rattle.dm_element.proofs.TrialLemmas.{part_tried}
 use Rattle.dm_element.proofs.standing.stands.Goals as goal
 
 pub returns : goal.returns
-returns g c = λ s e. stood (prims_of c.args.shadow.now) s _ _ c.lead_all.result (c.lead_all.ensures s (e ∙ ap map.get (sym c.in_ok-trial.ensures)))
+returns g c = λ s e. part_tried c.deref.result.now c.in_ok-touch.field-0 (prims_of c.args.shadow.now) c.args.tree.now c.in_ok-part.part s (c.deref.ensures.value ∙ c.into_paths-paths.ensures) c.in_ok-touch.ensures c.in_ok-part.ensures
+    c.tree_is_lawful.ensures.shallow e _ c.lead_all.result c.lead_all.ensures
