@@ -1,10 +1,10 @@
 -- The laws of elements that stand.
-use Rattle.std.proofs.Common.{◌≡◌, ℕ, ◌+◌, ◌<◌, ◌⊎◌, inl, inr, List, [], ◌∷◌, ◌++◌, length, get_or, All, Option, Some, None, sym, ap, ap₂, refl, ◌∙◌, arith, length-append}
+use Rattle.std.proofs.Common.{◌≡◌, ℕ, ◌<◌, ◌⊎◌, inl, inr, List, [], ◌∷◌, ◌++◌, length, All, Option, Some, None, sym, ap, ap₂, refl, ◌∙◌, arith, length-append}
 use Rattle.std.proofs.Math.Seq.{get_or-append_seam}
 use Rattle.std.proofs.lemmas.Bool.{cases_order}
 use Rattle.std.proofs.lemmas.List.Elements.{All-nil, All-cons, All-head, All-tail}
 use Rattle.dm_prim.specs.InTurn.{InTurn, done, step}
-use Rattle.dm_prim.specs.Primitives.{Prim, inv, inv_all, LawfulMap, Leads, LeadsAll}
+use Rattle.dm_prim.specs.Primitives.{Prim, inv_all, LawfulMap, Leads, LeadsAll}
 use Rattle.dm_prim.proofs.LawProofs.{lists_end_alike, list_inverses_lead_back}
 use Rattle.dm_prim.proofs.RectangleLemmas.{runs_on, rectangle_runs}
 use Rattle.dm_element.specs.declared.side.Side.{Side}
@@ -12,7 +12,7 @@ use Rattle.dm_element.specs.declared.side.Side.TheVariants.{After, Before}
 use Rattle.dm_element.specs.declared.standing.Fallen.{Fallen}
 use Rattle.dm_element.specs.Elements as elements
 use Rattle.dm_element.specs.Elements.{Conflict, Element, Plain, Conflicted, effect_of, effects_of, shadows_of, side_of, other, inv_element, inv_elements, at_side, Passes, EachPasses, ElementCommutes}
-use Rattle.dm_element.specs.Standing.{LeadsWithin, Stands, StandsBetween, StandAll, IsFirstFallen, Falls, IsFallen, FindsFallen}
+use Rattle.dm_element.specs.Standing.{LeadsWithin, Stands, StandsBetween, StandAll, IsFirstFallen, Falls, IsFallen}
 use Rattle.dm_element.specs.Laws.{IsPlainElement, StandingElementsLead, PlainElementsStand, PlainElementsFall, FrontsStand, OneFallen, StandingWithinLimits, CommutedElementsStand, InversesStand}
 use Rattle.dm_element.proofs.ElementLemmas.{alike_side}
 use Rattle.dm_element.proofs.SettledLemmas.{same_parts}

@@ -1,5 +1,5 @@
 -- Primitives that lead on past no limit, and elements that stand.
-use Rattle.std.proofs.Common.{◌≡◌, ◌≢◌, ℕ, ◌+◌, ◌<◌, ◌≤◌, Bool, true, false, List, [], ◌∷◌, ◌++◌, Vec, All, length, map, take, drop, get_or, inl, inr, Option, Some, None, Result, Ok, Err, MatchBool, MatchOption, IfOk, ap, ap₂, refl, sym, subst, ◌∙◌, arith}
+use Rattle.std.proofs.Common.{◌≡◌, ◌≢◌, ℕ, ◌+◌, ◌<◌, ◌≤◌, Bool, true, false, List, [], ◌∷◌, ◌++◌, Vec, All, length, map, take, drop, get_or, inl, inr, Option, Some, None, Result, Ok, Err, MatchBool, MatchOption, IfOk, ap, refl, sym, subst, ◌∙◌, arith}
 use Rattle.std.proofs.lemmas.List.{take_all, length-map, length-take-le}
 use Rattle.std.proofs.lemmas.List.Elements.{All-nil, All-push}
 use Rattle.std.proofs.Math.Nat.{ℕ_set}

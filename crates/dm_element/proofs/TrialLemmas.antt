@@ -1,5 +1,5 @@
 -- What a trial on a part of a tree tells of the whole.
-use Rattle.std.proofs.Common.{◌≡◌, ℕ, Bool, true, false, List, [], ◌∷◌, All, None, inl, inr, Result, Ok, Err, MatchBool, IfOk, refl, sym, ◌∙◌}
+use Rattle.std.proofs.Common.{◌≡◌, Bool, true, false, List, [], ◌∷◌, All, None, inl, inr, Result, Ok, Err, MatchBool, IfOk, refl, sym, ◌∙◌}
 use Rattle.std.proofs.lemmas.List.Elements.{All-head, All-tail}
 use Rattle.std.specs.FinMap as finmap
 use Rattle.dm_tree.specs.Paths.{Path}

@@ -29,9 +29,8 @@ pub struct Fallen {
 
 /// The first element that falls, where they are applied in turn to the tree: its effect doesn't apply,
 /// or goes past a limit of trees, or one of its shadows does so on the tree on its side. None where
-/// none falls. Each shadow is tried on a copy of what its paths reach; where shadows stand before a
-/// conflict the whole tree is copied for it. An error is want of memory, and says nothing of the
-/// elements.
+/// none falls. Each shadow is tried on a copy of what its paths reach. An error is want of memory, and
+/// says nothing of the elements.
 pub fn find_fallen<A: Allocator + Copy, B: Allocator>(
     alloc: A,
     tree: Tree<A>,
@@ -114,7 +113,8 @@ fn try_after<A: Allocator + Copy, B: Allocator>(
     }
 }
 
-/// The same of a conflict whose shadows stand on the tree before it.
+/// The same of a conflict whose shadows stand on the tree before it: they are tried first, but told of
+/// only where the effect applies.
 fn try_before<A: Allocator + Copy, B: Allocator>(
     alloc: A,
     tree: &mut Tree<A>,
@@ -126,14 +126,14 @@ fn try_before<A: Allocator + Copy, B: Allocator>(
         (λ f. (f.element ≡ place) × MatchOption f.shadow (Stands LeadsWithin conflict.now.effect s → ⊥)
         (λ shadow. (t : LawfulMap) × InTurn LeadsWithin conflict.now.effect s t × IsFirstFallen conflict.now.shadows s shadow))) }
 {
-    let before = tree.copy_into(alloc)?;
+    let fallen = find_fallen_shadow(alloc, tree, conflict.shadows())?;
     if !lead_all(conflict.effect(), tree)? {
         return Ok(Some(Fallen {
             element: place,
             shadow: None,
         }));
     }
-    match find_fallen_shadow(alloc, &before, conflict.shadows())? {
+    match fallen {
         None => Ok(None),
         Some(shadow) => Ok(Some(Fallen {
             element: place,

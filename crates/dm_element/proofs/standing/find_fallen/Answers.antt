@@ -16,7 +16,7 @@ pub loop-place-preserved : goal.loop-place-preserved
 loop-place-preserved g c = λ s e.
     let r = c.loop-place.invariant s e in
     let t = rw c.in_default.is at (c.in_ok-fallen.ensures r.0 r.1) in
-    (t.0, t.1, run_more (StandsBetween LeadsWithin) element_of c.args.elements.now c.loop-place.place c.index-elements-place.result c.loop-place-test.true c.index-elements-place.is r.2 t.2)
+    (t.0, t.1, run_more (StandsBetween LeadsWithin) element_of c.args.elements.now c.loop-place.place c.index-elements-place.result c.loop-place-test.true c.index-elements-place.is {u = t.0} r.2 t.2)
 
 pub returns : goal.returns
 returns g c = λ s e.

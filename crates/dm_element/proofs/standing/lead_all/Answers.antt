@@ -16,7 +16,7 @@ pub loop-k-preserved : goal.loop-k-preserved
 loop-k-preserved g c = λ s e.
     let r = c.loop-k.invariant s e in
     let t = rw c.if-not-branch.false at (c.in_ok-leads.ensures r.0 r.1) in
-    (t.0, t.1, run_more LeadsWithin prim_of c.args.prims.now c.loop-k.k c.index-prims-k.result c.loop-k-test.true c.index-prims-k.is r.2 t.2)
+    (t.0, t.1, run_more LeadsWithin prim_of c.args.prims.now c.loop-k.k c.index-prims-k.result c.loop-k-test.true c.index-prims-k.is {u = t.0} r.2 t.2)
 
 pub returns : goal.returns
 returns g c = λ s e.
