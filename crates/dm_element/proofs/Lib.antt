@@ -6,3 +6,6 @@ pub mod RowLemmas
 pub mod ListLemmas
 pub mod SettledLemmas
 pub mod SettledLawLemmas
+pub mod StandingLemmas
+pub mod TrialLemmas
+pub mod StandingLawLemmas

@@ -1,8 +1,11 @@
 -- What holds of all elements that change places, and of all lists of them.
-use Rattle.std.specs.Prelude.{◌≡◌, ◌↔◌, ℕ, List, [], ◌∷◌, ◌++◌, length, map, All}
-use Rattle.dm_prim.specs.Primitives.{Prim, inv_all, LawfulMap, LeadsAll}
+use Rattle.std.specs.Prelude.{◌≡◌, ◌↔◌, ℕ, List, [], ◌∷◌, ◌++◌, length, map, All, Option, None}
+use Rattle.dm_prim.specs.InTurn.{InTurn}
+use Rattle.dm_prim.specs.Primitives.{Prim, inv_all, LawfulMap, Leads, LeadsAll}
 use Rattle.dm_prim.specs.Commuting.{Commutes, ListsCommute}
 use Rattle.dm_element.specs.Elements.{Element, Plain, Conflicted, effect_of, effects_of, shadows_of, AreAlike, inv_element, inv_elements, ElementCommutes, ElementListsCommute, Merge}
+use Rattle.dm_element.specs.declared.standing.Fallen.{Fallen}
+use Rattle.dm_element.specs.Standing.{LeadsWithin, Stands, StandAll, IsFallen, FindsFallen}
 use Rattle.dm_element.specs.Settled.{Patch, IsSettledPatch, AreSettled, IsFirstUnsettled}
 
 -- what holds of a pair that changes places
@@ -94,3 +97,36 @@ OneFirstUnsettled = (ps : List Patch) (m : ℕ) → IsFirstUnsettled ps m → (�
 -- lists that merge, merge in either order
 abbrev pub MergingTurns : Type 0
 MergingTurns = (m k : List Prim) → Merge m k → Merge k m
+
+-- what stands, leads on by its effects
+abbrev pub StandingElementsLead : Type 0
+StandingElementsLead = (es : List Element) (s t : LawfulMap) → StandAll LeadsWithin es s t → InTurn LeadsWithin (effects_of es) s t
+
+-- primitives alone stand exactly where they, in turn, lead on
+abbrev pub PlainElementsStand : Type 0
+PlainElementsStand = (es : List Element) (s t : LawfulMap) → All IsPlainElement es → StandAll LeadsWithin es s t ↔ InTurn LeadsWithin (effects_of es) s t
+
+-- of them none falls by a shadow, and one falls only where they, in turn, lead nowhere
+abbrev pub PlainElementsFall : Type 0
+PlainElementsFall = (es : List Element) (s : LawfulMap) (f : Fallen) → All IsPlainElement es → IsFallen es s f → (f.shadow ≡ None) × (Stands LeadsWithin (effects_of es) s → ⊥)
+
+-- where a list stands, so does each front of it, and the rest from where that leads
+abbrev pub FrontsStand : Type 0
+FrontsStand = (es fs : List Element) (s t : LawfulMap) → StandAll LeadsWithin (es ++ fs) s t → (u : LawfulMap) × StandAll LeadsWithin es s u × StandAll LeadsWithin fs u t
+
+-- at most one is the first that falls, and none where all stand
+abbrev pub OneFallen : Type 0
+OneFallen = (es : List Element) (s : LawfulMap) (r q : Option Fallen) → FindsFallen es s r → FindsFallen es s q → r ≡ q
+
+-- what stands past no limit, stands
+abbrev pub StandingWithinLimits : Type 0
+StandingWithinLimits = (es : List Element) (s t : LawfulMap) → StandAll LeadsWithin es s t → StandAll Leads es s t
+
+-- where lists that stand change places, those that they become stand too, with one end
+abbrev pub CommutedElementsStand : Type 0
+CommutedElementsStand = (es fs fs' es' : List Element) → ElementListsCommute es fs fs' es' → (s u z : LawfulMap) → StandAll Leads es s u → StandAll Leads fs u z →
+    (m : LawfulMap) × StandAll Leads fs' s m × StandAll Leads es' m z
+
+-- what stands from s to t has an inverse that stands from t to s
+abbrev pub InversesStand : Type 0
+InversesStand = (es : List Element) (s t : LawfulMap) → StandAll Leads es s t → StandAll Leads (inv_elements es) t s

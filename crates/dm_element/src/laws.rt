@@ -1,6 +1,6 @@
 //! The laws of the definitions alone, for all elements and all lists of patches. Each call does nothing; whoever calls it knows
 //! the law from there on.
-ghost use Rattle.dm_element.specs.Laws.{ElementsCommuteBack, ElementsCommutePastAnInverse, OneWayToCommuteElements, ElementsKeepTheirShape, PlainElementsCommute, InversesUndoEffects, ElementListsCommuteBack, ElementListsCommutePastAnInverse, ElementRectanglesTurn, OneWayToCommuteElementLists, ListInversesUndoEffects, EffectsCommute, CommutedElementsEndAlike, PlainPatchesAreSettled, SettledPatchesStay, OneFirstUnsettled, MergingTurns};
+ghost use Rattle.dm_element.specs.Laws.{ElementsCommuteBack, ElementsCommutePastAnInverse, OneWayToCommuteElements, ElementsKeepTheirShape, PlainElementsCommute, InversesUndoEffects, ElementListsCommuteBack, ElementListsCommutePastAnInverse, ElementRectanglesTurn, OneWayToCommuteElementLists, ListInversesUndoEffects, EffectsCommute, CommutedElementsEndAlike, PlainPatchesAreSettled, SettledPatchesStay, OneFirstUnsettled, MergingTurns, StandingElementsLead, PlainElementsStand, PlainElementsFall, FrontsStand, OneFallen, StandingWithinLimits, CommutedElementsStand, InversesStand};
 
 /// Two elements that changed places change places back to what they were.
 pub fn commuting_elements_back()
@@ -89,4 +89,41 @@ pub fn one_first_unsettled()
 /// Two lists of primitives that merge, merge in either order.
 pub fn merging_turns()
     ensures { MergingTurns }
+{}
+
+/// Elements that stand, in turn, lead on by their effects.
+pub fn standing_elements_lead()
+    ensures { StandingElementsLead }
+{}
+
+/// Primitives alone stand exactly where they lead on, and fall only where they don't: none falls by a
+/// shadow.
+pub fn plain_elements_stand()
+    ensures stand { PlainElementsStand }
+    ensures fall { PlainElementsFall }
+{}
+
+/// Where a list stands, so does each front of it.
+pub fn fronts_stand()
+    ensures { FrontsStand }
+{}
+
+/// At most one answer of [`find_fallen`](crate::find_fallen).
+pub fn one_fallen()
+    ensures { OneFallen }
+{}
+
+/// What stands past no limit of trees, stands.
+pub fn standing_within_limits()
+    ensures { StandingWithinLimits }
+{}
+
+/// Where lists that stand change places, those that they become stand too, with one end.
+pub fn commuted_elements_stand()
+    ensures { CommutedElementsStand }
+{}
+
+/// The inverse of a list that stands, stands from its end.
+pub fn inverses_stand()
+    ensures { InversesStand }
 {}
