@@ -2,10 +2,10 @@
 use Rattle.std.proofs.Common.{◌≡◌, ◌+◌, ℕ, List, [], ◌∷◌, ◌++◌, refl, sym, ap, subst, ◌∙◌, arith, inl, inr}
 use Rattle.std.specs.Prelude.{codes}
 use Rattle.dm_prim.specs.Primitives.{Prim}
-use Rattle.dm_named.specs.Words.{skipped, Begins, NextByte, WordAmong}
+use Rattle.dm_named.specs.Words.{skipped, NextByte, WordAmong}
 use Rattle.dm_named.specs.Many.{Many}
 use Rattle.dm_named.specs.Patches.{NextPrim, prim_words, prim_words_of}
-use Rattle.dm_named.specs.Conflictors.{Original, Conflictor, OriginalText, BeginsTwice, NextTwice, Partners, InBrackets, ConflictorText, size_of, sizes_of}
+use Rattle.dm_named.specs.Conflictors.{Original, Conflictor, OriginalText, Partners, InBrackets, ConflictorText, sizes_of}
 use Rattle.dm_named.specs.ConflictorFaults.{BeginsOriginal}
 use Rattle.dm_named.specs.declared.limits.Kinds.{Kinds}
 use Rattle.dm_named.specs.declared.limits.Kinds.TheVariants as these

@@ -1,5 +1,5 @@
 -- The parts of a conflictor as its reader finds them, and what is missing where one ends.
-use Rattle.std.proofs.Common.{◌≡◌, ◌≤◌, ◌<◌, ◌+◌, ◌-◌, ℕ, List, [], ◌∷◌, ◌++◌, length, refl, sym, ap, subst, ◌∙◌, arith, inl, inr}
+use Rattle.std.proofs.Common.{◌≡◌, ◌≤◌, ◌<◌, ◌+◌, ◌-◌, ℕ, List, [], ◌∷◌, ◌++◌, length, sym, ap, subst, ◌∙◌, arith, inl, inr}
 use Rattle.std.specs.Prelude.{◌⊎◌, ◌≢◌, codes}
 use Rattle.dm_prim.specs.Primitives.{Prim}
 use Rattle.dm_named.specs.Words.{skipped, Begins, Word, WordAmong}

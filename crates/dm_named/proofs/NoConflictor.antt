@@ -1,6 +1,6 @@
 -- Where a text has a fault, no conflictor stands, or there are more primitives in it than the limits allow.
-use Rattle.std.proofs.Common.{◌≡◌, ◌≤◌, ◌<◌, ◌+◌, ◌-◌, ℕ, List, [], ◌∷◌, ◌++◌, length, refl, sym, ap, subst, ◌∙◌, arith, inl, inr}
-use Rattle.std.specs.Prelude.{codes, ◌≢◌, ◌⊎◌}
+use Rattle.std.proofs.Common.{◌≡◌, ◌≤◌, ◌<◌, ◌-◌, ℕ, List, [], ◌∷◌, ◌++◌, length, refl, ap, subst, ◌∙◌, arith, inl, inr}
+use Rattle.std.specs.Prelude.{codes, ◌≢◌}
 use Rattle.dm_prim.specs.Primitives.{Prim}
 use Rattle.dm_named.specs.Words.{skipped, WordAmong}
 use Rattle.dm_named.specs.Many.{Many}
@@ -12,7 +12,7 @@ use Rattle.dm_named.specs.declared.fault.FaultKind.{FaultKind}
 use Rattle.dm_named.specs.declared.fault.FaultKind.TheVariants as K
 use Rattle.dm_named.specs.declared.limits.Limits.{Limits}
 use Rattle.dm_named.proofs.WordLemmas.{one_word}
-use Rattle.dm_named.proofs.ManyLemmas.{Closed, many_follows}
+use Rattle.dm_named.proofs.ManyLemmas.{many_follows}
 use Rattle.dm_named.proofs.OnePatch.{prim_a_word, one_prims}
 use Rattle.dm_named.proofs.NoPatch.{no_prim, no_prims, tail_same}
 use Rattle.dm_named.proofs.OneFault.{count_kind}
