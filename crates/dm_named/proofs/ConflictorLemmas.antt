@@ -101,3 +101,6 @@ sizes_more os i o lt is =
 
 pub sizes_within : (os : List Original) (n : ℕ) → sizes_of (take n os) ≤ sizes_of os
 sizes_within os n = omega (arith, ap sizes_of (take-append-drop n os), sizes_append (take n os) (drop n os))
+
+pub sizes_step : (os : List Original) (i : ℕ) (o : Original) (most : ℕ) → i < length os → o ≡ get_or os i o → sizes_of os ≤ most → sizes_of (take i os) + size_of o ≤ most
+sizes_step os i o most lt is few = omega (arith, sizes_more os i o lt is, sizes_within os (i + 1), few)

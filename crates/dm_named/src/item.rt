@@ -1,6 +1,6 @@
 //! Items of the bodies of named patches (Darcs.Patch.V2.RepoPatch).
 
-ghost use Rattle.std.specs.Prelude.{◌≡◌, ◌<◌, ◌^◌};
+ghost use Rattle.std.specs.Prelude.{◌≡◌, ◌≤◌};
 ghost use Rattle.dm_named.specs.MergedPatches.{item_size};
 ghost use Rattle.dm_named.specs.Items.{item_of};
 
@@ -25,14 +25,14 @@ impl<A: Allocator> Drop for Item<A> {
 }
 
 impl<A: Allocator> Item<A> {
-    /// How many primitives it has.
-    pub(crate) fn size(&self) -> usize
-        requires { item_size (item_of self.now) < 2 ^ 64 }
+    /// How many primitives it has: no more than `most`, as the caller knows.
+    pub(crate) fn size(&self, most: usize) -> usize
+        requires { item_size (item_of self.now) ≤ most }
         ensures { result ≡ item_size (item_of self.now) }
     {
         match self {
             Item::Plain(_) => 1,
-            Item::Conflicted(conflictor) => conflictor.size(),
+            Item::Conflicted(conflictor) => conflictor.size(most),
         }
     }
 }

@@ -77,7 +77,7 @@ fn items_at<A: Allocator + Copy>(
     let mut left = limits;
     while let Some((word, here, next)) = item_word_at(text, end, limits.kinds) {
         let (item, after) = item_at(alloc, word, text, here, next, left)?;
-        left = left.less(item.size());
+        left = left.less(item.size(left.prims));
         if let Err(e) = items.push(item) {
             return Err(ReadFault::no_memory(e.into(), here));
         }
