@@ -1,5 +1,5 @@
 -- The items of a body as their reader finds them.
-use Rattle.std.proofs.Common.{◌≡◌, ◌≤◌, ◌<◌, ◌+◌, ◌-◌, ℕ, List, [], ◌∷◌, ◌++◌, sym, ap, subst, ◌∙◌, arith, inl, inr}
+use Rattle.std.proofs.Common.{◌≡◌, ◌≤◌, ◌<◌, ◌+◌, ℕ, List, [], ◌∷◌, ◌++◌, sym, ap, subst, ◌∙◌, arith, inl, inr}
 use Rattle.std.specs.Prelude.{◌≢◌, codes}
 use Rattle.dm_named.specs.Words.{skipped, Begins, NextByte, Word, Among, WordAmong}
 use Rattle.dm_named.specs.Many.{Many}

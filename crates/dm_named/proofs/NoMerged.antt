@@ -7,7 +7,7 @@ use Rattle.dm_named.specs.Many.{Many}
 use Rattle.dm_named.specs.Patches.{Dependencies, RunEnds}
 use Rattle.dm_named.specs.ConflictorFaults.{less}
 use Rattle.dm_named.specs.MergedPatches.{Item, Plain, Conflicted, MergedPatch, ItemText, NextItem, BodyOfItems, MergedText, item_size, body_size}
-use Rattle.dm_named.specs.MergedFaults.{item_words_of, ItemFault, plain, conflicted, ItemsFault, AfterItems, ItemBodyFault, in_braces, in_run, MergedFault, info, deps, body}
+use Rattle.dm_named.specs.MergedFaults.{item_words_of, ItemFault, plain, conflicted, ItemsFault, ItemBodyFault, in_braces, in_run, MergedFault, info, deps, body}
 use Rattle.dm_named.specs.declared.fault.FaultKind.{FaultKind}
 use Rattle.dm_named.specs.declared.fault.FaultKind.TheVariants as K
 use Rattle.dm_named.specs.declared.limits.Limits.{Limits}

@@ -1,5 +1,5 @@
 -- Named patches as text in whose bodies conflictors may stand beside primitives (Darcs.Patch.Named over Darcs.Patch.V2.RepoPatch).
-use Rattle.std.specs.Prelude.{◌≡◌, ◌⊎◌, ◌+◌, ◌<◌, ℕ, List, [], ◌∷◌, map}
+use Rattle.std.specs.Prelude.{◌⊎◌, ◌+◌, ℕ, List, [], ◌∷◌, map}
 use Rattle.std.specs.List.{AllByRecursion}
 use Rattle.dm_info.specs.PatchInfo.{PatchInfo, IsInfo}
 use Rattle.dm_info.specs.Spelling.{Stands}
@@ -46,7 +46,7 @@ pub record ItemsInBraces (kinds : Kinds) (text : List ℕ) (is : List Item) (res
   pub read : Many (NextItem kinds) inside is mid
   pub closes : NextByte 125 mid rest
 
--- items without braces, as many as follow one another; the word `conflictor` doesn't stand where a run of primitives ends
+-- items without braces, as many as follow one another: a run of primitives doesn't end before the word `conflictor` either
 pub record RunOfItems (kinds : Kinds) (text : List ℕ) (is : List Item) (rest : List ℕ) : Type 0 where
   pub bare : Begins 123 (skipped text) → ⊥
   pub read : Many (NextItem kinds) text is rest

@@ -13,6 +13,9 @@
 //! A [`Conflictor`] is a conflict that was merged, with primitives alone in its contexts. [`read_conflictor`] and
 //! [`write_conflictor`] do for its text what those two do for a named patch's. [`Conflictor::into_element`] makes the element of a
 //! patch of it that `dm_element` commutes, and [`Conflictor::from_conflict`] is the way back.
+//!
+//! A [`Merged`] is a named patch as merges leave it: conflictors may stand beside its primitives. [`read_merged`] and [`write_merged`] do
+//! for it what the others do. Where all its items are primitives, its text is that of a named patch ([`laws::plain_texts_stay`]).
 #![tactic(auto)]
 
 mod commuting;

@@ -1,4 +1,4 @@
-use Rattle.std.proofs.Common.{◌≡◌, ◌∙◌, sym, ap, arith}
+use Rattle.std.proofs.Common.{◌∙◌, ap, arith}
 use Rattle.std.proofs.lemmas.List.{take_all}
 use Rattle.dm_named.specs.Conflictors.{sizes_of}
 use Rattle.dm_named.proofs.ConflictorLemmas.{sizes_more, sizes_step}
