@@ -1,11 +1,12 @@
 -- A text has at most one conflictor at its front.
-use Rattle.std.proofs.Common.{◌≡◌, ◌+◌, ℕ, List, [], ◌∷◌, ◌++◌, refl, sym, ap, subst, ◌∙◌, arith, inl, inr}
+use Rattle.std.proofs.Common.{◌≡◌, ◌≤◌, ◌<◌, ◌+◌, ℕ, List, [], ◌∷◌, ◌++◌, length, get_or, take, drop, refl, sym, ap, subst, ◌∙◌, arith, inl, inr}
+use Rattle.std.proofs.lemmas.List.{take_more, take-append-drop}
 use Rattle.std.specs.Prelude.{codes}
 use Rattle.dm_prim.specs.Primitives.{Prim}
 use Rattle.dm_named.specs.Words.{skipped, NextByte, WordAmong}
 use Rattle.dm_named.specs.Many.{Many}
 use Rattle.dm_named.specs.Patches.{NextPrim, prim_words, prim_words_of}
-use Rattle.dm_named.specs.Conflictors.{Original, Conflictor, OriginalText, Partners, InBrackets, ConflictorText, sizes_of}
+use Rattle.dm_named.specs.Conflictors.{Original, Conflictor, OriginalText, Partners, InBrackets, ConflictorText, size_of, sizes_of}
 use Rattle.dm_named.specs.ConflictorFaults.{BeginsOriginal}
 use Rattle.dm_named.specs.declared.limits.Kinds.{Kinds}
 use Rattle.dm_named.specs.declared.limits.Kinds.TheVariants as these
@@ -91,3 +92,15 @@ one_conflictor kinds text c d r s a b =
 pub sizes_append : (os ps : List Original) → sizes_of (os ++ ps) ≡ sizes_of os + sizes_of ps
 sizes_append [] ps = omega arith
 sizes_append (o ∷ os) ps = omega (arith, sizes_append os ps)
+
+-- those of one more, and of as many as there are
+pub sizes_more : (os : List Original) (i : ℕ) (o : Original) → i < length os → o ≡ get_or os i o → sizes_of (take (i + 1) os) ≡ sizes_of (take i os) + size_of o
+sizes_more os i o lt is =
+    let next : take (i + 1) os ≡ take i os ++ o ∷ [] = take_more os i o lt ∙ ap (λ z. take i os ++ z ∷ []) (sym is) in
+    omega (arith, ap sizes_of next, sizes_append (take i os) (o ∷ []))
+
+pub sizes_within : (os : List Original) (n : ℕ) → sizes_of (take n os) ≤ sizes_of os
+sizes_within os n = omega (arith, ap sizes_of (take-append-drop n os), sizes_append (take n os) (drop n os))
+
+pub sizes_step : (os : List Original) (i : ℕ) (o : Original) (most : ℕ) → i < length os → o ≡ get_or os i o → sizes_of os ≤ most → sizes_of (take i os) + size_of o ≤ most
+sizes_step os i o most lt is few = omega (arith, sizes_more os i o lt is, sizes_within os (i + 1), few)

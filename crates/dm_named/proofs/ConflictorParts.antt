@@ -54,10 +54,10 @@ pub one_wrong : (limits : Limits) (kind : FaultKind) (count : ℕ) (text next he
 one_wrong limits kind count text next here e few due w =
     inr (inr (few, subst (λ (t : List ℕ). PrimFaultOf limits.kinds kind t here) e (record { due = due; wrong = w })))
 
-kinds_left : (limits left : Limits) (n : ℕ) → left ≡ less limits n → left.kinds ≡ limits.kinds
+pub kinds_left : (limits left : Limits) (n : ℕ) → left ≡ less limits n → left.kinds ≡ limits.kinds
 kinds_left limits left n e = ap (λ (l : Limits). l.kinds) e
 
-prims_left : (limits left : Limits) (n : ℕ) → left ≡ less limits n → left.prims ≡ limits.prims - n
+pub prims_left : (limits left : Limits) (n : ℕ) → left ≡ less limits n → left.prims ≡ limits.prims - n
 prims_left limits left n e = ap (λ (l : Limits). l.prims) e
 
 pub original_more : (limits left : Limits) (text mid after : List ℕ) (os : List Original) (o : Original) → Many (OriginalText limits.kinds) text os mid → left ≡ less limits (sizes_of os)

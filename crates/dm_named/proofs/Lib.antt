@@ -26,3 +26,8 @@ pub mod NoConflictor
 pub mod ConflictorParts
 pub mod ConflictorRoundTrip
 pub mod ConflictLemmas
+pub mod MergedLemmas
+pub mod NoMerged
+pub mod PlainItems
+pub mod MergedRoundTrip
+pub mod ItemParts

@@ -182,7 +182,7 @@ begins_two b c text tail other e o = other (let both : b ∷ tail ≡ c ∷ o.0 
 -- ---- bodies
 
 -- what stands after the primitives of a braced body is no fault of braces
-not_closed : (kinds : Kinds) (kind : FaultKind) (text here r : List ℕ) → BraceFaultAt kinds kind text here → text ≡ 125 ∷ r → ⊥
+pub not_closed : (kinds : Kinds) (kind : FaultKind) (text here r : List ℕ) → BraceFaultAt kinds kind text here → text ≡ 125 ∷ r → ⊥
 not_closed kinds K.Unclosed text here r f e = let both : [] ≡ 125 ∷ r = sym f.1 ∙ e in cc
 not_closed kinds K.Unsupported text here r f e =
     elim f.1 [
@@ -206,7 +206,7 @@ no_brace limits kind inside here f qs s r q closes =
       | inr p ↦ not_prim limits.kinds kind (skipped f.mid) here f.wrong (prim_a_word limits.kinds (skipped f.mid) p.0 p.1 p.2.read p.2.kind)
     ]
 
-run_goes_on : (kinds : Kinds) (kind : FaultKind) (text here : List ℕ) → RunFaultAt kinds kind text here → RunEnds text → ⊥
+pub run_goes_on : (kinds : Kinds) (kind : FaultKind) (text here : List ℕ) → RunFaultAt kinds kind text here → RunEnds text → ⊥
 run_goes_on kinds K.Unsupported text here f e = elim f.1 [ inl o ↦ no_refused_ends kinds text e o | inr b ↦ e.paren b ]
 run_goes_on kinds kind text here f e = absurd f
 

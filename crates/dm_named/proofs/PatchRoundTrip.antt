@@ -153,7 +153,7 @@ joined_hunk a b c d e = simp append_assoc refl
 joined_info : (a b c : List ℕ) → a ++ 10 ∷ (b ++ c) ≡ ((a ++ 10 ∷ []) ++ b) ++ c
 joined_info a b c = simp append_assoc refl
 
-joined_patch : (a b c d : List ℕ) → a ++ (b ++ (c ++ d)) ≡ (a ++ (b ++ c)) ++ d
+pub joined_patch : (a b c d : List ℕ) → a ++ (b ++ (c ++ d)) ≡ (a ++ (b ++ c)) ++ d
 joined_patch a b c d = simp append_assoc refl
 
 joined_move : (a b e : List ℕ) → (a ++ 32 ∷ (b ++ 10 ∷ [])) ++ e ≡ a ++ 32 ∷ (b ++ 10 ∷ e)
@@ -299,7 +299,7 @@ pub record Lettered (text : List ℕ) : Type 0 where
   pub low : 97 ≤ first
   pub high : first ≤ 122
 
-lettered : (p : Prim) (rest : List ℕ) → Lettered (prim_text p ++ rest)
+pub lettered : (p : Prim) (rest : List ℕ) → Lettered (prim_text p ++ rest)
 lettered (At p AddFile) rest = record { first = 97; more = _; parts = refl; low = omega arith; high = omega arith }
 lettered (At p RmFile) rest = record { first = 114; more = _; parts = refl; low = omega arith; high = omega arith }
 lettered (At p AddDir) rest = record { first = 97; more = _; parts = refl; low = omega arith; high = omega arith }
@@ -321,7 +321,7 @@ skipped_prim (At p (Replace set old new)) rest = refl
 skipped_prim (ChangePref name old new) rest = refl
 skipped_prim (Move p q) rest = refl
 
-not_letter : (b : ℕ) (text : List ℕ) → Lettered text → (b < 97) ⊎ (122 < b) → Begins b text → ⊥
+pub not_letter : (b : ℕ) (text : List ℕ) → Lettered text → (b < 97) ⊎ (122 < b) → Begins b text → ⊥
 not_letter b text l out o =
     let same : l.first ≡ b = front_same l.first b l.more o.0 (sym l.parts ∙ o.1) in
     elim out [ inl x ↦ omega (arith, l.low, same, x) | inr x ↦ omega (arith, l.high, same, x) ]
@@ -329,7 +329,7 @@ not_letter b text l out o =
 no_hunk_line : (text : List ℕ) → Lettered text → NoLine text
 no_hunk_line text l = record { space = not_letter 32 text l (inl (omega arith)); old = not_letter 45 text l (inl (omega arith)); new = not_letter 43 text l (inl (omega arith)) }
 
-letter_no_line : (kinds : Kinds) (text : List ℕ) → Lettered text → NoLineOf kinds text
+pub letter_no_line : (kinds : Kinds) (text : List ℕ) → Lettered text → NoLineOf kinds text
 letter_no_line these.Six text l = no_hunk_line text l
 letter_no_line these.All text l = (no_hunk_line text l, not_letter 42 text l (inl (omega arith)))
 
@@ -393,7 +393,7 @@ pub record ReadsDeps (text : List ℕ) (ds : List PatchInfo) (rest : List ℕ) :
   pub read : Dependencies text ds after
   pub left : skipped after ≡ skipped rest
 
-deps_back : (ds : List PatchInfo) (rest : List ℕ) → AllByRecursion IsInfo ds → (Begins 60 (skipped rest) → ⊥) → ReadsDeps (32 ∷ (deps_text ds ++ rest)) ds rest
+pub deps_back : (ds : List PatchInfo) (rest : List ℕ) → AllByRecursion IsInfo ds → (Begins 60 (skipped rest) → ⊥) → ReadsDeps (32 ∷ (deps_text ds ++ rest)) ds rest
 deps_back [] rest valid none = record { after = 32 ∷ rest; read = inr (none, refl, refl); left = refl }
 deps_back (d ∷ ds) rest valid none =
     let inner = flat_map info_line (d ∷ ds) in
@@ -419,7 +419,7 @@ no_brace b rest other o = other (front_same 125 b rest o.0 o.1)
 hunk_brace : (rest : List ℕ) → NoLine (125 ∷ rest)
 hunk_brace rest = record { space = no_brace 32 rest (λ e. omega (arith, e)); old = no_brace 45 rest (λ e. omega (arith, e)); new = no_brace 43 rest (λ e. omega (arith, e)) }
 
-brace_line : (kinds : Kinds) (rest : List ℕ) → NoLineOf kinds (125 ∷ rest)
+pub brace_line : (kinds : Kinds) (rest : List ℕ) → NoLineOf kinds (125 ∷ rest)
 brace_line these.Six rest = hunk_brace rest
 brace_line these.All rest = (hunk_brace rest, no_brace 42 rest (λ e. omega (arith, e)))
 

@@ -64,3 +64,9 @@ a_next kinds text here next after h p e w a r =
     let s = stands_word here p after r in
     let same = (one_word here (word_of h) (prim_word p) next s.0 w s.1).0 in
     record { read = subst (λ (t : List ℕ). PrimText t p after) e r; kind = of_kind kinds p (subst (Among (prim_words_of kinds)) same a) }
+
+-- a primitive whose word is one of the kinds' is of them
+pub is_of_kind : (kinds : Kinds) (text next after : List ℕ) (h : PrimWord) (p : Prim) → Word text (word_of h) next → Among (prim_words_of kinds) (word_of h) → PrimText text p after → IsOf kinds p
+is_of_kind kinds text next after h p w a r =
+    let s = stands_word text p after r in
+    of_kind kinds p (subst (Among (prim_words_of kinds)) (one_word text (word_of h) (prim_word p) next s.0 w s.1).0 a)

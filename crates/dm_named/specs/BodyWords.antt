@@ -10,6 +10,8 @@ use Rattle.dm_named.specs.declared.reading.words.PrimWord.{PrimWord}
 use Rattle.dm_named.specs.declared.reading.words.PrimWord.TheVariants as prim
 use Rattle.dm_named.specs.declared.reading.words.BodyWord.{BodyWord}
 use Rattle.dm_named.specs.declared.reading.words.BodyWord.TheVariants as body
+use Rattle.dm_named.specs.declared.reading.words.ItemWord.{ItemWord}
+use Rattle.dm_named.specs.declared.reading.words.ItemWord.TheVariants as item
 
 -- how the word of a primitive with a path is spelled
 abbrev pub path_word_of : AtPath → List ℕ
@@ -37,3 +39,13 @@ abbrev pub IsBodyWord : Kinds → List ℕ → BodyWord → Type 0
 IsBodyWord kinds word (body.Prim w) = (word ≡ word_of w) × Among (prim_words_of kinds) word
 IsBodyWord kinds word body.Unsupported = Among (unsupported_words_of kinds) word × (Among (prim_words_of kinds) word → ⊥)
 IsBodyWord kinds word body.Other = (Among (prim_words_of kinds) word → ⊥) × (Among (unsupported_words_of kinds) word → ⊥)
+
+-- how the word of an item is spelled
+abbrev pub item_word_of : ItemWord → List ℕ
+item_word_of (item.Prim w) = word_of w
+item_word_of item.Conflictor = codes "conflictor"
+
+-- the word of an item whose primitives are of these kinds
+abbrev pub IsItemWord : Kinds → ItemWord → Type 0
+IsItemWord kinds (item.Prim w) = Among (prim_words_of kinds) (word_of w)
+IsItemWord kinds item.Conflictor = Unit {0}

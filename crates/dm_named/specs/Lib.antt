@@ -18,3 +18,8 @@ pub mod CanonicalConflictors
 pub mod ConflictorFaults
 pub mod ConflictorLaws
 pub mod ConflictorElements
+pub mod MergedPatches
+pub mod Items
+pub mod CanonicalMerged
+pub mod MergedFaults
+pub mod MergedLaws

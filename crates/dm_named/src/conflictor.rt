@@ -1,6 +1,7 @@
 //! Conflictors: conflicts that were merged, as darcs writes them (Darcs.Patch.V2.RepoPatch).
 
-ghost use Rattle.std.specs.Prelude.{◌≡◌, map, IfOk};
+ghost use Rattle.std.specs.Prelude.{◌≡◌, ◌≤◌, map, IfOk};
+ghost use Rattle.dm_named.specs.Conflictors.{sizes_of, conflictor_size};
 ghost use Rattle.dm_prim.specs.Prims.{prims_of};
 ghost use Rattle.dm_element.specs.Elements as elements;
 ghost use Rattle.dm_element.specs.Lists.{lists_of};
@@ -77,6 +78,26 @@ impl<A: Allocator> Conflictor<A> {
     {
         &self.own
     }
+
+    /// How many primitives it has: no more than `most`, as the caller knows.
+    pub(crate) fn size(&self, most: usize) -> usize
+        requires { conflictor_size self.now ≤ most }
+        ensures { result ≡ conflictor_size self.now }
+    {
+        total_size(self.partners(), most) + (self.undone.len() + self.own.size())
+    }
+}
+
+/// How many primitives originals have: no more than `most`, as the caller knows.
+fn total_size<A: Allocator>(originals: &[Original<A>], most: usize) -> usize
+    requires { sizes_of originals.now ≤ most }
+    ensures { result ≡ sizes_of originals.now }
+{
+    let mut size = 0;
+    for original in originals {
+        size += original.size();
+    }
+    size
 }
 
 impl<A: Allocator + Copy> Conflictor<A> {

@@ -6,6 +6,7 @@ ghost use Rattle.dm_named.specs.Limits.{standard, own};
 ghost use Rattle.dm_named.specs.Laws.{OnePatch, OnePatchIn, KindsChooseOnly, FaultExcludesPatch, FaultExcludesPatchWithin, OneFault, OneFaultWithin, FaultOfSix, NoFaultWithinCount, NoFaultWithinCountOf, PathRoundTrip, PrimRoundTrip, PatchRoundTrip, SquaresTurn};
 ghost use Rattle.dm_named.specs.ConflictorElements.{ConflictorsKeepTheirShape};
 ghost use Rattle.dm_named.specs.ConflictorLaws.{OneConflictor, FaultExcludesConflictor, ConflictorRoundTrip};
+ghost use Rattle.dm_named.specs.MergedLaws.{PlainTextsStay, PlainCanonicalTextsStay, OneMerged, FaultExcludesMerged, MergedRoundTrip};
 
 use crate::limits::{Kinds, Limits};
 
@@ -81,6 +82,29 @@ pub fn fault_excludes_conflictor()
 /// The canonical text of a conflictor of valid primitives is read back as that conflictor.
 pub fn conflictor_round_trip()
     ensures { (kinds : Kinds) → ConflictorRoundTrip kinds }
+{}
+
+/// Where all items of a named patch are primitives, its text and its canonical text are those of a named patch of these primitives,
+/// and as many count.
+pub fn plain_texts_stay()
+    ensures texts { (kinds : Kinds) → PlainTextsStay kinds }
+    ensures canonical { PlainCanonicalTextsStay }
+{}
+
+/// A text has at most one named patch of items at its front, whichever kinds of primitives are read.
+pub fn one_merged()
+    ensures { (kinds : Kinds) → OneMerged kinds }
+{}
+
+/// A text with a fault has no named patch of items at its front, unless the fault is `NoMemory`, or it is `TooMany` and the patch has
+/// more primitives than the limits allow.
+pub fn fault_excludes_merged()
+    ensures { (limits : Limits) → FaultExcludesMerged limits }
+{}
+
+/// The canonical text of a valid named patch of items is read back as that patch.
+pub fn merged_round_trip()
+    ensures { (kinds : Kinds) → MergedRoundTrip kinds }
 {}
 
 /// A conflict whose shadows stand after it, with as many primitives in each as a conflictor's have, is a conflictor.

@@ -1,6 +1,7 @@
 //! Writing canonical texts.
 
 pub(crate) mod conflictors;
+pub(crate) mod merged;
 
 ghost use Rattle.std.specs.Prelude.{◌≡◌, ◌++◌, ◌∷◌, [], OnOk, OnErr, IfOk, codes};
 ghost use Rattle.std.specs.List.{AllByRecursion, flat_map};

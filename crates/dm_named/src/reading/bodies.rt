@@ -33,7 +33,7 @@ pub(crate) fn is_unsupported_at(text: &[u8], at: usize, kinds: Kinds) -> bool
 }
 
 /// What is wrong inside braces where there is neither a primitive nor the closing brace.
-fn brace_fault(text: &[u8], at: usize, kinds: Kinds) -> FaultKind
+pub(crate) fn brace_fault(text: &[u8], at: usize, kinds: Kinds) -> FaultKind
     requires within { at ≤ length text.now }
     requires no_prim { WordAmong (prim_words_of kinds) (drop at text.now) → ⊥ }
     requires no_close { Begins 125 (drop at text.now) → ⊥ }

@@ -76,7 +76,7 @@ fn brackets_at<A: Allocator + Copy>(
 }
 
 /// A conflictor whose word is at `start` and ends at `at`, and the place after it.
-fn after_word<A: Allocator + Copy>(
+pub(crate) fn after_word<A: Allocator + Copy>(
     alloc: A,
     text: &[u8],
     start: usize,

@@ -4,7 +4,8 @@ ghost use Rattle.std.specs.Prelude.{◌≡◌, ◌≢◌, ◌≤◌, ◌<◌, le
 ghost use Rattle.dm_named.specs.Words.{skipped, Word, Among, WordAmong};
 ghost use Rattle.dm_named.specs.Patches.{prim_words_of, refused_words};
 ghost use Rattle.dm_named.specs.Faults.{path_words};
-ghost use Rattle.dm_named.specs.BodyWords.{path_word_of, word_of, IsOneWider, IsBodyWord};
+ghost use Rattle.dm_named.specs.MergedFaults.{item_words_of};
+ghost use Rattle.dm_named.specs.BodyWords.{path_word_of, word_of, IsOneWider, IsBodyWord, item_word_of, IsItemWord};
 
 use crate::limits::Kinds;
 use crate::text::{skip, word_at};
@@ -38,6 +39,13 @@ pub(crate) enum BodyWord {
     Unsupported,
     /// Any other.
     Other,
+}
+
+/// The word of an item of a body.
+#[derive(Clone, Copy)]
+pub(crate) enum ItemWord {
+    Prim(PrimWord),
+    Conflictor,
 }
 
 /// Whether two words are one.
@@ -149,6 +157,29 @@ pub(crate) fn prim_word_at(text: &[u8], at: usize, kinds: Kinds) -> Option<(Prim
     let (word, next) = word_at(text, here);
     match body_word(word, kinds) {
         BodyWord::Prim(found) => Some((found, here, next)),
+        BodyWord::Unsupported => None,
+        BodyWord::Other => None,
+    }
+}
+
+/// The word of an item after white space, its place, and the place after it; none if there is another word.
+pub(crate) fn item_word_at(text: &[u8], at: usize, kinds: Kinds) -> Option<(ItemWord, usize, usize)>
+    requires { at ≤ length text.now }
+    ensures word { IfSome result (λ x. Word (drop x.1 text.now) (item_word_of x.0) (drop x.2 text.now)) }
+    ensures of_kinds { IfSome result (λ x. IsItemWord kinds x.0) }
+    ensures here { IfSome result (λ x. drop x.1 text.now ≡ skipped (drop at text.now)) }
+    ensures within { IfSome result (λ x. x.2 ≤ length text.now) }
+    ensures forward { IfSome result (λ x. at < x.2) }
+    ensures before { IfSome result (λ x. x.1 ≤ x.2) }
+    ensures none { IfNone result (WordAmong (item_words_of kinds) (skipped (drop at text.now)) → ⊥) }
+{
+    let here = skip(text, at);
+    let (word, next) = word_at(text, here);
+    if same(word, b"conflictor") {
+        return Some((ItemWord::Conflictor, here, next));
+    }
+    match body_word(word, kinds) {
+        BodyWord::Prim(found) => Some((ItemWord::Prim(found), here, next)),
         BodyWord::Unsupported => None,
         BodyWord::Other => None,
     }
