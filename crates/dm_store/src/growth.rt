@@ -21,8 +21,10 @@ pub const MOST_WHILE_OPEN: usize = 1 << 8;
 // So many bytes for one, then.
 pub const BYTES_WHILE_OPEN: usize = 1 << 16;
 
-// A trial may take so many bytes of memory, and 16 for each byte of the entries: a sound text takes far less.
+// A trial may take so many bytes of memory.
 const LEAST_FOR_TRIAL: usize = 1 << 29;
+
+// And so many for each byte of the entries: a sound text takes far less.
 const FOR_EACH_BYTE: usize = 16;
 
 // The bytes of the entry of a whole repository that a journal begins with, or 0, and the bytes and the number of the entries
